@@ -1,0 +1,7 @@
+-- Laws of the general definitions, and the twelve sums.
+pub mod SearchLaws
+pub mod SeriesLaws
+pub mod TableLaws
+pub mod CheckLaws
+pub mod Sums
+pub mod Traps

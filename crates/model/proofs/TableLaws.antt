@@ -1,0 +1,30 @@
+-- Laws of the list f 0, .., f (n - 1).
+use Prim.Native.Nat.{ℕ, zero, suc, _+_, _<_}
+use mathlib.Core.Path.{_≡_, refl, sym, ap, _∙_}
+use mathlib.Core.Logic.{⊎-elim}
+use mathlib.Core.List.{[], _∷_, _++_}
+use native.Mathlib.Omega.{arith}
+use native.Mathlib.Nat.{eq-or-lt-of-le}
+use lib.ListN.{length, getD, drop, length-append, List·getD-append}
+use lib.Seq.{drop-cons, getD-at}
+use Rattle.model.specs.Series.{table}
+
+-- a table has its length and its entries
+pub length-table : {A : Type 0} (f : ℕ → A) (n : ℕ) → length (table f n) ≡ n
+unfolding table
+length-table f zero = refl
+length-table f (suc n) = simp (length-append, length-table f n) (omega arith)
+
+pub getD-table : {A : Type 0} (f : ℕ → A) (d : A) (n i : ℕ) → i < n → getD (table f n) i d ≡ f i
+unfolding table
+getD-table f d zero i h = absurd (omega arith)
+getD-table f d (suc n) i h = ⊎-elim last (λ l. before l (getD-table f d n i)) (eq-or-lt-of-le {n = i} {m = n} (omega arith))
+  where
+    last : i ≡ n → getD (table f n ++ (f n ∷ [])) i d ≡ f i
+    last e = getD-at (table f n) (f n) [] d i (length-table f n ∙ sym e) ∙ ap f (sym e)
+
+    before : i < n → (i < n → getD (table f n) i d ≡ f i) → getD (table f n ++ (f n ∷ [])) i d ≡ f i
+    before l ih = List·getD-append (table f n) (f n ∷ []) d i (omega (arith, length-table f n)) ∙ ih l
+
+pub drop-table : {A : Type 0} (f : ℕ → A) (d : A) (n i : ℕ) → i < n → drop i (table f n) ≡ f i ∷ drop (suc i) (table f n)
+drop-table f d n i h = drop-cons (table f n) i d (omega (arith, length-table f n)) ∙ ap (λ x. x ∷ drop (suc i) (table f n)) (getD-table f d n i h)

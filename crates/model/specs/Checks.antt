@@ -1,0 +1,105 @@
+-- The checks of a call on values, and their order.
+use Prim.Native.Nat.{ℕ, suc}
+use mathlib.Core.Bool.{Bool, true, false, _&&_, _||_, not}
+use mathlib.Core.Option.{Option, some, none}
+use mathlib.Core.List.{List, [], _∷_}
+use lib.Dec.{leb, ltb, eqb}
+use Rattle.model.specs.Search.{first}
+use Rattle.model.specs.Limits.{maxTasks, maxTime, maxReleases, maxTick}
+use Rattle.model.specs.Tasks.{Tasks, Release}
+use Rattle.model.specs.Refusal.{Refusal, refuse, Answer, refused, answered, firstOf}
+
+-- P, J, E and D are within their ranges
+unfoldable pub inRange : ℕ → ℕ → ℕ → ℕ → Bool
+inRange P J E D = leb 1 P && leb P maxTime && leb J maxTime && leb 1 E && leb E P && leb E D && leb D maxTime
+
+-- a place that a search found, as a refusal
+unfoldable pub refuseAt : ℕ → Option ℕ → Option Refusal
+refuseAt n none = none
+refuseAt n (some p) = refuse n p
+
+-- a refusal where a test holds
+unfoldable pub refuseIf : Bool → ℕ → ℕ → Option Refusal
+refuseIf true n p = refuse n p
+refuseIf false n p = none
+
+-- 6: the first task with P, J, E or D outside its range
+unfoldable pub checkRanges : Tasks → Option Refusal
+checkRanges s = refuseAt 6 (first (λ i. not (inRange (s .period i) (s .jitter i) (s .cost i) (s .deadline i))) (s .count) 0)
+
+-- the sheet: 5, 4, then 6 by task
+unfoldable pub checkTasks : Tasks → Option Refusal
+checkTasks s = firstOf (refuseIf (eqb (s .count) 0) 5 0 ∷ refuseIf (ltb maxTasks (s .count)) 4 maxTasks ∷ checkRanges s ∷ [])
+
+-- 14: no such task
+unfoldable pub checkTask : Tasks → Option ℕ → Option Refusal
+checkTask s none = none
+checkTask s (some i) = refuseIf (leb (s .count) i) 14 i
+
+-- 10: over 1,024 releases
+unfoldable pub checkCount : Option ℕ → Option Refusal
+checkCount none = none
+checkCount (some n) = refuseIf (ltb maxReleases n) 10 maxReleases
+
+-- a lent slice: the slots needed and its length
+pub record Lent : Type 0 where
+  pub needed : ℕ
+  pub slots : ℕ
+
+-- 13: the first lent slice that is too short. Columns by task stand first, then columns by release, then the writer's bytes
+unfoldable pub checkSlots : List Lent → Option Refusal
+checkSlots [] = none
+checkSlots (c ∷ l) = elim (ltb (c .slots) (c .needed)) [ true ↦ refuse 13 (c .needed) | false ↦ checkSlots l ]
+
+-- 12: the first task with K > J
+unfoldable pub checkKept : Tasks → Option (ℕ → ℕ) → Option Refusal
+checkKept s none = none
+checkKept s (some k) = refuseAt 12 (first (λ i. ltb (s .jitter i) (k i)) (s .count) 0)
+
+-- what is wrong with a release, the lower number first: 7, a task not in the sheet; 8, a tick below the one before or over the limit; 9, cost 0 or over E
+unfoldable pub releaseFault : Tasks → ℕ → Release → Option ℕ
+releaseFault s before r =
+    elim (leb (s .count) (r .task)) [
+      | true ↦ some 7
+      | false ↦
+          elim (ltb (r .tick) before || ltb maxTick (r .tick)) [
+            | true ↦ some 8
+            | false ↦ elim (eqb (r .cost) 0 || ltb (s .cost (r .task)) (r .cost)) [ true ↦ some 9 | false ↦ none ]
+          ]
+    ]
+
+-- the releases in order, from the place p on, the tick before being given
+unfoldable pub checkReleases : Tasks → ℕ → ℕ → List Release → Option Refusal
+checkReleases s before p [] = none
+checkReleases s before p (r ∷ l) = elim (releaseFault s before r) [ none ↦ checkReleases s (r .tick) (suc p) l | some n ↦ refuse n p ]
+
+-- 15: the first task that fits at no K
+unfoldable pub checkChoice : Option ℕ → Option Refusal
+checkChoice = refuseAt 15
+
+-- what a call on values looks at; none or [] where it has no such input
+pub record Inputs : Type 0 where
+  pub tasks : Tasks
+  pub single : Option ℕ
+  pub count : Option ℕ
+  pub lent : List Lent
+  pub kept : Option (ℕ → ℕ)
+  pub releases : List Release
+  pub unfit : Option ℕ
+
+-- the order of checks: the sheet (5, 4, then 6 by task), 14, the list's count (10), 13, 12, the releases in order (7, 8, 9), then 15
+unfoldable pub refusalOf : Inputs → Option Refusal
+refusalOf c =
+    firstOf
+    (checkTasks (c .tasks)
+    ∷ checkTask (c .tasks) (c .single)
+    ∷ checkCount (c .count)
+    ∷ checkSlots (c .lent)
+    ∷ checkKept (c .tasks) (c .kept)
+    ∷ checkReleases (c .tasks) 0 0 (c .releases)
+    ∷ checkChoice (c .unfit)
+    ∷ [])
+
+-- the answer of a call on values: the first refusal, else the value
+unfoldable pub answerOf : {A : Type 0} → Inputs → A → Answer A
+answerOf c a = elim (refusalOf c) [ none ↦ answered a | some r ↦ refused r ]

@@ -1,0 +1,46 @@
+-- The task set (document 01's "sheet") as functions of the task number, and a release.
+use Prim.Native.Nat.{ℕ, _≤_, _<_}
+use mathlib.Core.List.{List}
+use lib.ListN.{getD}
+use Rattle.model.specs.Limits.{maxTasks, maxTime}
+
+-- "sheet": a count, and P, J, E and D of each task; task 0 has the highest priority
+pub record Tasks : Type 0 where
+  pub count : ℕ
+  pub period : ℕ → ℕ
+  pub jitter : ℕ → ℕ
+  pub cost : ℕ → ℕ
+  pub deadline : ℕ → ℕ
+
+-- P, J, E and D of a task are within document 01's limits
+pub record InRange (P J E D : ℕ) : Type 0 where
+  pub period-low : 1 ≤ P
+  pub period-high : P ≤ maxTime
+  pub jitter-high : J ≤ maxTime
+  pub cost-low : 1 ≤ E
+  pub cost-period : E ≤ P
+  pub cost-deadline : E ≤ D
+  pub deadline-high : D ≤ maxTime
+
+-- a task set within document 01's limits
+pub record Valid (s : Tasks) : Type 0 where
+  pub some-task : 1 ≤ s .count
+  pub few-tasks : s .count ≤ maxTasks
+  pub in-range : (i : ℕ) → i < s .count → InRange (s .period i) (s .jitter i) (s .cost i) (s .deadline i)
+
+-- the ticks that a job of full cost takes
+abbrev pub load : Tasks → ℕ → ℕ
+load s i = s .cost i
+
+-- a release: its task, tick and cost
+pub record Release : Type 0 where
+  pub task : ℕ
+  pub tick : ℕ
+  pub cost : ℕ
+
+-- the release at a place of a list
+abbrev pub noRelease : Release
+noRelease = record { task = 0; tick = 0; cost = 0 }
+
+abbrev pub releaseAt : List Release → ℕ → Release
+releaseAt l p = getD l p noRelease

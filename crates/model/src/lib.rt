@@ -1,0 +1,1 @@
+// Definitions only: see specs/. There is no code here.
