@@ -1,0 +1,88 @@
+-- The loop has passed every release below i.
+use Prim.Native.Nat.{_-_}
+use native.Mathlib.Omega.{arith}
+use mathlib.Core.Path.{sym, ap, _∙_}
+use borrow.Author.Needs.{needs}
+use Rattle.taskset.specs.TaskSet.{viewOf, refusalIn}
+use Rattle.releases.proofs.ReleaseLaws.{Checking, checking-none, checking-fault, checking-next, checking-all}
+use Rattle.releases.proofs.check_releases.Statement.{statement}
+use Rattle.releases.proofs.check_releases.Tie as tie
+
+abbrev Inv-loop : tie.InvT-loop
+Inv-loop s count task tick cost before₀ i₀ before i = Checking (viewOf s) count task tick cost before i
+
+abbrev μ-loop : tie.MeasureT-loop
+μ-loop s count task tick cost before₀ i₀ before i = count - i
+
+loop-holds : tie.Need-loop-holds Inv-loop μ-loop
+loop-holds c = checking-none _ _ _ _ _
+
+mul-next : tie.Need-mul-next Inv-loop μ-loop
+mul-next c = omega arith
+
+shared-slice-read-next : tie.Need-shared-slice-read-next Inv-loop μ-loop
+shared-slice-read-next c = omega arith
+
+mul-check-release : tie.Need-mul-check-release Inv-loop μ-loop
+mul-check-release c = omega arith
+
+shared-slice-read-check-release : tie.Need-shared-slice-read-check-release Inv-loop μ-loop
+shared-slice-read-check-release c = omega arith
+
+mul-check-release-2 : tie.Need-mul-check-release-2 Inv-loop μ-loop
+mul-check-release-2 c = omega arith
+
+shared-slice-read-check-release-2 : tie.Need-shared-slice-read-check-release-2 Inv-loop μ-loop
+shared-slice-read-check-release-2 c = omega arith
+
+check-release-requires : tie.Need-check-release-requires Inv-loop μ-loop
+check-release-requires c κs = omega arith
+
+enum-known-k : tie.Need-enum-known-k Inv-loop μ-loop
+enum-known-k c = search needs
+
+returns : tie.Need-returns Inv-loop μ-loop
+returns c =
+    let at = c .before .before .before .before .before .before .before .before in
+    checking-fault _ _ _ _ _ _ _ _ (at .loop .inv) (c .before .before .before .before .before .before .before .loop-test .taken)
+    (sym (ap refusalIn (c .before .k .given .1)) ∙ c .before .before .before .check-release .ensures)
+
+enum-told : tie.Need-enum-told Inv-loop μ-loop
+enum-told c = search needs
+
+add-i : tie.Need-add-i Inv-loop μ-loop
+add-i c = omega arith
+
+loop-less : tie.Need-loop-less Inv-loop μ-loop
+loop-less c = omega arith
+
+loop-again : tie.Need-loop-again Inv-loop μ-loop
+loop-again c =
+    checking-next _ _ _ _ _ _ _ (c .before .before .before .before .before .before .before .loop .inv)
+    (c .before .before .before .before .before .before .loop-test .taken)
+    (sym (ap refusalIn (c .enum-told .given .1)) ∙ c .before .before .check-release .ensures)
+
+returns-2 : tie.Need-returns-2 Inv-loop μ-loop
+returns-2 c = checking-all _ _ _ _ _ _ _ (c .before .loop .inv) (c .loop-test .left)
+
+pub check-releases-spec : {M : Type 1} → statement M
+check-releases-spec =
+    tie.close
+    (tie.spec
+    Inv-loop
+    μ-loop
+    loop-holds
+    mul-next
+    shared-slice-read-next
+    mul-check-release
+    shared-slice-read-check-release
+    mul-check-release-2
+    shared-slice-read-check-release-2
+    check-release-requires
+    enum-known-k
+    returns
+    enum-told
+    add-i
+    loop-less
+    loop-again
+    returns-2)

@@ -1,0 +1,147 @@
+// The checks of a list of releases in three columns: 10, 13, then 7, 8 and 9 release by release.
+use taskset::Checked;
+use taskset::TaskSet;
+ghost use mathlib.Core.Path.{_≡_};
+ghost use Prim.Native.Nat.{_≤_};
+ghost use mathlib.Core.Option.{some};
+ghost use mathlib.Core.List.{[], _∷_};
+ghost use lib.ListN.{length};
+ghost use Rattle.model.specs.Checks.{releaseFault, checkCount, checkSlots, checkReleases, refusalOf};
+ghost use Rattle.model.specs.Calls.{lends, releasesOf, listInputs};
+ghost use Rattle.taskset.specs.TaskSet.{viewOf, refusalIn};
+ghost use Rattle.releases.specs.Releases.{faultAt, release};
+
+// One release, given the tick before it: 7, 8 or 9 with the place given, or nothing wrong.
+pub fn check_release(
+    s: TaskSet,
+    place: usize,
+    before: u32,
+    task: u32,
+    tick: u32,
+    cost: u32,
+) -> Checked
+    requires { ⌜ s .count ≤ 32 ⌝ }
+    ensures { λ r. ⌜ refusalIn r ≡ faultAt place (releaseFault (viewOf s) before (release task tick cost)) ⌝ }
+{
+    let at = task as usize;
+    if s.count <= at {
+        return Checked::Refused {
+            number: 7,
+            place: place,
+        };
+    }
+    if tick < before {
+        return Checked::Refused {
+            number: 8,
+            place: place,
+        };
+    }
+    if 1000000000 < tick {
+        return Checked::Refused {
+            number: 8,
+            place: place,
+        };
+    }
+    if cost == 0 {
+        return Checked::Refused {
+            number: 9,
+            place: place,
+        };
+    }
+    let t = s.tasks[at];
+    if t.cost < cost {
+        return Checked::Refused {
+            number: 9,
+            place: place,
+        };
+    }
+    Checked::Fine
+}
+
+// The releases in order: 7, 8 or 9 at the first release with a fault.
+pub fn check_releases(s: TaskSet, count: usize, task: &[u32], tick: &[u32], cost: &[u32]) -> Checked
+    requires { ⌜ (s .count ≤ 32) × (count ≤ length (now task)) × (count ≤ length (now tick)) × (count ≤ length (now cost)) ⌝ }
+    ensures { λ r. ⌜ refusalIn r ≡ checkReleases (viewOf s) 0 0 (releasesOf count (now (task .entry)) (now (tick .entry)) (now (cost .entry))) ⌝ }
+{
+    let mut before = 0;
+    let mut i = 0;
+    while i < count {
+        let next = tick[i];
+        let k = check_release(s, i, before, task[i], next, cost[i]);
+        if let Checked::Refused { number, place } = k {
+            return Checked::Refused {
+                number: number,
+                place: place,
+            };
+        }
+        before = next;
+        i += 1;
+    }
+    Checked::Fine
+}
+
+// The count of a list: 10 where it is over 1,024.
+pub fn check_count(count: usize) -> Checked
+    ensures { λ r. ⌜ refusalIn r ≡ checkCount (some count) ⌝ }
+{
+    if 1024 < count {
+        return Checked::Refused {
+            number: 10,
+            place: 1024,
+        };
+    }
+    Checked::Fine
+}
+
+// The columns of a list: 13 where one is shorter than the count.
+pub fn check_columns(count: usize, task: &[u32], tick: &[u32], cost: &[u32]) -> Checked
+    ensures { λ r. ⌜ refusalIn r ≡ checkSlots (lends count (now (task .entry)) ∷ lends count (now (tick .entry)) ∷ lends count (now (cost .entry)) ∷ []) ⌝ }
+{
+    if task.len() < count {
+        return Checked::Refused {
+            number: 13,
+            place: count,
+        };
+    }
+    if tick.len() < count {
+        return Checked::Refused {
+            number: 13,
+            place: count,
+        };
+    }
+    if cost.len() < count {
+        return Checked::Refused {
+            number: 13,
+            place: count,
+        };
+    }
+    Checked::Fine
+}
+
+// A sheet and a list: the sheet (5, 4, 6), the list's count (10), its columns (13), its releases (7, 8, 9).
+pub fn check_list(s: TaskSet, count: usize, task: &[u32], tick: &[u32], cost: &[u32]) -> Checked
+    ensures { λ r. ⌜ refusalIn r ≡ refusalOf (listInputs (viewOf s) count (now (task .entry)) (now (tick .entry)) (now (cost .entry))) ⌝ }
+{
+    let sheet = taskset::check(s);
+    if let Checked::Refused { number, place } = sheet {
+        return Checked::Refused {
+            number: number,
+            place: place,
+        };
+    }
+    let few = check_count(count);
+    if let Checked::Refused { number, place } = few {
+        return Checked::Refused {
+            number: number,
+            place: place,
+        };
+    }
+    let long = check_columns(count, task, tick, cost);
+    if let Checked::Refused { number, place } = long {
+        return Checked::Refused {
+            number: number,
+            place: place,
+        };
+    }
+    check_releases(s, count, task, tick, cost)
+}

@@ -1,0 +1,107 @@
+// The task set (document 01's "sheet"), its limits and its checks.
+ghost use mathlib.Core.Path.{_≡_};
+ghost use Prim.Native.Nat.{_≤_};
+ghost use mathlib.Core.Option.{some};
+ghost use lib.ListN.{length};
+ghost use Rattle.model.specs.Choice.{column};
+ghost use Rattle.model.specs.Checks.{inRange, checkTasks, checkKept};
+ghost use Rattle.taskset.specs.TaskSet.{viewOf, refusalIn};
+
+// A task: period P, jitter J, cost E and deadline D.
+pub struct Task {
+    pub period: u32,
+    pub jitter: u32,
+    pub cost: u32,
+    pub deadline: u32,
+}
+
+// "Sheet": a count and 32 task entries, task 0 with the highest priority. Entries past the count are not looked at.
+pub struct TaskSet {
+    pub tasks: [Task; 32],
+    pub count: usize,
+}
+
+// What a check answers: nothing wrong, or document 01's number and place.
+pub enum Checked {
+    Fine,
+    Refused { number: u32, place: usize },
+}
+
+// Whether P, J, E and D are within document 01's limits.
+pub fn in_range(t: Task) -> bool
+    ensures { λ r. ⌜ r ≡ inRange (t .period) (t .jitter) (t .cost) (t .deadline) ⌝ }
+{
+    if t.period < 1 {
+        return false;
+    }
+    if 1000000 < t.period {
+        return false;
+    }
+    if 1000000 < t.jitter {
+        return false;
+    }
+    if t.cost < 1 {
+        return false;
+    }
+    if t.period < t.cost {
+        return false;
+    }
+    if t.deadline < t.cost {
+        return false;
+    }
+    if 1000000 < t.deadline {
+        return false;
+    }
+    true
+}
+
+// The check of a sheet: 5, 4, then 6 by task.
+pub fn check(s: TaskSet) -> Checked
+    ensures { λ r. ⌜ refusalIn r ≡ checkTasks (viewOf s) ⌝ }
+{
+    let count = s.count;
+    if count == 0 {
+        return Checked::Refused {
+            number: 5,
+            place: 0,
+        };
+    }
+    if 32 < count {
+        return Checked::Refused {
+            number: 4,
+            place: 32,
+        };
+    }
+    let mut i = 0;
+    while i < count {
+        let t = s.tasks[i];
+        if !in_range(t) {
+            return Checked::Refused {
+                number: 6,
+                place: i,
+            };
+        }
+        i += 1;
+    }
+    Checked::Fine
+}
+
+// The check of a column of kept jitters, one for each task: 12 at the first task with K > J.
+pub fn check_kept(s: TaskSet, kept: &[u32]) -> Checked
+    requires { ⌜ (s .count ≤ 32) × (s .count ≤ length (now kept)) ⌝ }
+    ensures { λ r. ⌜ refusalIn r ≡ checkKept (viewOf s) (some (column (now (kept .entry)))) ⌝ }
+{
+    let count = s.count;
+    let mut i = 0;
+    while i < count {
+        let t = s.tasks[i];
+        if t.jitter < kept[i] {
+            return Checked::Refused {
+                number: 12,
+                place: i,
+            };
+        }
+        i += 1;
+    }
+    Checked::Fine
+}
