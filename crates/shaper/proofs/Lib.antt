@@ -1,0 +1,2 @@
+-- A wrong definition of the ready tick, and that it gives other answers.
+pub mod Traps
