@@ -1,0 +1,8 @@
+-- Laws of the response-time analysis.
+pub mod ArrivalLaws
+pub mod BoundLaws
+pub mod WindowLaws
+pub mod KeptLaws
+pub mod VerdictLaws
+pub mod SameKept
+pub mod ChoiceLaws

@@ -1,0 +1,1 @@
+// The scheduling laws: see specs/. There is no code here.
