@@ -1,0 +1,54 @@
+-- The checks come first; the ready ticks are written where they pass.
+use mathlib.Core.Path.{_≡_, sym, ap, _∙_}
+use mathlib.Core.Option.{none}
+use lib.ListN.{length}
+use Rattle.model.specs.Checks.{refusalOf}
+use Rattle.taskset.specs.TaskSet.{viewOf, refusalIn}
+use Rattle.trace.specs.TraceCalls.{callInputs}
+use Rattle.trace.proofs.CallLaws.{listed-shapable, callable-of, column-kept, ready-written}
+use borrow.Author.Needs.{needs}
+use Rattle.trace.proofs.ready_ticks.Statement.{statement}
+use Rattle.trace.proofs.ready_ticks.Tie as tie
+
+call-fine
+    : (c : tie.After-enum-told)
+    → let a = c .before .before .before .before .before .before .before .before .args in
+    none ≡ refusalOf (callInputs (viewOf (a .s)) (a .kept .now) (a .count) (a .task .now) (a .tick .now) (a .cost .now) (length (a .ready .now)))
+call-fine c = sym (ap refusalIn (c .enum-told .given .1)) ∙ c .before .before .check-call .ensures
+
+check-call-requires : tie.Need-check-call-requires
+check-call-requires c κs = search needs
+
+enum-known-checked : tie.Need-enum-known-checked
+enum-known-checked c = search needs
+
+returns : tie.Need-returns
+returns c =
+    let e = sym (ap refusalIn (c .before .checked .given .1)) ∙ c .before .before .before .check-call .ensures in (e, column-kept _ _ _ _ e)
+
+enum-told : tie.Need-enum-told
+enum-told c = search needs
+
+fill-ready-requires : tie.Need-fill-ready-requires
+fill-ready-requires c κs =
+    let a = c .before .before .before .before .before .before .before .before .before .args in
+    let g = callable-of (viewOf (a .s)) (a .kept .now) (a .count) (a .task .now) (a .tick .now) (a .cost .now) (length (a .ready .now)) (call-fine (c .before)) in
+    (listed-shapable _ _ _ _ _ (g .listed), g .kept-long, g .slots-long)
+
+same-length : tie.Need-same-length
+same-length c = search needs
+
+returns-2 : tie.Need-returns-2
+returns-2 c = (call-fine (c .before .before .before .before), ready-written _ _ _ _ _ _ _ _ _ (call-fine (c .before .before .before .before)) (c .before .before .fill-ready .ensures _))
+
+pub ready-ticks-spec : {M : Type 1} → statement M
+ready-ticks-spec =
+    tie.close
+    (tie.spec
+    check-call-requires
+    enum-known-checked
+    returns
+    enum-told
+    fill-ready-requires
+    same-length
+    returns-2)

@@ -1,0 +1,6 @@
+-- Laws of a list of releases by positions.
+pub mod PositionLaws
+pub mod LegalLaws
+pub mod ReadyAtLaws
+pub mod Shapers
+pub mod TraceCalls

@@ -1,0 +1,242 @@
+// The trace check and the ready ticks of a list of releases: one shaper for each task of the sheet.
+use shaper::Shaper;
+use shaper::wide;
+use taskset::Checked;
+use taskset::TaskSet;
+ghost use mathlib.Core.Path.{_≡_};
+ghost use mathlib.Core.List.{List, _++_};
+ghost use Prim.Native.Nat.{ℕ, _≤_, _<_};
+ghost use lib.ListN.{length, drop};
+ghost use Rattle.model.specs.Refusal.{answered};
+ghost use Rattle.model.specs.Choice.{column};
+ghost use Rattle.model.specs.Checks.{checkSlots, refusalOf};
+ghost use Rattle.model.specs.Ready.{readyList};
+ghost use Rattle.model.specs.Legality.{firstClose};
+ghost use Rattle.model.specs.Calls.{releasesOf, columnAfter, traceCall, readyInputs};
+ghost use Rattle.taskset.specs.TaskSet.{viewOf, refusalIn};
+ghost use Rattle.trace.specs.Shapers.{Stepable, freshShapers, stepOne};
+ghost use Rattle.trace.specs.TraceCalls.{traceIn, slotsLent, callInputs, Shapable};
+
+// The two numbers of the shaper of each task, between two of its jobs. Period and kept jitter come with each job.
+pub struct Shapers {
+    pub last: [u64; 32],
+    pub next: [u64; 32],
+}
+
+// The shapers after a job, and the job's ready tick.
+pub struct Stepped {
+    pub shapers: Shapers,
+    pub ready: u64,
+}
+
+// The answer of the trace check: legal, or the first release that is too close to an earlier one of its task; or document 01's number
+// and place.
+pub enum TraceAnswer {
+    Legal,
+    TooClose { release: usize },
+    Refused { number: u32, place: usize },
+}
+
+// The shapers before the first job.
+pub fn fresh() -> Shapers
+    ensures { λ r. ⌜ r ≡ freshShapers ⌝ }
+{
+    Shapers {
+        last: [0; 32],
+        next: [0; 32],
+    }
+}
+
+// One job of a task goes through the task's shaper.
+pub fn step(shapers: Shapers, task: usize, period: u32, keep: u32, tick: u32) -> Stepped
+    requires { ⌜ Stepable shapers task ⌝ }
+    ensures { λ r. ⌜ r ≡ stepOne shapers task period keep tick ⌝ }
+{
+    let state = Shaper {
+        period: period,
+        keep: keep,
+        last: shapers.last[task],
+        next: shapers.next[task],
+    };
+    let got = state.shape(wide(tick));
+    let after = got.state;
+    let mut all = shapers;
+    all.last[task] = after.last;
+    all.next[task] = after.next;
+    Stepped {
+        shapers: all,
+        ready: got.ready,
+    }
+}
+
+// The ready ticks of a list that passed its check, written to the first slots of a column.
+pub fn fill_ready(
+    s: TaskSet,
+    kept: &[u32],
+    count: usize,
+    task: &[u32],
+    tick: &[u32],
+    ready: &mut [u32],
+)
+    requires { ⌜ Shapable (viewOf s) count (now task) (now tick) × (s .count ≤ length (now kept)) × (count ≤ length (now ready)) ⌝ }
+    ensures { λ _. ⌜ ((cost : List ℕ) → now (ready .exit) ≡ readyList (viewOf s) (column (now (kept .entry))) (releasesOf count (now (task .entry)) (now (tick .entry)) cost) ++ drop count (now (ready .entry))) ⌝ }
+{
+    let mut all = fresh();
+    let mut p = 0;
+    while p < count {
+        let i = task[p] as usize;
+        let t = s.tasks[i];
+        let got = step(all, i, t.period, kept[i], tick[p]);
+        let after = got.shapers;
+        all = after;
+        ready[p] = got.ready as u32;
+        p += 1;
+    }
+}
+
+// Whether a list that passed its check is legal: the first release that the shapers with the full jitters would move is the first that is
+// too close.
+pub fn first_close(s: TaskSet, count: usize, task: &[u32], tick: &[u32]) -> TraceAnswer
+    requires { ⌜ Shapable (viewOf s) count (now task) (now tick) ⌝ }
+    ensures { λ r. ⌜ ((cost : List ℕ) → traceIn r ≡ answered (firstClose (viewOf s) (releasesOf count (now (task .entry)) (now (tick .entry)) cost))) ⌝ }
+{
+    let mut all = fresh();
+    let mut p = 0;
+    while p < count {
+        let i = task[p] as usize;
+        let t = s.tasks[i];
+        let at = tick[p];
+        let got = step(all, i, t.period, t.jitter, at);
+        if wide(at) < got.ready {
+            return TraceAnswer::TooClose { release: p };
+        }
+        let next = got.shapers;
+        all = next;
+        p += 1;
+    }
+    TraceAnswer::Legal
+}
+
+// The trace check of a list of releases, after the checks of sheet and list.
+pub fn check_trace(
+    s: TaskSet,
+    count: usize,
+    task: &[u32],
+    tick: &[u32],
+    cost: &[u32],
+) -> TraceAnswer
+    ensures { λ r. ⌜ traceIn r ≡ traceCall (viewOf s) count (now (task .entry)) (now (tick .entry)) (now (cost .entry)) ⌝ }
+{
+    let checked = releases::check_list(s, count, task, tick, cost);
+    if let Checked::Refused { number, place } = checked {
+        return TraceAnswer::Refused {
+            number: number,
+            place: place,
+        };
+    }
+    first_close(s, count, task, tick)
+}
+
+// The lent slices of a call with kept jitters and a list: 13 at the first that is too short. `slots` is the length of the shortest column
+// that the call writes by release.
+pub fn check_slots(
+    tasks: usize,
+    kept: &[u32],
+    count: usize,
+    task: &[u32],
+    tick: &[u32],
+    cost: &[u32],
+    slots: usize,
+) -> Checked
+    ensures { λ r. ⌜ refusalIn r ≡ checkSlots (slotsLent tasks (now (kept .entry)) count (now (task .entry)) (now (tick .entry)) (now (cost .entry)) slots) ⌝ }
+{
+    if kept.len() < tasks {
+        return Checked::Refused {
+            number: 13,
+            place: tasks,
+        };
+    }
+    let columns = releases::check_columns(count, task, tick, cost);
+    if let Checked::Refused { number, place } = columns {
+        return Checked::Refused {
+            number: number,
+            place: place,
+        };
+    }
+    if slots < count {
+        return Checked::Refused {
+            number: 13,
+            place: count,
+        };
+    }
+    Checked::Fine
+}
+
+// The checks of a call with kept jitters and a list: the sheet (5, 4, 6), the list's count (10), the lent slices (13), the kept jitters (12),
+// the releases (7, 8, 9).
+pub fn check_call(
+    s: TaskSet,
+    kept: &[u32],
+    count: usize,
+    task: &[u32],
+    tick: &[u32],
+    cost: &[u32],
+    slots: usize,
+) -> Checked
+    ensures { λ r. ⌜ refusalIn r ≡ refusalOf (callInputs (viewOf s) (now (kept .entry)) count (now (task .entry)) (now (tick .entry)) (now (cost .entry)) slots) ⌝ }
+{
+    let sheet = taskset::check(s);
+    if let Checked::Refused { number, place } = sheet {
+        return Checked::Refused {
+            number: number,
+            place: place,
+        };
+    }
+    let few = releases::check_count(count);
+    if let Checked::Refused { number, place } = few {
+        return Checked::Refused {
+            number: number,
+            place: place,
+        };
+    }
+    let tasks = s.count;
+    let long = check_slots(tasks, kept, count, task, tick, cost, slots);
+    if let Checked::Refused { number, place } = long {
+        return Checked::Refused {
+            number: number,
+            place: place,
+        };
+    }
+    let keeps = taskset::check_kept(s, kept);
+    if let Checked::Refused { number, place } = keeps {
+        return Checked::Refused {
+            number: number,
+            place: place,
+        };
+    }
+    releases::check_releases(s, count, task, tick, cost)
+}
+
+// The ready ticks of a list with kept jitters, written to the first slots of `ready`, or a refusal.
+pub fn ready_ticks(
+    s: TaskSet,
+    kept: &[u32],
+    count: usize,
+    task: &[u32],
+    tick: &[u32],
+    cost: &[u32],
+    ready: &mut [u32],
+) -> Checked
+    ensures refusal { λ r. ⌜ refusalIn r ≡ refusalOf (readyInputs (viewOf s) (now (kept .entry)) count (now (task .entry)) (now (tick .entry)) (now (cost .entry)) (now (ready .entry))) ⌝ }
+    ensures ticks { λ r. ⌜ now (ready .exit) ≡ columnAfter (refusalOf (readyInputs (viewOf s) (now (kept .entry)) count (now (task .entry)) (now (tick .entry)) (now (cost .entry)) (now (ready .entry)))) (readyList (viewOf s) (column (now (kept .entry))) (releasesOf count (now (task .entry)) (now (tick .entry)) (now (cost .entry)))) (now (ready .entry)) ⌝ }
+{
+    let checked = check_call(s, kept, count, task, tick, cost, ready.len());
+    if let Checked::Refused { number, place } = checked {
+        return Checked::Refused {
+            number: number,
+            place: place,
+        };
+    }
+    fill_ready(s, kept, count, task, tick, ready);
+    Checked::Fine
+}
