@@ -1,0 +1,101 @@
+-- The loop has made the choice of the tasks above i: see `Choosing`.
+use Prim.Native.Nat.{_-_}
+use mathlib.Core.Path.{refl}
+use borrow.Author.Needs.{needs}
+use native.Mathlib.Omega.{arith}
+use Rattle.choice.specs.ChoosingLaws.{Choosing, choosing-none, choosing-walk, choosing-unfit, choosing-next, choosing-all}
+use Rattle.choice.proofs.choices_of.Statement.{statement}
+use Rattle.choice.proofs.choices_of.Tie as tie
+
+abbrev Inv-loop : tie.InvT-loop
+Inv-loop s loads periods count keep₀ worst₀ i₀ keep worst i = Choosing s loads periods keep worst i
+
+abbrev μ-loop : tie.MeasureT-loop
+μ-loop s loads periods count keep₀ worst₀ i₀ keep worst i = count - i
+
+columns-of-requires : tie.Need-columns-of-requires Inv-loop μ-loop
+columns-of-requires c κs = c .pre .few-tasks
+
+loop-holds : tie.Need-loop-holds Inv-loop μ-loop
+loop-holds c = choosing-none _ _ _ _ _ (c .before .before .before .pre) (c .before .before .columns-of .ensures) refl refl
+
+mul-own : tie.Need-mul-own Inv-loop μ-loop
+mul-own c = omega arith
+
+element-copy-out-own : tie.Need-element-copy-out-own Inv-loop μ-loop
+element-copy-out-own c = omega arith
+
+slice-aggregate-least-keep : tie.Need-slice-aggregate-least-keep Inv-loop μ-loop
+slice-aggregate-least-keep c = search needs
+
+slice-aggregate-least-keep-2 : tie.Need-slice-aggregate-least-keep-2 Inv-loop μ-loop
+slice-aggregate-least-keep-2 c = search needs
+
+slice-aggregate-least-keep-3 : tie.Need-slice-aggregate-least-keep-3 Inv-loop μ-loop
+slice-aggregate-least-keep-3 c = search needs
+
+least-keep-requires : tie.Need-least-keep-requires Inv-loop μ-loop
+least-keep-requires c κs = choosing-walk _ _ _ _ _ _ (c .before .before .before .before .before .loop .inv) (c .before .before .before .before .loop-test .taken)
+
+enum-known-least : tie.Need-enum-known-least Inv-loop μ-loop
+enum-known-least c = search needs
+
+enum-told : tie.Need-enum-told Inv-loop μ-loop
+enum-told c = search needs
+
+returns : tie.Need-returns Inv-loop μ-loop
+returns c =
+    choosing-unfit _ _ _ _ _ _ (c .before .before .before .before .before .before .before .before .loop .inv) (c .before .before .before .before .before .before .before .loop-test .taken)
+    (rw (c .enum-told .given .1) at (c .before .before .least-keep .ensures))
+
+mul-keep : tie.Need-mul-keep Inv-loop μ-loop
+mul-keep c = omega arith
+
+array-write-keep : tie.Need-array-write-keep Inv-loop μ-loop
+array-write-keep c = omega arith
+
+mul-worst : tie.Need-mul-worst Inv-loop μ-loop
+mul-worst c = omega arith
+
+array-write-worst : tie.Need-array-write-worst Inv-loop μ-loop
+array-write-worst c = omega arith
+
+add-i : tie.Need-add-i Inv-loop μ-loop
+add-i c = omega arith
+
+loop-less : tie.Need-loop-less Inv-loop μ-loop
+loop-less c = omega arith
+
+loop-again : tie.Need-loop-again Inv-loop μ-loop
+loop-again c =
+    choosing-next _ _ _ _ _ _ (c .before .before .before .before .before .before .before .before .before .loop .inv) (c .before .before .before .before .before .before .before .before .loop-test .taken) _ _
+    (rw (c .before .least .given .1) at (c .before .before .before .least-keep .ensures))
+
+returns-2 : tie.Need-returns-2 Inv-loop μ-loop
+returns-2 c = choosing-all _ _ _ _ _ _ (c .before .loop .inv) (c .loop-test .left)
+
+pub choices-of-spec : {M : Type 1} → statement M
+choices-of-spec =
+    tie.close
+    (tie.spec
+    Inv-loop
+    μ-loop
+    columns-of-requires
+    loop-holds
+    mul-own
+    element-copy-out-own
+    slice-aggregate-least-keep
+    slice-aggregate-least-keep-2
+    slice-aggregate-least-keep-3
+    least-keep-requires
+    enum-known-least
+    enum-told
+    returns
+    mul-keep
+    array-write-keep
+    mul-worst
+    array-write-worst
+    add-i
+    loop-less
+    loop-again
+    returns-2)

@@ -1,0 +1,119 @@
+-- The answer of a step, by its two tests.
+use Prim.Native.Nat.{_+_, _-_, max}
+use mathlib.Core.Path.{_≡_, ap, ap₂, _∙_}
+use native.Mathlib.Omega.{arith}
+use Rattle.choice.specs.Choices.{nextHigh}
+use Rattle.choice.specs.StepLaws.{step-over, step-keep, step-next}
+use borrow.Author.Needs.{needs}
+use Rattle.choice.proofs.step_at.Statement.{statement}
+use Rattle.choice.proofs.step_at.Tie as tie
+
+abbrev start : tie.After-larger → tie.Start
+start c = c .before .before .before .before .before .before .before .before .before .before
+
+-- the largest W(q) + J − qP so far
+next-is
+    : (c : tie.After-larger)
+    → c .larger .result ≡ nextHigh (start c .args .period) (start c .args .jitter) (start c .args .high) (start c .args .q) (start c .args .w)
+next-is c =
+    let low = c .before .before .before .before .before .before .before in
+    c .larger .ensures
+    ∙ ap₂ max (c .before .before .before .wide4 .ensures)
+    (c .before .less2 .ensures ∙ ap₂ _-_ (ap₂ _+_ (low .before .before .wide .ensures) (c .before .before .wide5 .ensures)) (low .product .ensures .is))
+
+wide-requires : tie.Need-wide-requires
+wide-requires c κs = search needs
+
+wide-requires-2 : tie.Need-wide-requires-2
+wide-requires-2 c κs = search needs
+
+product-requires : tie.Need-product-requires
+product-requires c κs = search needs
+
+wide-requires-3 : tie.Need-wide-requires-3
+wide-requires-3 c κs = search needs
+
+less-requires : tie.Need-less-requires
+less-requires c κs = search needs
+
+add-if1 : tie.Need-add-if1
+add-if1 c = search needs
+
+returns : tie.Need-returns
+returns c = step-over _ _ _ _ _ _ (omega arith)
+
+wide-requires-4 : tie.Need-wide-requires-4
+wide-requires-4 c κs = search needs
+
+wide-requires-5 : tie.Need-wide-requires-5
+wide-requires-5 c κs = search needs
+
+add-less : tie.Need-add-less
+add-less c = search needs
+
+less-requires-2 : tie.Need-less-requires-2
+less-requires-2 c κs = search needs
+
+larger-requires : tie.Need-larger-requires
+larger-requires c κs = search needs
+
+less-requires-3 : tie.Need-less-requires-3
+less-requires-3 c κs = search needs
+
+add-if2 : tie.Need-add-if2
+add-if2 c = search needs
+
+wide-requires-6 : tie.Need-wide-requires-6
+wide-requires-6 c κs = search needs
+
+add-if2-2 : tie.Need-add-if2-2
+add-if2-2 c = search needs
+
+cast-t18 : tie.Need-cast-t18
+cast-t18 c = search needs
+
+sub-t19 : tie.Need-sub-t19
+sub-t19 c = search needs
+
+cast-t20 : tie.Need-cast-t20
+cast-t20 c = search needs
+
+returns-2 : tie.Need-returns-2
+returns-2 c =
+    let up = c .before .before .before in
+    step-keep _ _ _ _ _ _ (omega arith) _ _ _ (next-is up)
+    (c .before .before .less3 .ensures ∙ ap (_-_ (up .larger .result)) (up .before .before .before .before .before .before .before .before .wide2 .ensures))
+    (omega arith) (omega arith)
+
+cast-t22 : tie.Need-cast-t22
+cast-t22 c = search needs
+
+returns-3 : tie.Need-returns-3
+returns-3 c = step-next _ _ _ _ _ _ (omega arith) _ (next-is (c .before .before .before)) (omega arith)
+
+pub step-at-spec : {M : Type 1} → statement M
+step-at-spec =
+    tie.close
+    (tie.spec
+    wide-requires
+    wide-requires-2
+    product-requires
+    wide-requires-3
+    less-requires
+    add-if1
+    returns
+    wide-requires-4
+    wide-requires-5
+    add-less
+    less-requires-2
+    larger-requires
+    less-requires-3
+    add-if2
+    wide-requires-6
+    add-if2-2
+    cast-t18
+    sub-t19
+    cast-t20
+    returns-2
+    cast-t22
+    returns-3)

@@ -1,0 +1,103 @@
+-- What the functions of this crate take and answer.
+use Prim.Native.Nat.{ℕ, _+_, _-_, _*_, _≤_, _<_, max, min}
+use mathlib.Core.Path.{_≡_}
+use mathlib.Core.Bool.{true, false}
+use mathlib.Core.Option.{Option, some, none}
+use mathlib.Core.List.{List, map}
+use lib.Dec.{leb, ltb}
+use lib.ListN.{length, take}
+use lib.IntN.{pos}
+use Rattle.model.specs.Limits.{maxTasks, maxTime, horizonTick}
+use Rattle.model.specs.Tasks.{Tasks, load, InRange}
+use Rattle.model.specs.Demand.{window}
+use Rattle.model.specs.Verdict.{verdict}
+use Rattle.model.specs.Choice.{column, andKeep, leastKeep, worstOf, Choice, unfit, chosen, choice}
+use Rattle.demand.specs.Columns.{flatTasks, Searchable}
+use Rattle.demand.specs.SearchLaws.{Search}
+use Rattle.choice.specs.declared.Window.{Window}
+use Rattle.choice.specs.declared.Window.the-variants.{Within, Over}
+use Rattle.choice.specs.declared.Least.{Least}
+use Rattle.choice.specs.declared.Least.the-variants.{Keep, Unfit}
+use Rattle.choice.specs.declared.Step.{Step}
+use Rattle.choice.specs.declared.Step.the-variants.{Done, Next}
+use Rattle.choice.specs.declared.Choices.{Choices}
+
+-- loads and periods as a task set; the search for W(q) looks at nothing else
+abbrev pub flat : List ℕ → List ℕ → Tasks
+flat loads periods = flatTasks loads periods 0 0
+
+-- the search for W(q) of task n may start at t
+pub record Searched (loads periods keeps : List ℕ) (n q t : ℕ) : Type 0 where
+  pub columns : Searchable loads periods keeps n
+  pub q-high : q ≤ horizonTick
+  pub high : t ≤ horizonTick
+  pub search : Search (flat loads periods) (column keeps) n q t
+
+-- the W(q) that an answer holds
+abbrev pub windowIn : Window → Option ℕ
+windowIn (Within w) = some w
+windowIn Over = none
+
+abbrev pub windowOf : List ℕ → List ℕ → List ℕ → ℕ → ℕ → Window → Type 0
+windowOf loads periods keeps n q r = windowIn r ≡ window (flat loads periods) (column keeps) n q
+
+-- the least kept jitter of task i, given the choices above, and its largest R
+abbrev pub LeastIs : Tasks → List ℕ → ℕ → Least → Type 0
+LeastIs s above i (Keep K w) = (leastKeep s above i ≡ some K) × (worstOf (verdict s (andKeep above K) i) ≡ pos w)
+LeastIs s above i Unfit = leastKeep s above i ≡ none
+
+-- the largest W(q') + J − q'P up to q, high being that of the q' before and w being W(q)
+abbrev pub nextHigh : ℕ → ℕ → ℕ → ℕ → ℕ → ℕ
+nextHigh P J high q w = max high (w + J - q * P)
+
+-- one q of the walk: no K fits where W(q) + min(0, x) is over D; every K below high − D is late; that K itself stops here where its W(q) ≤ d_K(q + 1)
+unfoldable pub stepOf : ℕ → ℕ → ℕ → ℕ → ℕ → ℕ → Step
+stepOf P J D high q w =
+    elim (ltb (D + (q * P - J)) w) [
+      | true ↦ Done Unfit
+      | false ↦
+          elim (leb (nextHigh P J high q w - D + w) (q * P + P)) [
+            | true ↦ Done (Keep (nextHigh P J high q w - D) (min (nextHigh P J high q w) D))
+            | false ↦ Next (nextHigh P J high q w)
+          ]
+    ]
+
+-- r is a product of a number of jobs, and small
+pub record Product (n x r : ℕ) : Type 0 where
+  pub is : r ≡ n * x
+  pub small : r ≤ 10000001000000
+
+-- the numbers of a step are small
+pub record Stepped (P J D high q w : ℕ) : Type 0 where
+  pub period-high : P ≤ maxTime
+  pub jitter-high : J ≤ maxTime
+  pub deadline-high : D ≤ maxTime
+  pub reach : high ≤ D + J
+  pub q-high : q ≤ horizonTick
+  pub w-high : w ≤ horizonTick
+
+-- a task set whose tasks up to i have these loads and periods, and whose task i has J and D
+pub record Flat (s : Tasks) (loads periods : List ℕ) (i J D : ℕ) : Type 0 where
+  pub load-is : (m : ℕ) → m ≤ i → load s m ≡ column loads m
+  pub period-is : (m : ℕ) → m ≤ i → s .period m ≡ column periods m
+  pub jitter-is : s .jitter i ≡ J
+  pub deadline-is : s .deadline i ≡ D
+
+-- the walk of task i may start
+pub record Walkable (loads periods keeps : List ℕ) (i J D : ℕ) : Type 0 where
+  pub columns : Searchable loads periods keeps i
+  pub periods-long : i < length periods
+  pub own : InRange (column periods i) J (column loads i) D
+
+-- the least kept jitter of task i, for every task set with these columns
+abbrev pub LeastOf : List ℕ → List ℕ → List ℕ → ℕ → ℕ → ℕ → Least → Type 0
+LeastOf loads periods keeps i J D r = (s : Tasks) → Flat s loads periods i J D → LeastIs s (take i keeps) i r
+
+-- the choice that the columns of n tasks hold
+abbrev pub choiceIn : ℕ → Choices → Choice
+choiceIn n r = elim (leb n (r .fitted)) [ true ↦ chosen (take n (r .keep)) (map pos (take n (r .worst))) | false ↦ unfit (r .fitted) ]
+
+pub record ChoicesAre (s : Tasks) (r : Choices) : Type 0 where
+  pub is : choiceIn (s .count) r ≡ choice s
+  pub keep-long : length (r .keep) ≡ maxTasks
+  pub worst-long : length (r .worst) ≡ maxTasks

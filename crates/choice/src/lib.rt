@@ -1,0 +1,211 @@
+// The choice of kept jitters.
+ghost use mathlib.Core.Path.{_≡_};
+ghost use Prim.Native.Nat.{_≤_};
+ghost use mathlib.Core.List.{_++_};
+ghost use lib.ListN.{length, take, drop};
+ghost use Rattle.model.specs.Tasks.{Valid};
+ghost use Rattle.model.specs.Checks.{refusalOf};
+ghost use Rattle.model.specs.Choice.{choice};
+ghost use Rattle.model.specs.Calls.{choiceInputs, columnAfter, keptColumn, worstColumn};
+ghost use Rattle.taskset.specs.TaskSet.{viewOf, refusalIn};
+ghost use Rattle.choice.specs.Choices.{Searched, Walkable, windowOf, LeastOf, Product, Stepped, stepOf, ChoicesAre};
+use demand::above_load;
+use demand::columns_of;
+use demand::wide;
+use shaper::larger;
+use shaper::less;
+use taskset::Checked;
+use taskset::TaskSet;
+
+// W(q), or that it is over the horizon H or there is none.
+pub enum Window {
+    Within(u32),
+    Over,
+}
+
+// The least kept jitter at which a task fits, with its largest R, or that there is none.
+pub enum Least {
+    Keep { keep: u32, worst: u32 },
+    Unfit,
+}
+
+// What the walk over q says at one q: the answer, or the largest W(q) + J − qP so far.
+pub enum Step {
+    Done(Least),
+    Next(u32),
+}
+
+// Kept jitters and largest R of the first tasks, as many as fit.
+pub struct Choices {
+    pub keep: [u32; 32],
+    pub worst: [u32; 32],
+    pub fitted: usize,
+}
+
+// A number of jobs times P or E.
+fn product(n: u32, x: u32) -> u64
+    requires { ⌜ (n ≤ 10000001) × (x ≤ 1000000) ⌝ }
+    ensures { λ r. ⌜ Product n x r ⌝ }
+{
+    wide(n) * wide(x)
+}
+
+// W(q) of task n, by the rising list from a t below which no demand is met: the next t is the demand in the t just tried.
+fn window_from(loads: &[u32], periods: &[u32], keeps: &[u32], n: usize, q: u32, from: u32) -> Window
+    requires { ⌜ Searched (now loads) (now periods) (now keeps) n q from ⌝ }
+    ensures { λ r. ⌜ windowOf (now (loads .entry)) (now (periods .entry)) (now (keeps .entry)) n q r ⌝ }
+{
+    let own = product(q + 1, loads[n]);
+    let mut t = from;
+    loop {
+        let d = own + above_load(loads, periods, keeps, n, t);
+        if d <= wide(t) {
+            return Window::Within(t);
+        }
+        if 10000000 < d {
+            return Window::Over;
+        }
+        t = d as u32;
+    }
+}
+
+// The walk over q at one q, w being W(q) and `high` the largest W(q') + J − q'P of the q' before.
+fn step_at(period: u32, jitter: u32, deadline: u32, high: u32, q: u32, w: u32) -> Step
+    requires { ⌜ Stepped period jitter deadline high q w ⌝ }
+    ensures { λ r. ⌜ r ≡ stepOf period jitter deadline high q w ⌝ }
+{
+    let t = wide(w);
+    let d = wide(deadline);
+    let base = product(q, period);
+    if d + less(base, wide(jitter)) < t {
+        return Step::Done(Least::Unfit);
+    }
+    let next = larger(wide(high), less(t + wide(jitter), base));
+    let keep = less(next, d);
+    if keep + t <= base + wide(period) {
+        return Step::Done(Least::Keep {
+            keep: keep as u32,
+            worst: (next - keep) as u32,
+        });
+    }
+    Step::Next(next as u32)
+}
+
+// The least kept jitter at which task i fits, given the kept jitters of the tasks above. W(q) does not depend on the task's own K, so one walk over q finds it.
+fn least_keep(
+    loads: &[u32],
+    periods: &[u32],
+    keeps: &[u32],
+    i: usize,
+    jitter: u32,
+    deadline: u32,
+) -> Least
+    requires { ⌜ Walkable (now loads) (now periods) (now keeps) i jitter deadline ⌝ }
+    ensures { λ r. ⌜ LeastOf (now (loads .entry)) (now (periods .entry)) (now (keeps .entry)) i jitter deadline r ⌝ }
+{
+    let period = periods[i];
+    let mut q: u32 = 0;
+    let mut high: u32 = 0;
+    let mut from: u32 = 1;
+    loop {
+        let found = window_from(loads, periods, keeps, i, q, from);
+        let Window::Within(w) = found else {
+            return Least::Unfit;
+        };
+        let seen = step_at(period, jitter, deadline, high, q, w);
+        match seen {
+            Step::Done(r) => {
+                return r;
+            }
+            Step::Next(next) => {
+                high = next;
+                from = w;
+                q += 1;
+            }
+        }
+    }
+}
+
+// The choice of a sheet within its limits, from task 0 down to the first task that fits at no K.
+fn choices_of(s: TaskSet) -> Choices
+    requires { ⌜ Valid (viewOf s) ⌝ }
+    ensures { λ r. ⌜ ChoicesAre (viewOf s) r ⌝ }
+{
+    let flat = columns_of(s);
+    let loads = flat.loads;
+    let periods = flat.periods;
+    let count = s.count;
+    let mut keep: [u32; 32] = [0; 32];
+    let mut worst: [u32; 32] = [0; 32];
+    let mut i = 0;
+    while i < count {
+        let own = s.tasks[i];
+        let least = least_keep(&loads, &periods, &keep, i, own.jitter, own.deadline);
+        let Least::Keep { keep: k, worst: w } = least else {
+            return Choices {
+                keep: keep,
+                worst: worst,
+                fitted: i,
+            };
+        };
+        keep[i] = k;
+        worst[i] = w;
+        i += 1;
+    }
+    Choices {
+        keep: keep,
+        worst: worst,
+        fitted: count,
+    }
+}
+
+// Copies the first n numbers of a column into a lent one.
+fn put(column: &[u32], n: usize, out: &mut [u32])
+    requires { ⌜ (n ≤ length (now column)) × (n ≤ length (now out)) ⌝ }
+    ensures { λ _. ⌜ now (out .exit) ≡ take n (now (column .entry)) ++ drop n (now (out .entry)) ⌝ }
+{
+    let mut i = 0;
+    while i < n {
+        out[i] = column[i];
+        i += 1;
+    }
+}
+
+// Choice: for each task from task 0 down the least K in 0..J at which its verdict is "fits", given the choices above, into `kept`, and its largest R into `worst`.
+// A refusal, 15 at the first task that fits at no K included, leaves both columns.
+pub fn choose(s: TaskSet, kept: &mut [u32], worst: &mut [u32]) -> Checked
+    ensures { λ r. ⌜ refusalIn r ≡ refusalOf (choiceInputs (viewOf s) (now (kept .entry)) (now (worst .entry))) ⌝ }
+    ensures { λ _. ⌜ now (kept .exit) ≡ columnAfter (refusalOf (choiceInputs (viewOf s) (now (kept .entry)) (now (worst .entry)))) (keptColumn (choice (viewOf s))) (now (kept .entry)) ⌝ }
+    ensures { λ _. ⌜ now (worst .exit) ≡ columnAfter (refusalOf (choiceInputs (viewOf s) (now (kept .entry)) (now (worst .entry)))) (worstColumn (choice (viewOf s))) (now (worst .entry)) ⌝ }
+{
+    let whole = taskset::check(s);
+    let Checked::Fine = whole else {
+        return whole;
+    };
+    let count = s.count;
+    if kept.len() < count {
+        return Checked::Refused {
+            number: 13,
+            place: count,
+        };
+    }
+    if worst.len() < count {
+        return Checked::Refused {
+            number: 13,
+            place: count,
+        };
+    }
+    let c = choices_of(s);
+    let fitted = c.fitted;
+    if fitted < count {
+        return Checked::Refused {
+            number: 15,
+            place: fitted,
+        };
+    }
+    let keeps = c.keep;
+    let worsts = c.worst;
+    put(&keeps, count, kept);
+    put(&worsts, count, worst);
+    Checked::Fine
+}

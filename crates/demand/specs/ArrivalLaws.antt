@@ -1,0 +1,27 @@
+-- Laws of the arrival count.
+use Prim.Native.Nat.{ℕ, zero, suc, _+_, _-_, _/_, _≤_}
+use mathlib.Core.Path.{_≡_, refl}
+use native.Mathlib.Omega.{arith}
+use native.Mathlib.Nat.{le-div-iff-mul-le, div-lt-iff-lt-mul, le-mul-of-pos-right, le-of-suc-le-suc}
+use Rattle.model.specs.Arrival.{ceilDiv, arrivals}
+
+-- from one tick on, the count is a quotient rounded up
+pub arrivals-at : (P K t : ℕ) → 1 ≤ t → arrivals P K t ≡ (t + K + P - 1) / P
+unfolding arrivals ceilDiv
+arrivals-at P K zero h = absurd (omega arith)
+arrivals-at P K (suc t) h = refl
+
+-- none in 0 ticks
+pub arrivals-none : (P K : ℕ) → arrivals P K 0 ≡ 0
+unfolding arrivals
+arrivals-none P K = refl
+
+-- at least one arrives in one tick or more
+pub arrivals-some : (P K t : ℕ) → 1 ≤ P → 1 ≤ t → 1 ≤ arrivals P K t
+arrivals-some P K t p h = rw (arrivals-at P K t h) (le-div-iff-mul-le p .1 (omega arith))
+
+-- and no more than a tick or a tick of jitter each
+pub arrivals-few : (P K t : ℕ) → 1 ≤ P → arrivals P K t ≤ t + K
+arrivals-few P K zero p = rw (arrivals-none P K) (omega arith)
+arrivals-few P K (suc t) p =
+    rw (arrivals-at P K (suc t) (omega arith)) (le-of-suc-le-suc (div-lt-iff-lt-mul p .1 (omega (arith, le-mul-of-pos-right (suc t + K) p))))

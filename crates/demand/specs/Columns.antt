@@ -1,0 +1,76 @@
+-- Tasks as flat columns: what the search for W(q) looks at.
+use Prim.Native.Nat.{ℕ, _*_, _≤_, _<_}
+use mathlib.Core.Path.{_≡_}
+use mathlib.Core.List.{List}
+use lib.ListN.{length}
+use Rattle.model.specs.Series.{sum}
+use Rattle.model.specs.Limits.{maxTasks, maxTime, horizonTick}
+use Rattle.model.specs.Tasks.{Tasks, load}
+use Rattle.model.specs.Arrival.{arrivals}
+use Rattle.model.specs.Choice.{column}
+use Rattle.taskset.specs.declared.TaskSet.{TaskSet}
+use Rattle.taskset.specs.TaskSet.{viewOf}
+
+-- the sum over the first n tasks of load × arrival count in t ticks
+unfoldable pub columnLoad : List ℕ → List ℕ → List ℕ → ℕ → ℕ → ℕ
+columnLoad loads periods keeps n t = sum (λ j. column loads j * arrivals (column periods j) (column keeps j) t) n
+
+-- a task set with these loads and periods, whose tasks have jitter J and deadline D
+abbrev pub flatTasks : List ℕ → List ℕ → ℕ → ℕ → Tasks
+flatTasks loads periods J D = record {
+  count = 0;
+  period = column periods;
+  jitter = λ j. J;
+  cost = column loads;
+  deadline = λ j. D;
+}
+
+-- the numbers of a task are within document 01's limits
+pub record Small (E P K : ℕ) : Type 0 where
+  pub load-high : E ≤ maxTime
+  pub period-low : 1 ≤ P
+  pub period-high : P ≤ maxTime
+  pub keep-high : K ≤ maxTime
+
+-- ticks that the search tries
+pub record Tried (t : ℕ) : Type 0 where
+  pub low : 1 ≤ t
+  pub high : t ≤ horizonTick
+
+-- columns of n tasks
+pub record Columns (loads periods keeps : List ℕ) (n : ℕ) : Type 0 where
+  pub few : n ≤ maxTasks
+  pub loads-long : n ≤ length loads
+  pub periods-long : n ≤ length periods
+  pub keeps-long : n ≤ length keeps
+  pub small : (j : ℕ) → j < n → Small (column loads j) (column periods j) (column keeps j)
+
+-- columns of the tasks above i, and the load of task i: what the search for W(q) needs
+pub record Searchable (loads periods keeps : List ℕ) (i : ℕ) : Type 0 where
+  pub above : Columns loads periods keeps i
+  pub loads-long : i < length loads
+  pub cost-low : 1 ≤ column loads i
+  pub cost-high : column loads i ≤ maxTime
+
+-- load × arrival count of one task, and its bound
+pub record IsTerm (E P K t r : ℕ) : Type 0 where
+  pub is : r ≡ E * arrivals P K t
+  pub high : r ≤ 12000000000000
+
+-- the sum over n tasks, and its bound
+pub record IsLoad (loads periods keeps : List ℕ) (n t r : ℕ) : Type 0 where
+  pub is : r ≡ columnLoad loads periods keeps n t
+  pub high : r ≤ 384000000000000
+
+-- one load of each of n tasks, and its bound
+pub record IsOnce (loads : List ℕ) (n r : ℕ) : Type 0 where
+  pub is : r ≡ sum (column loads) n
+  pub high : r ≤ 32000000
+
+-- columns that hold loads and periods of the first j tasks of a task set
+pub record Copied (s : TaskSet) (j : ℕ) (loads periods : List ℕ) : Type 0 where
+  pub within : j ≤ s .count
+  pub loads-long : length loads ≡ 32
+  pub periods-long : length periods ≡ 32
+  pub load-is : (m : ℕ) → m < j → column loads m ≡ load (viewOf s) m
+  pub period-is : (m : ℕ) → m < j → column periods m ≡ viewOf s .period m

@@ -1,0 +1,149 @@
+// Arrival count and demand.
+ghost use mathlib.Core.Path.{_≡_};
+ghost use Prim.Native.Nat.{_≤_};
+ghost use Rattle.model.specs.Arrival as model_arrival;
+ghost use Rattle.model.specs.Checks.{refusalOf};
+ghost use Rattle.model.specs.Calls.{taskInputs, arrivalCall};
+ghost use Rattle.taskset.specs.TaskSet.{viewOf, refusalIn};
+ghost use Rattle.demand.specs.Columns.{Small, Tried, Columns, IsTerm, IsLoad, IsOnce, Copied};
+ghost use Rattle.demand.specs.Answers.{arrivalIn};
+use taskset::Checked;
+use taskset::TaskSet;
+
+// What the call "arrival count" answers: the count, or document 01's number and place.
+pub enum ArrivalAnswer {
+    Count(u64),
+    Refused { number: u32, place: usize },
+}
+
+// Loads and periods of a task set, one slot for each task.
+pub struct TaskColumns {
+    pub loads: [u32; 32],
+    pub periods: [u32; 32],
+}
+
+// A number of 32 bits as one of 64.
+pub fn wide(x: u32) -> u64
+    ensures { λ r. ⌜ r ≡ x ⌝ }
+{
+    x as u64
+}
+
+// Arrival count: ceil((t + K) ÷ P) in t ticks for t ≥ 1, zero in 0 ticks.
+pub fn arrivals(period: u32, keep: u32, t: u32) -> u64
+    requires { ⌜ 1 ≤ period ⌝ }
+    ensures { λ r. ⌜ r ≡ model_arrival.arrivals period keep t ⌝ }
+{
+    if t == 0 {
+        return 0;
+    }
+    let p = wide(period);
+    (wide(t) + wide(keep) + p - 1) / p
+}
+
+// Load × arrival count of one task in t ticks that the search tries.
+fn term(load: u32, period: u32, keep: u32, t: u32) -> u64
+    requires { ⌜ Small load period keep ⌝ }
+    requires { ⌜ Tried t ⌝ }
+    ensures { λ r. ⌜ IsTerm load period keep t r ⌝ }
+{
+    wide(load) * wide((t + keep + period - 1) / period)
+}
+
+// The sum over the first n tasks of load × arrival count in t ticks.
+pub fn above_load(loads: &[u32], periods: &[u32], keeps: &[u32], n: usize, t: u32) -> u64
+    requires { ⌜ Columns (now loads) (now periods) (now keeps) n ⌝ }
+    requires { ⌜ Tried t ⌝ }
+    ensures { λ r. ⌜ IsLoad (now (loads .entry)) (now (periods .entry)) (now (keeps .entry)) n t r ⌝ }
+{
+    let mut sum: u64 = 0;
+    let mut j = 0;
+    while j < n {
+        sum += term(loads[j], periods[j], keeps[j], t);
+        j += 1;
+    }
+    sum
+}
+
+// One load of each of the first n tasks.
+pub fn once_each(loads: &[u32], periods: &[u32], keeps: &[u32], n: usize) -> u64
+    requires { ⌜ Columns (now loads) (now periods) (now keeps) n ⌝ }
+    ensures { λ r. ⌜ IsOnce (now (loads .entry)) n r ⌝ }
+{
+    let mut sum: u64 = 0;
+    let mut j = 0;
+    while j < n {
+        sum += wide(loads[j]);
+        j += 1;
+    }
+    sum
+}
+
+// Loads and periods of the tasks of a sheet, copied once.
+pub fn columns_of(s: TaskSet) -> TaskColumns
+    requires { ⌜ s .count ≤ 32 ⌝ }
+    ensures { λ r. ⌜ Copied s (s .count) (r .loads) (r .periods) ⌝ }
+{
+    let count = s.count;
+    let mut loads: [u32; 32] = [0; 32];
+    let mut periods: [u32; 32] = [0; 32];
+    let mut j = 0;
+    while j < count {
+        let t = s.tasks[j];
+        loads[j] = t.cost;
+        periods[j] = t.period;
+        j += 1;
+    }
+    TaskColumns {
+        loads: loads,
+        periods: periods,
+    }
+}
+
+// The checks of a call about one task with kept jitters: the sheet (5, 4, 6), then 14, 13, 12.
+pub fn check_call(s: TaskSet, task: usize, kept: &[u32]) -> Checked
+    ensures { λ r. ⌜ refusalIn r ≡ refusalOf (taskInputs (viewOf s) task (now (kept .entry))) ⌝ }
+{
+    let whole = taskset::check(s);
+    match whole {
+        Checked::Refused { number, place } => {
+            return Checked::Refused {
+                number: number,
+                place: place,
+            };
+        }
+        Checked::Fine => {}
+    }
+    let count = s.count;
+    if count <= task {
+        return Checked::Refused {
+            number: 14,
+            place: task,
+        };
+    }
+    if kept.len() < count {
+        return Checked::Refused {
+            number: 13,
+            place: count,
+        };
+    }
+    taskset::check_kept(s, kept)
+}
+
+// Arrival count of one task in t ticks, with kept jitters.
+pub fn arrival_count(s: TaskSet, task: usize, kept: &[u32], t: u32) -> ArrivalAnswer
+    ensures { λ r. ⌜ arrivalIn r ≡ arrivalCall (viewOf s) task (now (kept .entry)) t ⌝ }
+{
+    let checked = check_call(s, task, kept);
+    match checked {
+        Checked::Refused { number, place } => ArrivalAnswer::Refused {
+            number: number,
+            place: place,
+        },
+        Checked::Fine => {
+            let own = s.tasks[task];
+            let n = arrivals(own.period, kept[task], t);
+            ArrivalAnswer::Count(n)
+        }
+    }
+}

@@ -1,0 +1,23 @@
+-- Each argument is read back from its bits, and the test decides as the definition's does.
+use mathlib.Core.Path.{_≡_, _∙_}
+use mir.Syntax.{w64}
+use mir.Val.{toZ, ofZ}
+use mir.ValLaws.{toZ-ofZ}
+use Rattle.verdict.specs.ResponseLaws.{smaller-left, smaller-right}
+use Rattle.verdict.proofs.smaller.Statement.{statement}
+use Rattle.verdict.proofs.smaller.Tie as tie
+
+read-a : (c : tie.Start) → toZ w64 (ofZ w64 (c .args .a)) ≡ c .args .a
+read-a c = toZ-ofZ w64 _ (c .fits .a)
+
+read-b : (c : tie.Start) → toZ w64 (ofZ w64 (c .args .b)) ≡ c .args .b
+read-b c = toZ-ofZ w64 _ (c .fits .b)
+
+returns : tie.Need-returns
+returns c = read-a (c .before) ∙ smaller-left _ _ (rw (read-a (c .before), read-b (c .before)) at (c .if1 .taken))
+
+returns-2 : tie.Need-returns-2
+returns-2 c = read-b (c .before) ∙ smaller-right _ _ (rw (read-a (c .before), read-b (c .before)) at (c .if1 .left))
+
+pub smaller-spec : {M : Type 1} → statement M
+smaller-spec = tie.close (tie.spec returns returns-2)
