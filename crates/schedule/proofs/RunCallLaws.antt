@@ -1,0 +1,127 @@
+-- Laws of the call: a list that passes its checks can be run, and its finish ticks are those of the definition.
+use Prim.Native.Nat.{ℕ, _≤_, _<_, min}
+use mathlib.Core.Path.{_≡_, refl, sym, ap, _∙_}
+use mathlib.Core.Option.{none}
+use mathlib.Core.List.{List, _++_}
+use native.Mathlib.Omega.{arith}
+use lib.ListN.{length, getD, drop, length-append}
+use Rattle.model.specs.Limits.{maxTime}
+use Rattle.model.specs.Series.{table}
+use Rattle.model.specs.Tasks.{Tasks, Release, releaseAt}
+use Rattle.model.specs.Choice.{column}
+use Rattle.model.specs.Ready.{readyAt, readyList}
+use Rattle.model.specs.Checks.{refusalOf}
+use Rattle.model.specs.Calls.{releasesOf, columnAfter, runInputs}
+use Rattle.model.specs.Run.{jobs, finishOf, finishAt, finishList}
+use Rattle.releases.proofs.ReleaseLaws.{length-releases, release-at}
+use Rattle.model.proofs.TableLaws.{length-table}
+use Rattle.trace.specs.TraceCalls.{callInputs, Shapable}
+use Rattle.trace.specs.ReadyAtLaws.{ready-rising}
+use Rattle.trace.proofs.CallLaws.{Callable, callable-of, listed-shapable, run-checks}
+use Rattle.trace.proofs.WalkLaws.{inside, task-is, ready-high, ready-slot}
+use Rattle.schedule.specs.Schedule.{jobsOf, Runnable}
+use Rattle.schedule.proofs.AgreeLaws.{Agree, finish-agree, table-agree}
+
+-- the ready column once the ready ticks are written
+abbrev pub readyWritten : Tasks → List ℕ → ℕ → List ℕ → List ℕ → List ℕ → List ℕ → List ℕ
+readyWritten s kept n task tick cost ready = readyList s (column kept) (releasesOf n task tick cost) ++ drop n ready
+
+-- the checks of a run, where m is the length of the shorter column
+pub checked-run : (s : Tasks) (kept : List ℕ) (n : ℕ) (task tick cost ready finish : List ℕ) (m : ℕ)
+    → m ≡ min (length ready) (length finish)
+    → refusalOf (callInputs s kept n task tick cost m) ≡ refusalOf (runInputs s kept n task tick cost ready finish)
+checked-run s kept n task tick cost ready finish m h =
+    ap (λ x. refusalOf (callInputs s kept n task tick cost x)) h ∙ run-checks s kept n task tick cost ready finish
+
+-- every check of a run passes
+pub record Cleared (s : Tasks) (kept : List ℕ) (n : ℕ) (task tick cost ready finish : List ℕ) : Type 0 where
+  pub clear : none ≡ refusalOf (runInputs s kept n task tick cost ready finish)
+
+module _ (s : Tasks) (kept : List ℕ) (n : ℕ) (task tick cost ready finish : List ℕ) (e : Cleared s kept n task tick cost ready finish) where
+  pub callable : Callable s kept n task tick cost (min (length ready) (length finish))
+  callable = callable-of s kept n task tick cost (min (length ready) (length finish)) (e .clear ∙ sym (run-checks s kept n task tick cost ready finish))
+
+  pub shapable : Shapable s n task tick
+  shapable = listed-shapable s n task tick cost (callable .listed)
+
+  pub ready-long : n ≤ length ready
+  ready-long = omega (arith, callable .slots-long)
+
+  cost-is : (p : ℕ) → p < n → releaseAt (releasesOf n task tick cost) p .cost ≡ getD cost p 0
+  cost-is p h = ap (λ (x : Release). x .cost) (release-at n task tick cost p h)
+
+  slot : (p : ℕ) → p < n → getD (readyWritten s kept n task tick cost ready) p 0 ≡ readyAt s (column kept) (releasesOf n task tick cost) p
+  slot p h = ready-slot s (column kept) n task tick cost (drop n ready) p h
+
+  list-long : length (readyList s (column kept) (releasesOf n task tick cost)) ≡ n
+  unfolding readyList
+  list-long = length-table _ _ ∙ length-releases n task tick cost
+
+  pub runnable : Runnable n (s .count) task cost (readyWritten s kept n task tick cost ready) finish
+  runnable =
+      record {
+        few = callable .listed .few;
+        few-tasks = callable .listed .valid .few-tasks;
+        task-long = callable .listed .columns .task-long;
+        cost-long = callable .listed .columns .cost-long;
+        ready-long = omega (arith, length-append (readyList s (column kept) (releasesOf n task tick cost)) (drop n ready), list-long);
+        finish-long = omega (arith, callable .slots-long);
+        known = shapable .known;
+        cost-low = λ p h. omega (arith, cost-is p h, callable .listed .trace .sound p (inside n task tick cost p h) .cost-low);
+        cost-high = cost-high;
+        ready-high = λ p h. omega (arith, slot p h, ready-high s n task tick shapable cost (column kept) p h);
+        in-order = in-order;
+      }
+    where
+      cost-high : (p : ℕ) → p < n → getD cost p 0 ≤ maxTime
+      cost-high p h =
+          omega (
+            arith,
+            cost-is p h,
+            callable .listed .trace .sound p (inside n task tick cost p h) .cost-high,
+            callable .listed .valid .in-range (releaseAt (releasesOf n task tick cost) p .task) (callable .listed .trace .sound p (inside n task tick cost p h) .known),
+          )
+
+      in-order : (p q : ℕ)
+          → p < q
+          → q < n
+          → getD task p 0 ≡ getD task q 0
+          → getD (readyWritten s kept n task tick cost ready) p 0 ≤ getD (readyWritten s kept n task tick cost ready) q 0
+      in-order p q a b g =
+          omega (
+            arith,
+            slot p (omega arith),
+            slot q b,
+            ready-rising s (column kept) (releasesOf n task tick cost) (getD task q 0) p q (omega arith) (inside n task tick cost q b)
+                (task-is n task tick cost p (omega arith) ∙ g)
+                (task-is n task tick cost q b),
+          )
+
+  agree : Agree (jobsOf n task cost (readyWritten s kept n task tick cost ready)) (jobs s (column kept) (releasesOf n task tick cost))
+  agree =
+      record {
+        all = λ t. refl;
+        same-all = λ t. refl;
+        count = sym (length-releases n task tick cost);
+        task = λ p h. sym (task-is n task tick cost p h);
+        start = slot;
+        work = λ p h. sym (cost-is p h);
+      }
+
+  -- the finish column
+  pub finish-written : (o x : List ℕ)
+      → o ≡ readyWritten s kept n task tick cost ready
+      → x ≡ table (finishOf (jobsOf n task cost o)) n ++ drop n finish
+      → x ≡ columnAfter (refusalOf (runInputs s kept n task tick cost ready finish)) (finishList s (column kept) (releasesOf n task tick cost)) finish
+  unfolding columnAfter finishList finishAt
+  finish-written o x g f =
+      rw (← e .clear)
+      (f
+      ∙ ap (λ y. table (finishOf (jobsOf n task cost y)) n ++ drop n finish) g
+      ∙ ap (λ y. y ++ drop n finish) answer
+      ∙ ap (λ m. finishList s (column kept) (releasesOf n task tick cost) ++ drop m finish) (sym (length-table _ _ ∙ length-releases n task tick cost)))
+    where
+      answer : table (finishOf (jobsOf n task cost (readyWritten s kept n task tick cost ready))) n ≡ finishList s (column kept) (releasesOf n task tick cost)
+      answer =
+          table-agree _ (finishAt s (column kept) (releasesOf n task tick cost)) n (λ p h. finish-agree _ _ agree p h (runnable .cost-low p h))
+          ∙ ap (table (finishAt s (column kept) (releasesOf n task tick cost))) (sym (length-releases n task tick cost))

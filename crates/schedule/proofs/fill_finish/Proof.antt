@@ -1,0 +1,191 @@
+-- At the beginning of tick t the columns hold the state of the run. A tick passes while some job is unfinished, so it is before the run's end.
+use Prim.Native.Nat.{_-_}
+use mathlib.Core.Path.{refl, sym, _∙_}
+use native.Mathlib.Omega.{arith}
+use denote.Ref.{now}
+use Rattle.model.specs.Run.{endOf}
+use Rattle.schedule.specs.Schedule.{jobsOf}
+use Rattle.schedule.proofs.FillLaws.{Filling, Top, fill-start, fill-sleep, fill-idle, fill-top, fill-run, fill-done, fill-end}
+use Rattle.schedule.proofs.fill_finish.Statement.{statement}
+use Rattle.schedule.proofs.fill_finish.Tie as tie
+
+abbrev Inv-loop : tie.InvT-loop
+Inv-loop task cost ready n tasks finish₀ left₀ head₀ wake₀ next₀ finish left head wake next = Filling n tasks task cost ready finish₀ next wake head left finish
+
+abbrev μ-loop : tie.MeasureT-loop
+μ-loop task cost ready n tasks finish₀ left₀ head₀ wake₀ next₀ finish left head wake next = endOf (jobsOf n task cost ready) - next
+
+whole-work-requires : tie.Need-whole-work-requires Inv-loop μ-loop
+whole-work-requires c κs = omega arith
+
+first-jobs-requires : tie.Need-first-jobs-requires Inv-loop μ-loop
+first-jobs-requires c κs = omega arith
+
+loop-holds : tie.Need-loop-holds Inv-loop μ-loop
+loop-holds c =
+    fill-start _ _ _ _ _ _ (c .before .before .before .before .before .before .pre) _ _ (c .before .whole-work .ensures) (c .first-jobs .ensures)
+
+add-next : tie.Need-add-next Inv-loop μ-loop
+add-next c = omega arith
+
+loop-again : tie.Need-loop-again Inv-loop μ-loop
+loop-again c = fill-sleep _ _ _ _ _ _ (c .before .loop .inv .can) _ _ _ _ _ (c .before .loop .inv .state) (c .if1 .taken)
+
+loop-less : tie.Need-loop-less Inv-loop μ-loop
+loop-less c = omega (arith, loop-again c .state .time)
+
+top-ready-requires : tie.Need-top-ready-requires Inv-loop μ-loop
+top-ready-requires c κs = omega arith
+
+wake-all-requires : tie.Need-wake-all-requires Inv-loop μ-loop
+wake-all-requires c κs = omega arith
+
+same-length : tie.Need-same-length Inv-loop μ-loop
+same-length c = c .before .before .before .before .before .before .before .loop .inv .state .finish-long
+
+returns : tie.Need-returns Inv-loop μ-loop
+returns c =
+    fill-end _ _ _ _ _ _ (c .before .before .before .before .before .before .before .loop .inv .can) _ _ _ _ _
+    (c .before .before .before .before .before .before .before .loop .inv .state)
+    (sym (c .before .wake-all .ensures) ∙ c .if3 .taken)
+
+loop-again-2 : tie.Need-loop-again-2 Inv-loop μ-loop
+loop-again-2 c =
+    fill-idle _ _ _ _ _ _ (c .before .before .before .before .before .before .before .loop .inv .can) _ _ _ _ _
+    (c .before .before .before .before .before .before .before .loop .inv .state)
+    _
+    _
+    (c .before .before .before .before .top-ready .ensures)
+    (c .before .before .before .if2 .taken)
+    (c .before .wake-all .ensures)
+    (c .if3 .left)
+
+loop-less-2 : tie.Need-loop-less-2 Inv-loop μ-loop
+loop-less-2 c = omega (arith, loop-again-2 c .state .time)
+
+-- a job runs: the loop's state, the arguments, and which job it is
+abbrev at : tie.Else2 Inv-loop μ-loop → tie.At-loop Inv-loop μ-loop
+at c = c .before .before .before .before
+
+abbrev start : tie.At-loop Inv-loop μ-loop → tie.Start Inv-loop μ-loop
+start c = c .before .before .before .before .before .before .before
+
+top : (c : tie.Else2 Inv-loop μ-loop)
+    → Top (jobsOf (start (at c) .args .n) (now (start (at c) .args .task)) (now (start (at c) .args .cost)) (now (start (at c) .args .ready)))
+    (start (at c) .args .tasks) (at c .loop .next) (at c .loop .head) (at c .loop .left) (c .before .top-ready .result)
+top c = fill-top _ _ _ _ _ _ (at c .loop .inv .can) _ _ _ _ _ (at c .loop .inv .state) _ (c .before .top-ready .ensures) (c .if2 .left)
+
+mul-p : tie.Need-mul-p Inv-loop μ-loop
+mul-p c = omega (arith, top c)
+
+array-read-p : tie.Need-array-read-p Inv-loop μ-loop
+array-read-p c = omega (arith, top c)
+
+mul-rest : tie.Need-mul-rest Inv-loop μ-loop
+mul-rest c = omega (arith, top c)
+
+array-read-rest : tie.Need-array-read-rest Inv-loop μ-loop
+array-read-rest c = omega (arith, top c)
+
+sub-rest : tie.Need-sub-rest Inv-loop μ-loop
+sub-rest c = omega (arith, top c)
+
+mul-left : tie.Need-mul-left Inv-loop μ-loop
+mul-left c = omega (arith, top c)
+
+array-write-left : tie.Need-array-write-left Inv-loop μ-loop
+array-write-left c = omega (arith, top c)
+
+cast-finish : tie.Need-cast-finish Inv-loop μ-loop
+cast-finish c = omega (arith, top (c .before))
+
+mul-finish : tie.Need-mul-finish Inv-loop μ-loop
+mul-finish c = omega (arith, top (c .before))
+
+slice-write-finish : tie.Need-slice-write-finish Inv-loop μ-loop
+slice-write-finish c = omega (arith, top (c .before))
+
+cast-next-of : tie.Need-cast-next-of Inv-loop μ-loop
+cast-next-of c = omega (arith, top (c .before))
+
+add-next-of : tie.Need-add-next-of Inv-loop μ-loop
+add-next-of c = omega (arith, top (c .before))
+
+next-of-requires : tie.Need-next-of-requires Inv-loop μ-loop
+next-of-requires c κs = omega (arith, top (c .before))
+
+mul-head : tie.Need-mul-head Inv-loop μ-loop
+mul-head c = omega (arith, top (c .before .before))
+
+array-write-head : tie.Need-array-write-head Inv-loop μ-loop
+array-write-head c = omega (arith, top (c .before .before))
+
+loop-again-3 : tie.Need-loop-again-3 Inv-loop μ-loop
+loop-again-3 c =
+    fill-done _ _ _ _ _ _ (at (c .before .before) .loop .inv .can) _ _ _ _ _ (at (c .before .before) .loop .inv .state)
+    _
+    _
+    _
+    _
+    (top (c .before .before))
+    refl
+    (c .before .before .before .before .before .if1 .left)
+    refl
+    (c .before .if4 .taken)
+    (c .next-of .ensures)
+
+loop-less-3 : tie.Need-loop-less-3 Inv-loop μ-loop
+loop-less-3 c = omega (arith, loop-again-3 c .state .time)
+
+loop-again-4 : tie.Need-loop-again-4 Inv-loop μ-loop
+loop-again-4 c =
+    fill-run _ _ _ _ _ _ (at (c .before) .loop .inv .can) _ _ _ _ _ (at (c .before) .loop .inv .state)
+    _
+    _
+    _
+    (top (c .before))
+    refl
+    (c .before .before .before .before .if1 .left)
+    refl
+    (c .if4 .left)
+
+loop-less-4 : tie.Need-loop-less-4 Inv-loop μ-loop
+loop-less-4 c = omega (arith, loop-again-4 c .state .time)
+
+pub fill-finish-spec : {M : Type 1} → statement M
+fill-finish-spec =
+    tie.close
+    (tie.spec
+    Inv-loop
+    μ-loop
+    whole-work-requires
+    first-jobs-requires
+    loop-holds
+    add-next
+    loop-less
+    loop-again
+    top-ready-requires
+    wake-all-requires
+    same-length
+    returns
+    loop-less-2
+    loop-again-2
+    mul-p
+    array-read-p
+    mul-rest
+    array-read-rest
+    sub-rest
+    mul-left
+    array-write-left
+    cast-finish
+    mul-finish
+    slice-write-finish
+    cast-next-of
+    add-next-of
+    next-of-requires
+    mul-head
+    array-write-head
+    loop-less-3
+    loop-again-3
+    loop-less-4
+    loop-again-4)

@@ -1,0 +1,64 @@
+-- The loop has passed every task whose oldest unfinished job may not run yet.
+use Prim.Native.Nat.{_-_}
+use borrow.Author.Needs.{needs}
+use borrow.Author.Tests.{le-leb, lt-leb}
+use native.Mathlib.Omega.{arith}
+use lib.ListN.{getD}
+use lib.Dec.{leb}
+use Rattle.schedule.specs.Schedule.{wakeOf}
+use Rattle.schedule.proofs.SearchedLaws.{Passed, passed-none, passed-next, passed-here, passed-all}
+use Rattle.schedule.proofs.top_ready.Statement.{statement}
+use Rattle.schedule.proofs.top_ready.Tie as tie
+
+abbrev Inv-loop : tie.InvT-loop
+Inv-loop head ready n tasks t i₀ i = Passed (λ x. leb (wakeOf ready n (getD head x 0)) t) tasks 0 i
+
+abbrev μ-loop : tie.MeasureT-loop
+μ-loop head ready n tasks t i₀ i = tasks - i
+
+loop-holds : tie.Need-loop-holds Inv-loop μ-loop
+loop-holds c = passed-none _ _ _ (omega arith)
+
+mul-wake-of : tie.Need-mul-wake-of Inv-loop μ-loop
+mul-wake-of c = omega arith
+
+element-copy-out-wake-of : tie.Need-element-copy-out-wake-of Inv-loop μ-loop
+element-copy-out-wake-of c = omega arith
+
+wake-of-requires : tie.Need-wake-of-requires Inv-loop μ-loop
+wake-of-requires c κs = search needs
+
+returns : tie.Need-returns Inv-loop μ-loop
+returns c =
+    passed-here _ _ _ _ (c .before .before .before .before .loop .inv) (c .before .before .before .loop-test .taken)
+    (rw (← c .before .wake-of .ensures) (le-leb _ _ (c .if1 .taken)))
+
+add-i : tie.Need-add-i Inv-loop μ-loop
+add-i c = omega arith
+
+loop-less : tie.Need-loop-less Inv-loop μ-loop
+loop-less c = omega arith
+
+loop-again : tie.Need-loop-again Inv-loop μ-loop
+loop-again c =
+    passed-next _ _ _ _ (c .before .before .before .before .loop .inv) (c .before .before .before .loop-test .taken)
+    (rw (← c .before .wake-of .ensures) (lt-leb _ _ (c .if1 .left)))
+
+returns-2 : tie.Need-returns-2 Inv-loop μ-loop
+returns-2 c = passed-all _ _ _ _ (c .before .loop .inv) (c .loop-test .left)
+
+pub top-ready-spec : {M : Type 1} → statement M
+top-ready-spec =
+    tie.close
+    (tie.spec
+    Inv-loop
+    μ-loop
+    loop-holds
+    mul-wake-of
+    element-copy-out-wake-of
+    wake-of-requires
+    returns
+    add-i
+    loop-less
+    loop-again
+    returns-2)

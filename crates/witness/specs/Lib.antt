@@ -1,0 +1,7 @@
+-- The list of releases that a late verdict promises.
+pub mod Merge
+pub mod GapTimes
+pub mod Scenario
+pub mod SamePlace
+pub mod LateRun
+pub mod LateLaw
