@@ -1,0 +1,102 @@
+-- Laws of the two calls together: what is written is read again, and what is read passes the checks of the calls on values.
+use Prim.Native.Nat.{ℕ, _-_, _≤_, _<_}
+use mathlib.Core.Path.{_≡_, refl, sym, ap, ap₂, _∙_}
+use mathlib.Core.Option.{none}
+use mathlib.Core.List.{List, _++_, map}
+use native.Mathlib.Omega.{arith}
+use lib.ListN.{length, getD, replicate, length-map, length-append, List·getD-append, List·getD-map}
+use lib.Seq.{take-at, ext-getD}
+use Rattle.model.specs.Limits.{maxTasks}
+use Rattle.model.specs.Tasks.{Release, noRelease}
+use Rattle.model.specs.Refusal.{answered}
+use Rattle.model.specs.Checks.{checkReleases, refusalOf}
+use Rattle.model.specs.Calls.{releasesOf, listInputs}
+use Rattle.model.proofs.CheckLaws.{valid-of, valid-passes}
+use Rattle.releases.proofs.OrderLaws.{accepted-of, accepts, no-single, no-kept, no-unfit}
+use Rattle.releases.proofs.ReleaseLaws.{count-few, count-of, slots-next, slots-none, length-releases, release-at}
+use Rattle.taskset.specs.declared.Task.{Task}
+use Rattle.taskset.specs.declared.TaskSet.{TaskSet}
+use Rattle.taskset.specs.TaskSet.{noTask, viewOf}
+use Rattle.fileformat.specs.Numbers.{Bytes}
+use Rattle.fileformat.specs.File.{File, sheetOf, encode, decode, ValidFile}
+use Rattle.fileformat.specs.FileCalls.{tasksIn, setOf, writeInputs, fileOf}
+use Rattle.fileformat.proofs.SheetLaws.{Agree, same-sheet, valid-agrees, releases-agree}
+use Rattle.fileformat.proofs.RoundTrips.{decode-encode, encode-decode, decode-valid}
+
+-- a write that is not refused writes a valid file, which is read again
+module _ (s : TaskSet) (n : ℕ) (task tick cost : List ℕ) (room : ℕ) (h : s .count ≤ length (s .tasks)) (e : none ≡ refusalOf (writeInputs (viewOf s) n task tick cost room)) where
+  pub written-valid : ValidFile (fileOf s n task tick cost)
+  written-valid =
+      let a = accepted-of _ e in
+      record {
+        tasks = sym (valid-passes _ (valid-agrees _ _ (same-sheet s h) (valid-of (viewOf s) (sym (a .tasks)))));
+        releases = sym (a .releases ∙ releases-agree _ _ 0 0 _ (same-sheet s h));
+        few = omega (arith, count-of n (a .count), length-releases n task tick cost);
+      }
+
+  pub written-read : decode (encode (fileOf s n task tick cost)) ≡ answered (fileOf s n task tick cost)
+  written-read = decode-encode (fileOf s n task tick cost) written-valid
+
+-- the tasks of the set that is returned
+pub tasks-of-set : (l : List Task) → tasksIn (setOf l) ≡ l
+unfolding tasksIn setOf
+tasks-of-set l = take-at l (replicate (maxTasks - length l) noTask) (length l) refl
+
+pub set-sheet : (l : List Task) → Agree (sheetOf l) (viewOf (setOf l))
+unfolding setOf
+set-sheet l =
+    let e : (i : ℕ) → i < length l → getD l i noTask ≡ getD (l ++ replicate (maxTasks - length l) noTask) i noTask = λ i k. sym (List·getD-append l (replicate (maxTasks - length l) noTask) noTask i k) in
+    record {
+      count = refl;
+      period = λ i k. ap (λ t. t .period) (e i k);
+      jitter = λ i k. ap (λ t. t .jitter) (e i k);
+      cost = λ i k. ap (λ t. t .cost) (e i k);
+      deadline = λ i k. ap (λ t. t .deadline) (e i k);
+    }
+
+-- the releases of the columns that are written
+module _ (l : List Release) (a b c : List ℕ) where
+  abbrev tasks : List ℕ
+  tasks = map (λ r. r .task) l ++ a
+
+  abbrev ticks : List ℕ
+  ticks = map (λ r. r .tick) l ++ b
+
+  abbrev costs : List ℕ
+  costs = map (λ r. r .cost) l ++ c
+
+  entry : (g : Release → ℕ) (x : List ℕ) (i : ℕ) → i < length l → getD (map g l ++ x) i (g noRelease) ≡ g (getD l i noRelease)
+  entry g x i k =
+      let m : length (map g l) ≡ length l = length-map l g in
+      List·getD-append (map g l) x (g noRelease) i (omega arith) ∙ List·getD-map g l i noRelease
+
+  pub releases-of-columns : releasesOf (length l) tasks ticks costs ≡ l
+  releases-of-columns =
+      ext-getD noRelease (releasesOf (length l) tasks ticks costs) l (length-releases (length l) tasks ticks costs)
+      (λ i k.
+      let h : i < length l = omega (arith, length-releases (length l) tasks ticks costs) in
+      release-at (length l) tasks ticks costs i h
+      ∙ rw (entry (λ r. r .task) a i h, entry (λ r. r .tick) b i h, entry (λ r. r .cost) c i h))
+
+-- what is read passes the check of a list, on the set and the columns that a read gives
+pub read-passes : (f : List ℕ) (x : File) (a b c : List ℕ) → decode f ≡ answered x → none ≡ refusalOf (listInputs (viewOf (setOf (x .tasks))) (length (x .releases)) (map (λ r. r .task) (x .releases) ++ a) (map (λ r. r .tick) (x .releases) ++ b) (map (λ r. r .cost) (x .releases) ++ c))
+read-passes f x a b c e =
+    let v = decode-valid f x e in
+    let l = x .releases in
+    let long : (g : Release → ℕ) (y : List ℕ) → length (x .releases) ≤ length (map g (x .releases) ++ y) = λ g y. omega (arith, length-append (map g (x .releases)) y, length-map (x .releases) g) in
+    accepts _
+    (record {
+      tasks = valid-passes _ (valid-agrees _ _ (set-sheet (x .tasks)) (valid-of _ (v .tasks)));
+      single = no-single _;
+      count = count-few _ (v .few);
+      lent = slots-none ∙ sym (slots-next _ _ (long (λ r. r .task) a) ∙ slots-next _ _ (long (λ r. r .tick) b) ∙ slots-next _ _ (long (λ r. r .cost) c));
+      kept = no-kept _;
+      releases = sym (ap (checkReleases (viewOf (setOf (x .tasks))) 0 0) (releases-of-columns (x .releases) a b c) ∙ sym (releases-agree _ _ 0 0 (x .releases) (set-sheet (x .tasks))) ∙ v .releases);
+      unfit = no-unfit;
+    })
+
+-- what is read and written again is the accepted file
+pub read-written : (f : List ℕ) (x : File) (a b c : List ℕ) → Bytes f → decode f ≡ answered x → encode (fileOf (setOf (x .tasks)) (length (x .releases)) (map (λ r. r .task) (x .releases) ++ a) (map (λ r. r .tick) (x .releases) ++ b) (map (λ r. r .cost) (x .releases) ++ c)) ≡ f
+read-written f x a b c h e =
+    ap encode (ap₂ (λ t l. record { tasks = t; releases = l }) (tasks-of-set (x .tasks)) (releases-of-columns (x .releases) a b c))
+    ∙ encode-decode f x h e

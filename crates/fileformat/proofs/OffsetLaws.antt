@@ -1,0 +1,58 @@
+-- The record at an offset of a file, by the tests that a reader makes.
+use Prim.Native.Nat.{ℕ, _+_, _-_, _≤_, _<_}
+use mathlib.Core.Path.{_≡_, refl, sym, ap, _∙_}
+use mathlib.Core.List.{List, _∷_}
+use native.Mathlib.Omega.{arith}
+use native.Mathlib.Numerals.{add-one}
+use native.Mathlib.Nat.{add-zero}
+use lib.ListN.{length, getD, drop, length-drop, drop-of-length-le}
+use lib.Seq.{drop-cons}
+use Rattle.model.specs.Tasks.{Release}
+use Rattle.taskset.specs.declared.Task.{Task}
+use Rattle.fileformat.specs.Numbers.{field}
+use Rattle.fileformat.specs.Records.{Record, broken, taskRecord, releaseRecord, endRecord, taskFrom, releaseFrom, recordOf, sizeOf}
+use Rattle.fileformat.proofs.NumberLaws.{field-drop}
+use Rattle.fileformat.proofs.RecordLaws.{shape, size-in, record-due, record-unknown, record-task, record-task-cut, record-release, record-release-cut, record-end}
+
+module _ (f : List ℕ) (at : ℕ) where
+  pub at-due : length f ≤ at → broken 2 ≡ recordOf (drop at f)
+  at-due h = sym (ap recordOf (drop-of-length-le f h) ∙ record-due)
+
+  -- the kind byte and what follows it
+  from-kind : (k : ℕ) → at < length f → getD f at 0 ≡ k → drop at f ≡ k ∷ drop (at + 1) f
+  from-kind k h e = rw (add-one, ← e) (drop-cons f at 0 h)
+
+  body : length (drop (at + 1) f) ≡ length f - (at + 1)
+  body = length-drop (at + 1) f
+
+  pub at-task-cut : at < length f → getD f at 0 ≡ 1 → length f - at < 17 → broken 2 ≡ recordOf (drop at f)
+  at-task-cut h e l = sym (ap recordOf (from-kind 1 h e) ∙ record-task-cut _ (omega (arith, body)))
+
+  pub at-task : (t : Task) → at < length f → getD f at 0 ≡ 1 → 17 ≤ length f - at → t ≡ taskFrom (drop (at + 1) f) → taskRecord t ≡ recordOf (drop at f)
+  at-task t h e l q = ap taskRecord q ∙ sym (ap recordOf (from-kind 1 h e) ∙ record-task _ (omega (arith, body)))
+
+  pub at-release-cut : at < length f → getD f at 0 ≡ 2 → length f - at < 10 → broken 2 ≡ recordOf (drop at f)
+  at-release-cut h e l = sym (ap recordOf (from-kind 2 h e) ∙ record-release-cut _ (omega (arith, body)))
+
+  pub at-release : (r : Release) → at < length f → getD f at 0 ≡ 2 → 10 ≤ length f - at → r ≡ releaseFrom (drop (at + 1) f) → releaseRecord r ≡ recordOf (drop at f)
+  at-release r h e l q = ap releaseRecord q ∙ sym (ap recordOf (from-kind 2 h e) ∙ record-release _ (omega (arith, body)))
+
+  pub at-end : at < length f → getD f at 0 ≡ 3 → endRecord ≡ recordOf (drop at f)
+  at-end h e = sym (ap recordOf (from-kind 3 h e) ∙ record-end _)
+
+  pub at-unknown : at < length f → (getD f at 0 ≡ 1 → ⊥) → (getD f at 0 ≡ 2 → ⊥) → (getD f at 0 ≡ 3 → ⊥) → broken 1 ≡ recordOf (drop at f)
+  at-unknown h a b c = sym (ap recordOf (from-kind (getD f at 0) h refl) ∙ record-unknown _ _ a b c)
+
+  -- a record that is found ends within the file
+  pub room : (r : Record) → at ≤ length f → r ≡ recordOf (drop at f) → at + sizeOf r ≤ length f
+  room r h e = rw e (omega (arith, size-in (drop at f) (recordOf (drop at f)) (shape (drop at f)), length-drop at f))
+
+  -- its fields
+  pub task-fields : (p j e d : ℕ) → p ≡ field at 4 f → j ≡ field (at + 4) 4 f → e ≡ field (at + 8) 4 f → d ≡ field (at + 12) 4 f → _≡_ {A = Task} (record { period = p; jitter = j; cost = e; deadline = d }) (taskFrom (drop at f))
+  unfolding taskFrom
+  task-fields p j e d a b c g =
+      rw (field-drop at 0 4 f, field-drop at 4 4 f, field-drop at 8 4 f, field-drop at 12 4 f, a, b, c, g, add-zero)
+
+  pub release-fields : (i t c : ℕ) → i ≡ field at 1 f → t ≡ field (at + 1) 4 f → c ≡ field (at + 5) 4 f → _≡_ {A = Release} (record { task = i; tick = t; cost = c }) (releaseFrom (drop at f))
+  unfolding releaseFrom
+  release-fields i t c a b g = rw (field-drop at 0 1 f, field-drop at 1 4 f, field-drop at 5 4 f, a, b, g, add-zero)

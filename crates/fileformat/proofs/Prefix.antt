@@ -1,0 +1,128 @@
+-- The answer of a read depends on the first 10,801 bytes only: 32 tasks, 1,024 releases and one task record more.
+use Prim.Native.Nat.{ℕ, zero, suc, _+_, _*_, _-_, _≤_, _<_}
+use mathlib.Core.Path.{_≡_, refl, sym, ap, _∙_}
+use mathlib.Core.Bool.{Bool, true, false}
+use mathlib.Core.List.{List, [], _∷_}
+use native.Mathlib.Omega.{arith}
+use borrow.Author.Tests.{eqb-true, eqb-false}
+use lib.Dec.{eqb}
+use lib.ListN.{length, take, drop, length-take, length-drop, length-append}
+use lib.Seq.{take-take}
+use Rattle.model.specs.Limits.{maxTasks, maxReleases}
+use Rattle.fileformat.specs.Records.{Record, taskRecord, releaseRecord, taskFrom, releaseFrom, whole, recordOf, sizeOf}
+use Rattle.fileformat.specs.File.{State, Step, next, withTask, withRelease, advance, afterEnd, readFrom, empty, decode}
+use Rattle.fileformat.proofs.NumberLaws.{by-order, drop-take, field-take}
+use Rattle.fileformat.proofs.RecordLaws.{shape, size-in, whole-is, whole-cut, record-unknown}
+use Rattle.fileformat.proofs.StepLaws.{Moves, stops, takes-task, takes-release, ends, moves, read-stop, read-next, read-last}
+
+whole-take : (n m : ℕ) (l : List ℕ) (r r′ : Record) → n ≤ m → r ≡ r′ → whole n (take m l) r ≡ whole n l r′
+whole-take n m l r r′ h e =
+    by-order n (length l)
+    (λ g. whole-is n (take m l) r (omega (arith, length-take m l)) ∙ e ∙ sym (whole-is n l r′ g))
+    (λ g. whole-cut n (take m l) r (omega (arith, length-take m l)) ∙ sym (whole-cut n l r′ g))
+
+task-take : (m : ℕ) (l : List ℕ) → 16 ≤ m → taskFrom (take m l) ≡ taskFrom l
+unfolding taskFrom
+task-take m l h =
+    rw (field-take 0 4 m l (omega arith), field-take 4 4 m l (omega arith), field-take 8 4 m l (omega arith), field-take 12 4 m l (omega arith))
+
+release-take : (m : ℕ) (l : List ℕ) → 16 ≤ m → releaseFrom (take m l) ≡ releaseFrom l
+unfolding releaseFrom
+release-take m l h = rw (field-take 0 1 m l (omega arith), field-take 1 4 m l (omega arith), field-take 5 4 m l (omega arith))
+
+-- a record depends on the first 17 bytes only
+body-take : (k m : ℕ) (l : List ℕ) → 16 ≤ m → recordOf (k ∷ take m l) ≡ recordOf (k ∷ l)
+unfolding recordOf
+body-take k m l h = one (eqb k 1) refl
+  where
+    three : (k ≡ 1 → ⊥) → (k ≡ 2 → ⊥) → (b : Bool) → eqb k 3 ≡ b → recordOf (k ∷ take m l) ≡ recordOf (k ∷ l)
+    three x y true e = rw (eqb-true k 3 e) (whole-take 0 m l _ _ (omega arith) refl)
+    three x y false e = record-unknown k (take m l) x y (eqb-false k 3 e) ∙ sym (record-unknown k l x y (eqb-false k 3 e))
+
+    two : (k ≡ 1 → ⊥) → (b : Bool) → eqb k 2 ≡ b → recordOf (k ∷ take m l) ≡ recordOf (k ∷ l)
+    two x true e = rw (eqb-true k 2 e) (whole-take 9 m l _ _ (omega arith) (ap releaseRecord (release-take m l h)))
+    two x false e = three x (eqb-false k 2 e) (eqb k 3) refl
+
+    one : (b : Bool) → eqb k 1 ≡ b → recordOf (k ∷ take m l) ≡ recordOf (k ∷ l)
+    one true e = rw (eqb-true k 1 e) (whole-take 16 m l _ _ h (ap taskRecord (task-take m l h)))
+    one false e = two (eqb-false k 1 e) (eqb k 2) refl
+
+record-take : (m : ℕ) (f : List ℕ) → 17 ≤ m → recordOf (take m f) ≡ recordOf f
+record-take zero f h = absurd (omega arith)
+record-take (suc m) [] h = refl
+record-take (suc m) (k ∷ l) h = body-take k m l (omega arith)
+
+end-take : (s : State) (at m : ℕ) (l : List ℕ) → 1 ≤ m → afterEnd s at (take m l) ≡ afterEnd s at l
+unfolding afterEnd
+end-take s at zero l h = absurd (omega arith)
+end-take s at (suc m) [] h = refl
+end-take s at (suc m) (b ∷ l) h = refl
+
+-- where a reading stands: so many bytes were read for the tasks and releases, and m more are looked at
+record Stands (s : State) (at m : ℕ) : Type 0 where
+  offset : at ≡ 17 * length (s .tasks) + 10 * length (s .releases)
+  few-tasks : length (s .tasks) ≤ maxTasks
+  few-releases : length (s .releases) ≤ maxReleases
+  ahead : m + at ≡ 10801
+
+module _ (n n′ : ℕ) (s : State) (at m : ℕ) (f : List ℕ) (a : Stands s at m) (h : length f < suc n) (h′ : length (take m f) < suc n′) where
+  abbrev Rest : ℕ → Type 0
+  Rest k = (s′ : State) → Stands s′ (at + k) (m - k) → length (drop k f) < n → length (take (m - k) (drop k f)) < n′ → readFrom n′ s′ (at + k) (take (m - k) (drop k f)) ≡ readFrom n s′ (at + k) (drop k f)
+
+  long-enough : 17 ≤ m
+  long-enough = omega (arith, a .offset, a .few-tasks, a .few-releases, a .ahead)
+
+  taken : (r : Record) (s′ : State) → recordOf f ≡ r → recordOf (take m f) ≡ r → advance s r ≡ next s′ → 1 ≤ sizeOf r → sizeOf r ≤ 17 → Stands s′ (at + sizeOf r) (m - sizeOf r) → Rest (sizeOf r) → readFrom (suc n′) s at (take m f) ≡ readFrom (suc n) s at f
+  taken r s′ d d′ e l l′ b ih =
+      let i : sizeOf r ≤ length f = size-in f r (rw d at (shape f)) in
+      let c : drop (sizeOf r) (take m f) ≡ take (m - sizeOf r) (drop (sizeOf r) f) = drop-take (sizeOf r) m f (omega (arith, long-enough)) in
+      read-next n′ s at (take m f) r d′ s′ e
+      ∙ ap (readFrom n′ s′ (at + sizeOf r)) c
+      ∙ ih s′ b (omega (arith, length-drop (sizeOf r) f)) (omega (arith, ap length c, length-drop (sizeOf r) (take m f), length-take m f, long-enough))
+      ∙ sym (read-next n s at f r d s′ e)
+
+  one-step : (r : Record) (t : Step) → recordOf f ≡ r → advance s r ≡ t → Moves s r t → Rest (sizeOf r) → readFrom (suc n′) s at (take m f) ≡ readFrom (suc n) s at f
+  unfolding sizeOf
+  one-step r t d e (stops q k) ih =
+      read-stop n′ s at (take m f) r (record-take m f long-enough ∙ d) k e ∙ sym (read-stop n s at f r d k e)
+  one-step r t d e (takes-task t′ z l g) ih =
+      taken r (withTask s t′) d (record-take m f long-enough ∙ d) e (omega arith) (omega arith)
+      (record {
+        offset = omega (arith, a .offset, length-append (s .tasks) (t′ ∷ []));
+        few-tasks = omega (arith, length-append (s .tasks) (t′ ∷ []));
+        few-releases = a .few-releases;
+        ahead = omega (arith, a .ahead, long-enough);
+      })
+      ih
+  one-step r t d e (takes-release r′ l g q) ih =
+      taken r (withRelease s r′) d (record-take m f long-enough ∙ d) e (omega arith) (omega arith)
+      (record {
+        offset = omega (arith, a .offset, length-append (s .releases) (r′ ∷ []));
+        few-tasks = a .few-tasks;
+        few-releases = omega (arith, length-append (s .releases) (r′ ∷ []));
+        ahead = omega (arith, a .ahead, long-enough);
+      })
+      ih
+  one-step r t d e (ends l) ih =
+      read-last n′ s at (take m f) r (record-take m f long-enough ∙ d) e
+      ∙ ap (afterEnd s (at + 1)) (drop-take 1 m f (omega (arith, long-enough)))
+      ∙ end-take s (at + 1) (m - 1) (drop 1 f) (omega (arith, long-enough))
+      ∙ sym (read-last n s at f r d e)
+
+prefix-from : (n n′ : ℕ) (s : State) (at m : ℕ) (f : List ℕ) → Stands s at m → length f < n → length (take m f) < n′ → readFrom n′ s at (take m f) ≡ readFrom n s at f
+prefix-from zero n′ s at m f a h h′ = absurd (omega arith)
+prefix-from (suc n) zero s at m f a h h′ = absurd (omega arith)
+prefix-from (suc n) (suc n′) s at m f a h h′ =
+    one-step n n′ s at m f a h h′ (recordOf f) (advance s (recordOf f)) refl refl (moves s (recordOf f))
+    (λ s′ b g g′. prefix-from n n′ s′ (at + sizeOf (recordOf f)) (m - sizeOf (recordOf f)) (drop (sizeOf (recordOf f)) f) b g g′)
+
+-- the bytes that decide a read
+pub decode-prefix : (f : List ℕ) → decode (take 10801 f) ≡ decode f
+unfolding decode
+decode-prefix f =
+    prefix-from (suc (length f)) (suc (length (take 10801 f))) empty 0 10801 f
+    (record { offset = refl; few-tasks = omega arith; few-releases = omega arith; ahead = refl }) (omega arith) (omega arith)
+
+-- and so do more bytes
+pub decode-first : (n : ℕ) (f : List ℕ) → 10801 ≤ n → decode (take n f) ≡ decode f
+decode-first n f h = sym (decode-prefix (take n f)) ∙ ap decode (take-take 10801 n f h) ∙ decode-prefix f

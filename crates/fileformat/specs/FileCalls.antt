@@ -1,0 +1,68 @@
+-- The calls "read" and "write": what each answers, as one equation with the definitions.
+use Prim.Native.Nat.{ℕ, _+_, _*_, _-_}
+use mathlib.Core.Option.{some, none}
+use mathlib.Core.List.{List, [], _∷_, _++_, map}
+use lib.ListN.{length, take, replicate}
+use Rattle.model.specs.Limits.{maxTasks}
+use Rattle.model.specs.Tasks.{Tasks, Release}
+use Rattle.model.specs.Refusal.{Answer, refused, answered}
+use Rattle.model.specs.Checks.{Inputs, checkSlots}
+use Rattle.model.specs.Calls.{lends, releasesOf, columnAfter}
+use Rattle.taskset.specs.declared.Task.{Task}
+use Rattle.taskset.specs.declared.TaskSet.{TaskSet}
+use Rattle.taskset.specs.TaskSet.{noTask}
+use Rattle.fileformat.specs.File.{File, decode}
+
+-- the tasks of a task set; entries past the count are not looked at
+unfoldable pub tasksIn : TaskSet → List Task
+tasksIn s = take (s .count) (s .tasks)
+
+-- the task set of some tasks: entries past the count are 0
+unfoldable pub setOf : List Task → TaskSet
+setOf l = record { tasks = l ++ replicate (maxTasks - length l) noTask; count = length l }
+
+-- read: the first refusal of the file, then 13 for the columns task, tick and cost, else what the file holds
+unfoldable pub readCall : List ℕ → List ℕ → List ℕ → List ℕ → Answer File
+readCall f task tick cost =
+    elim (decode f) [
+      | refused q ↦ refused q
+      | answered x ↦
+          elim (checkSlots (lends (length (x .releases)) task ∷ lends (length (x .releases)) tick ∷ lends (length (x .releases)) cost ∷ [])) [
+            | none ↦ answered x
+            | some q ↦ refused q
+          ]
+    ]
+
+-- its answer as a value: the number of releases
+unfoldable pub readCount : Answer File → Answer ℕ
+readCount (refused q) = refused q
+readCount (answered x) = answered (length (x .releases))
+
+-- the sheet that is returned; no task after a refusal
+unfoldable pub readSheet : Answer File → TaskSet
+readSheet (refused q) = setOf []
+readSheet (answered x) = setOf (x .tasks)
+
+-- what stands in a column afterwards
+unfoldable pub readColumn : (Release → ℕ) → Answer File → List ℕ → List ℕ
+readColumn g (refused q) held = columnAfter (some q) [] held
+readColumn g (answered x) held = columnAfter none (map g (x .releases)) held
+
+-- write: a sheet, a list of n releases in three columns, and room for bytes, of which 17 for each task, 10 for each release and 1 are needed
+unfoldable pub bytesNeeded : ℕ → ℕ → ℕ
+bytesNeeded tasks releases = 17 * tasks + 10 * releases + 1
+
+abbrev pub writeInputs : Tasks → ℕ → List ℕ → List ℕ → List ℕ → ℕ → Inputs
+writeInputs s n task tick cost room = record {
+  tasks = s;
+  single = none;
+  count = some n;
+  lent = lends n task ∷ lends n tick ∷ lends n cost ∷ record { needed = bytesNeeded (s .count) n; slots = room } ∷ [];
+  kept = none;
+  releases = releasesOf n task tick cost;
+  unfit = none;
+}
+
+-- the file that is written
+abbrev pub fileOf : TaskSet → ℕ → List ℕ → List ℕ → List ℕ → File
+fileOf s n task tick cost = record { tasks = tasksIn s; releases = releasesOf n task tick cost }

@@ -1,0 +1,11 @@
+use mathlib.Core.Path.{refl}
+use Rattle.fileformat.specs.FileCalls.{setOf}
+use Rattle.reader.proofs.no_tasks.Statement.{statement}
+use Rattle.reader.proofs.no_tasks.Tie as tie
+
+returns : tie.Need-returns
+unfolding setOf
+returns c = refl
+
+pub no-tasks-spec : {M : Type 1} → statement M
+no-tasks-spec = tie.close (tie.spec returns)

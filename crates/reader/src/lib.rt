@@ -1,0 +1,340 @@
+// Reader of the file.
+use taskset::Checked;
+use taskset::Task;
+use taskset::TaskSet;
+ghost use mathlib.Core.Path.{_≡_};
+ghost use mathlib.Core.List.{[]};
+ghost use Prim.Native.Nat.{_≤_, _<_, _+_};
+ghost use lib.ListN.{length, drop};
+ghost use Rattle.taskset.specs.TaskSet.{viewOf, refusalIn};
+ghost use Rattle.releases.specs.Releases.{faultAt};
+ghost use Rattle.fileformat.specs.Numbers.{field};
+ghost use Rattle.fileformat.specs.Records.{taskFrom, releaseFrom, recordOf};
+ghost use Rattle.fileformat.specs.File.{taskFault, listFault};
+ghost use Rattle.fileformat.specs.FileCalls.{setOf};
+ghost use Rattle.reader.specs.Reader.{releaseOf, recordIn, listed, ScanSays, Refuses, ReadSays};
+
+// A release as it stands in a file.
+pub struct Job {
+    pub task: u32,
+    pub tick: u32,
+    pub cost: u32,
+}
+
+// A list of releases: a count and 1,024 entries.
+pub struct Jobs {
+    pub jobs: [Job; 1024],
+    pub count: usize,
+}
+
+// The record at an offset, or what is wrong with it.
+pub enum Found {
+    Broken { number: u32 },
+    OfTask { task: Task },
+    OfRelease { job: Job },
+    End,
+}
+
+// What the scan of a whole file gives: a refusal and nothing, or the tasks and the releases.
+pub struct Scanned {
+    pub answer: Checked,
+    pub tasks: TaskSet,
+    pub jobs: Jobs,
+}
+
+fn wide(b: u8) -> u32
+    ensures { λ r. ⌜ (r ≡ b) × (r < 256) ⌝ }
+{
+    b as u32
+}
+
+// The number of the four bytes at an offset, the low byte first.
+fn number_at(f: &[u8], at: usize) -> u32
+    requires { ⌜ at + 4 ≤ length (now f) ⌝ }
+    ensures { λ r. ⌜ r ≡ field at 4 (now (f .entry)) ⌝ }
+{
+    let a = wide(f[at]);
+    let b = wide(f[at + 1]);
+    let c = wide(f[at + 2]);
+    let d = wide(f[at + 3]);
+    a + 256 * b + 65536 * c + 16777216 * d
+}
+
+// The body of a task record.
+fn task_at(f: &[u8], at: usize) -> Task
+    requires { ⌜ at + 16 ≤ length (now f) ⌝ }
+    ensures { λ r. ⌜ r ≡ taskFrom (drop at (now (f .entry))) ⌝ }
+{
+    let period = number_at(f, at);
+    let jitter = number_at(f, at + 4);
+    let cost = number_at(f, at + 8);
+    let deadline = number_at(f, at + 12);
+    Task {
+        period: period,
+        jitter: jitter,
+        cost: cost,
+        deadline: deadline,
+    }
+}
+
+// The body of a release record.
+fn job_at(f: &[u8], at: usize) -> Job
+    requires { ⌜ at + 9 ≤ length (now f) ⌝ }
+    ensures { λ r. ⌜ releaseOf r ≡ releaseFrom (drop at (now (f .entry))) ⌝ }
+{
+    let task = wide(f[at]);
+    let tick = number_at(f, at + 1);
+    let cost = number_at(f, at + 5);
+    Job {
+        task: task,
+        tick: tick,
+        cost: cost,
+    }
+}
+
+// The record at an offset: 1 where there is no such kind, 2 where the file ends inside it or where a kind is due.
+fn record_at(f: &[u8], at: usize) -> Found
+    requires { ⌜ at ≤ length (now f) ⌝ }
+    ensures { λ r. ⌜ recordIn r ≡ recordOf (drop at (now (f .entry))) ⌝ }
+{
+    let left = f.len() - at;
+    if left == 0 {
+        return Found::Broken { number: 2 };
+    }
+    let kind = f[at];
+    if kind == 1 {
+        if left < 17 {
+            return Found::Broken { number: 2 };
+        }
+        let task = task_at(f, at + 1);
+        return Found::OfTask { task: task };
+    }
+    if kind == 2 {
+        if left < 10 {
+            return Found::Broken { number: 2 };
+        }
+        let job = job_at(f, at + 1);
+        return Found::OfRelease { job: job };
+    }
+    if kind == 3 {
+        return Found::End;
+    }
+    Found::Broken { number: 1 }
+}
+
+// What is wrong with a task record after so many tasks and releases: 3, 4 or 6, with the offset given.
+fn check_task(tasks: usize, releases: usize, at: usize, t: Task) -> Checked
+    ensures { λ r. ⌜ refusalIn r ≡ faultAt at (taskFault tasks releases t) ⌝ }
+{
+    if 0 < releases {
+        return Checked::Refused {
+            number: 3,
+            place: at,
+        };
+    }
+    if 32 <= tasks {
+        return Checked::Refused {
+            number: 4,
+            place: at,
+        };
+    }
+    if !taskset::in_range(t) {
+        return Checked::Refused {
+            number: 6,
+            place: at,
+        };
+    }
+    Checked::Fine
+}
+
+// What is wrong with a release record after so many releases: 5, 7, 8, 9 or 10, with the offset given.
+fn check_job(s: TaskSet, releases: usize, at: usize, before: u32, j: Job) -> Checked
+    requires { ⌜ s .count ≤ 32 ⌝ }
+    ensures { λ r. ⌜ refusalIn r ≡ faultAt at (listFault (viewOf s) releases before (releaseOf j)) ⌝ }
+{
+    if s.count == 0 {
+        return Checked::Refused {
+            number: 5,
+            place: at,
+        };
+    }
+    let k = releases::check_release(s, at, before, j.task, j.tick, j.cost);
+    if let Checked::Refused { number, place } = k {
+        return Checked::Refused {
+            number: number,
+            place: place,
+        };
+    }
+    if 1024 <= releases {
+        return Checked::Refused {
+            number: 10,
+            place: at,
+        };
+    }
+    Checked::Fine
+}
+
+// No tasks.
+fn no_tasks() -> TaskSet
+    ensures { λ r. ⌜ r ≡ setOf [] ⌝ }
+{
+    let t = Task {
+        period: 0,
+        jitter: 0,
+        cost: 0,
+        deadline: 0,
+    };
+    TaskSet {
+        tasks: [t; 32],
+        count: 0,
+    }
+}
+
+// No releases.
+fn no_jobs() -> Jobs
+    ensures { λ r. ⌜ (r .count ≡ 0) × (length (r .jobs) ≡ 1024) ⌝ }
+{
+    let j = Job {
+        task: 0,
+        tick: 0,
+        cost: 0,
+    };
+    Jobs {
+        jobs: [j; 1024],
+        count: 0,
+    }
+}
+
+// A refusal of the scan.
+fn refused(number: u32, place: usize) -> Scanned
+    ensures { λ r. ⌜ Refuses number place r ⌝ }
+{
+    let tasks = no_tasks();
+    let jobs = no_jobs();
+    Scanned {
+        answer: Checked::Refused {
+            number: number,
+            place: place,
+        },
+        tasks: tasks,
+        jobs: jobs,
+    }
+}
+
+// The whole file, record by record.
+fn scan(f: &[u8]) -> Scanned
+    ensures { λ r. ⌜ ScanSays (now (f .entry)) r ⌝ }
+{
+    let mut tasks = no_tasks();
+    let mut jobs = no_jobs();
+    let mut before = 0;
+    let mut at = 0;
+    loop {
+        let r = record_at(f, at);
+        match r {
+            Found::Broken { number } => {
+                return refused(number, at);
+            }
+            Found::OfTask { task } => {
+                let n = tasks.count;
+                let k = check_task(n, jobs.count, at, task);
+                if let Checked::Refused { number, place } = k {
+                    return refused(number, place);
+                }
+                tasks.tasks[n] = task;
+                tasks.count = n + 1;
+                at += 17;
+                continue;
+            }
+            Found::OfRelease { job } => {
+                let n = jobs.count;
+                let k = check_job(tasks, n, at, before, job);
+                if let Checked::Refused { number, place } = k {
+                    return refused(number, place);
+                }
+                jobs.jobs[n] = job;
+                jobs.count = n + 1;
+                before = job.tick;
+                at += 10;
+                continue;
+            }
+            Found::End => {
+                if tasks.count == 0 {
+                    return refused(5, at);
+                }
+                if at + 1 < f.len() {
+                    return refused(11, at + 1);
+                }
+                return Scanned {
+                    answer: Checked::Fine,
+                    tasks: tasks,
+                    jobs: jobs,
+                };
+            }
+        }
+    }
+}
+
+// The answer of a read: the number of releases, or document 01's number and place.
+pub enum ReadOutcome {
+    Read { releases: usize },
+    Refused { number: u32, place: usize },
+}
+
+// The answer and the sheet; after a refusal a sheet of no task. Entries past the count are 0.
+pub struct ReadAnswer {
+    pub outcome: ReadOutcome,
+    pub tasks: TaskSet,
+}
+
+// Writes a list of releases to three columns; slots past it keep what they held.
+fn put_columns(l: Jobs, task: &mut [u32], tick: &mut [u32], cost: &mut [u32])
+    requires { ⌜ (l .count ≤ 1024) × (l .count ≤ length (l .jobs)) × (l .count ≤ length (now task)) × (l .count ≤ length (now tick)) × (l .count ≤ length (now cost)) ⌝ }
+    ensures { λ _. ⌜ (now (task .exit) ≡ listed (λ r. r .task) l (now (task .entry))) × (now (tick .exit) ≡ listed (λ r. r .tick) l (now (tick .entry))) × (now (cost .exit) ≡ listed (λ r. r .cost) l (now (cost .entry))) ⌝ }
+{
+    let count = l.count;
+    let mut i = 0;
+    while i < count {
+        let j = l.jobs[i];
+        task[i] = j.task;
+        tick[i] = j.tick;
+        cost[i] = j.cost;
+        i += 1;
+    }
+}
+
+// Reads a file: the sheet and, to the columns lent, its releases. The columns are checked (13) after the whole file; a refusal changes no slot.
+pub fn read(f: &[u8], task: &mut [u32], tick: &mut [u32], cost: &mut [u32]) -> ReadAnswer
+    ensures { λ r. ⌜ ReadSays (now (f .entry)) (now (task .entry)) (now (tick .entry)) (now (cost .entry)) r (now (task .exit)) (now (tick .exit)) (now (cost .exit)) ⌝ }
+{
+    let s = scan(f);
+    let answer = s.answer;
+    let tasks = s.tasks;
+    let jobs = s.jobs;
+    if let Checked::Refused { number, place } = answer {
+        return ReadAnswer {
+            outcome: ReadOutcome::Refused {
+                number: number,
+                place: place,
+            },
+            tasks: tasks,
+        };
+    }
+    let count = jobs.count;
+    let room = releases::check_columns(count, task, tick, cost);
+    if let Checked::Refused { number, place } = room {
+        let none = no_tasks();
+        return ReadAnswer {
+            outcome: ReadOutcome::Refused {
+                number: number,
+                place: place,
+            },
+            tasks: none,
+        };
+    }
+    put_columns(jobs, task, tick, cost);
+    ReadAnswer {
+        outcome: ReadOutcome::Read { releases: count },
+        tasks: tasks,
+    }
+}
