@@ -1,0 +1,84 @@
+use Rattle.report.specs.ReportLaws.{wider}
+use native.Mathlib.Omega.{arith}
+use lib.ListN.{replicate}
+use denote.Ref.{now}
+use Rattle.answers.specs.ReplayLaws.{halts, holds}
+use borrow.Author.Needs.{needs}
+use Rattle.answers.proofs.replay_text.Statement.{statement}
+use Rattle.answers.proofs.replay_text.Tie as tie
+
+slice-aggregate-read : tie.Need-slice-aggregate-read
+slice-aggregate-read c = search needs
+
+slice-aggregate-read-2 : tie.Need-slice-aggregate-read-2
+slice-aggregate-read-2 c = search needs
+
+slice-aggregate-read-3 : tie.Need-slice-aggregate-read-3
+slice-aggregate-read-3 c = search needs
+
+read-requires : tie.Need-read-requires
+read-requires c κs = search needs
+
+enum-known-outcome : tie.Need-enum-known-outcome
+enum-known-outcome c = search needs
+
+cast-put-refusal : tie.Need-cast-put-refusal
+cast-put-refusal c = omega (arith, c .before .before .before .before .before .before .before .before .before .before .before .before .before .before .pre .0, (halts (now (c .before .before .before .before .before .before .before .before .before .before .before .before .before .before .args .file)) (replicate 1024 0) (replicate 1024 0) (replicate 1024 0) (omega arith) (omega arith) (omega arith) _ _ _ (c .before .before .outcome .given .1) (c .before .before .before .before .before .before .before .before .read .ensures .outcome)) .small)
+
+put-refusal-requires : tie.Need-put-refusal-requires
+put-refusal-requires c κs = search needs
+
+enum-known-outcome-2 : tie.Need-enum-known-outcome-2
+enum-known-outcome-2 c = search needs
+
+slice-aggregate-put-replayed : tie.Need-slice-aggregate-put-replayed
+slice-aggregate-put-replayed c = search needs
+
+slice-aggregate-put-replayed-2 : tie.Need-slice-aggregate-put-replayed-2
+slice-aggregate-put-replayed-2 c = search needs
+
+slice-aggregate-put-replayed-3 : tie.Need-slice-aggregate-put-replayed-3
+slice-aggregate-put-replayed-3 c = search needs
+
+put-replayed-requires : tie.Need-put-replayed-requires
+put-replayed-requires c κs = (
+  (holds (now (c .before .before .before .before .before .before .before .before .before .before .before .before .before .before .before .before .before .args .file)) (replicate 1024 0) (replicate 1024 0) (replicate 1024 0) (omega arith) (omega arith) (omega arith) _ _ _ _ _ _ (c .before .before .before .before .before .outcome2 .given .1) (c .before .before .before .before .before .before .before .before .before .before .before .read .ensures .outcome) (c .before .before .before .before .before .before .before .before .before .before .before .read .ensures .sheet)
+      (c .before .before .before .before .before .before .before .before .before .before .before .read .ensures .task-column) (c .before .before .before .before .before .before .before .before .before .before .before .read .ensures .tick-column) (c .before .before .before .before .before .before .before .before .before .before .before .read .ensures .cost-column)) .listed,
+  c .before .before .before .before .before .before .before .before .before .before .before .before .before .before .before .before .before .pre .1,
+)
+
+same-length : tie.Need-same-length
+same-length c = search needs
+
+returns : tie.Need-returns
+returns c = wider 64 67648 _ _ _ _ _ (omega arith) (rw ((halts (now (c .before .before .before .before .before .before .before .before .before .before .before .before .before .before .before .before .before .args .file)) (replicate 1024 0) (replicate 1024 0) (replicate 1024 0) (omega arith) (omega arith) (omega arith) _ _ _ (c .before .before .before .before .before .outcome .given .1) (c .before .before .before .before .before .before .before .before .before .before .before .read .ensures .outcome)) .replay) at (c .before .before .put-refusal .ensures))
+
+same-length-2 : tie.Need-same-length-2
+same-length-2 c = search needs
+
+returns-2 : tie.Need-returns-2
+returns-2 c =
+    rw ((holds (now (c .before .before .before .before .before .before .before .before .before .before .before .before .before .before .before .before .before .before .before .before .args .file)) (replicate 1024 0) (replicate 1024 0) (replicate 1024 0) (omega arith) (omega arith) (omega arith) _ _ _ _ _ _ (c .before .before .before .before .before .before .before .before .outcome2 .given .1) (c .before .before .before .before .before .before .before .before .before .before .before .before .before .before .read .ensures .outcome) (c .before .before .before .before .before .before .before .before .before .before .before .before .before .before .read .ensures .sheet)
+    (c .before .before .before .before .before .before .before .before .before .before .before .before .before .before .read .ensures .task-column) (c .before .before .before .before .before .before .before .before .before .before .before .before .before .before .read .ensures .tick-column) (c .before .before .before .before .before .before .before .before .before .before .before .before .before .before .read .ensures .cost-column)) .replay)
+    at (c .before .before .put-replayed .ensures)
+
+pub replay-text-spec : {M : Type 1} → statement M
+replay-text-spec =
+    tie.close
+    (tie.spec
+    slice-aggregate-read
+    slice-aggregate-read-2
+    slice-aggregate-read-3
+    read-requires
+    enum-known-outcome
+    cast-put-refusal
+    put-refusal-requires
+    enum-known-outcome-2
+    slice-aggregate-put-replayed
+    slice-aggregate-put-replayed-2
+    slice-aggregate-put-replayed-3
+    put-replayed-requires
+    same-length
+    returns
+    same-length-2
+    returns-2)

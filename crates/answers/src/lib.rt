@@ -1,0 +1,106 @@
+// What each program prints for the bytes of a file, written into a lent buffer.
+use reader::ReadOutcome;
+use taskset::Checked;
+use taskset::TaskSet;
+ghost use mathlib.Core.Path.{_≡_};
+ghost use mathlib.Core.Option.{none};
+ghost use Prim.Native.Nat.{_≤_};
+ghost use lib.ListN.{length};
+ghost use Rattle.model.specs.Checks.{checkTasks};
+ghost use Rattle.model.specs.Choice.{choice};
+ghost use Rattle.model.specs.Calls.{releasesOf};
+ghost use Rattle.taskset.specs.TaskSet.{viewOf};
+ghost use Rattle.report.specs.ReportLaws.{PutLine};
+ghost use Rattle.answers.specs.Answers.{chosenText, chooseText, listText, replayText};
+ghost use Rattle.answers.specs.RunLaws.{Listed, Kept, keptText};
+
+// The text of the choice of a task set.
+fn put_chosen(s: TaskSet, out: &mut [u8]) -> usize
+    requires { ⌜ (none ≡ checkTasks (viewOf s)) × (2560 ≤ length (now out)) ⌝ }
+    ensures { λ r. ⌜ PutLine 2560 (now (out .entry)) 0 (chosenText (viewOf s) (choice (viewOf s))) (now (out .exit)) r ⌝ }
+{
+    let mut kept: [u32; 32] = [0; 32];
+    let mut worst: [u32; 32] = [0; 32];
+    let c = choice::choose(s, &mut kept, &mut worst);
+    match c {
+        Checked::Refused { number, place } => report::put_refusal(out, number, place as u32),
+        Checked::Fine => report::put_choice(out, s, &kept, &worst),
+    }
+}
+
+// The text of the run of n releases with kept jitters.
+fn put_ran(
+    s: TaskSet,
+    kept: &[u32],
+    n: usize,
+    task: &[u32],
+    tick: &[u32],
+    cost: &[u32],
+    out: &mut [u8],
+) -> usize
+    requires { ⌜ Kept (viewOf s) (now kept) × Listed (viewOf s) n (now task) (now tick) (now cost) × (67648 ≤ length (now out)) ⌝ }
+    ensures { λ r. ⌜ PutLine 67648 (now (out .entry)) 0 (keptText (viewOf s) (now (kept .entry)) n (now (task .entry)) (now (tick .entry)) (now (cost .entry))) (now (out .exit)) r ⌝ }
+{
+    let mut ready: [u32; 1024] = [0; 1024];
+    let mut finish: [u32; 1024] = [0; 1024];
+    let ran = schedule::run(s, kept, n, task, tick, cost, &mut ready, &mut finish);
+    match ran {
+        Checked::Refused { number, place } => report::put_refusal(out, number, place as u32),
+        Checked::Fine => report::put_run(out, n, task, tick, &ready, &finish),
+    }
+}
+
+// The text of the run of n releases with the chosen kept jitters.
+fn put_replayed(
+    s: TaskSet,
+    n: usize,
+    task: &[u32],
+    tick: &[u32],
+    cost: &[u32],
+    out: &mut [u8],
+) -> usize
+    requires { ⌜ Listed (viewOf s) n (now task) (now tick) (now cost) × (67648 ≤ length (now out)) ⌝ }
+    ensures { λ r. ⌜ PutLine 67648 (now (out .entry)) 0 (listText (viewOf s) n (now (task .entry)) (now (tick .entry)) (now (cost .entry)) (choice (viewOf s))) (now (out .exit)) r ⌝ }
+{
+    let mut kept: [u32; 32] = [0; 32];
+    let mut worst: [u32; 32] = [0; 32];
+    let c = choice::choose(s, &mut kept, &mut worst);
+    match c {
+        Checked::Refused { number, place } => report::put_refusal(out, number, place as u32),
+        Checked::Fine => put_ran(s, &kept, n, task, tick, cost, out),
+    }
+}
+
+// What the first program prints for a file of at most 10,801 bytes: the choice, or a refusal.
+pub fn choose_text(file: &[u8], out: &mut [u8]) -> usize
+    requires { ⌜ (length (now file) ≤ 10801) × (2560 ≤ length (now out)) ⌝ }
+    ensures { λ r. ⌜ PutLine 2560 (now (out .entry)) 0 (chooseText (now (file .entry))) (now (out .exit)) r ⌝ }
+{
+    let mut task: [u32; 1024] = [0; 1024];
+    let mut tick: [u32; 1024] = [0; 1024];
+    let mut cost: [u32; 1024] = [0; 1024];
+    let got = reader::read(file, &mut task, &mut tick, &mut cost);
+    let outcome = got.outcome;
+    let tasks = got.tasks;
+    match outcome {
+        ReadOutcome::Refused { number, place } => report::put_refusal(out, number, place as u32),
+        ReadOutcome::Read { releases: _ } => put_chosen(tasks, out),
+    }
+}
+
+// What the second program prints for a file of at most 10,801 bytes: the run with the chosen kept jitters, or a refusal.
+pub fn replay_text(file: &[u8], out: &mut [u8]) -> usize
+    requires { ⌜ (length (now file) ≤ 10801) × (67648 ≤ length (now out)) ⌝ }
+    ensures { λ r. ⌜ PutLine 67648 (now (out .entry)) 0 (replayText (now (file .entry))) (now (out .exit)) r ⌝ }
+{
+    let mut task: [u32; 1024] = [0; 1024];
+    let mut tick: [u32; 1024] = [0; 1024];
+    let mut cost: [u32; 1024] = [0; 1024];
+    let got = reader::read(file, &mut task, &mut tick, &mut cost);
+    let outcome = got.outcome;
+    let tasks = got.tasks;
+    match outcome {
+        ReadOutcome::Refused { number, place } => report::put_refusal(out, number, place as u32),
+        ReadOutcome::Read { releases } => put_replayed(tasks, releases, &task, &tick, &cost, out),
+    }
+}
