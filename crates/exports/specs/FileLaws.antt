@@ -1,0 +1,189 @@
+-- Laws of the numbers of tasks, and of how a read ends.
+use Prim.Native.Nat.{ℕ, suc, _+_, _*_, _≤_, _<_}
+use mathlib.Core.Path.{_≡_, refl, sym, ap, _∙_}
+use mathlib.Core.List.{List, [], _∷_, _++_}
+use native.Mathlib.Omega.{arith}
+use native.Mathlib.Numerals.{add-one}
+use borrow.Author.Tests.{lt-ltb, le-ltb}
+use lib.ListN.{length, getD, take, drop, set}
+use lib.Seq.{sets, length-sets, sets-eq, take-suc, take-all, length-take-le}
+use Rattle.model.specs.Refusal.{Refusal, Answer, refused, answered}
+use Rattle.model.specs.Calls.{columnAfter}
+use Rattle.taskset.specs.declared.Task.{Task}
+use Rattle.taskset.specs.declared.TaskSet.{TaskSet}
+use Rattle.taskset.specs.TaskSet.{noTask}
+use Rattle.fileformat.specs.File.{File}
+use Rattle.fileformat.specs.FileCalls.{setOf, readCall, readCount, readSheet, readColumn}
+use Rattle.exports.specs.Interface.{refusalCode, codeIn, wordsAfter, asWords, withWords}
+use Rattle.exports.specs.Files.{taskNumbers, numbersOf, fileWords, sheetNumbers, readAnswer, ReadEnds}
+
+pub numbers-append : (a b : List Task) → numbersOf (a ++ b) ≡ numbersOf a ++ numbersOf b
+unfolding numbersOf
+numbers-append [] b = refl
+numbers-append (t ∷ a) b = ap (λ (l : List ℕ). taskNumbers t ++ l) (numbers-append a b)
+
+pub length-numbers : (a : List Task) → length (numbersOf a) ≡ 4 * length a
+unfolding numbersOf
+length-numbers [] = refl
+length-numbers (t ∷ a) = let e = length-numbers a in omega (arith, e)
+
+-- a run of stores after another
+sets-more : (l a b : List ℕ) (i : ℕ) → sets l i (a ++ b) ≡ sets (sets l i a) (i + length a) b
+sets-more l [] b i = let e : i + 0 ≡ i = omega arith in rw e refl
+sets-more l (x ∷ a) b i =
+    let e : suc i + length a ≡ i + suc (length a) = omega arith in
+    sets-more l′ a b (suc i) ∙ ap (λ (k : ℕ). sets (sets l′ (suc i) a) k b) e
+  where
+    l′ : List ℕ
+    l′ = sets l i (x ∷ [])
+
+-- four stores, one after the other
+pub four-set : (l : List ℕ) (at a b c d : ℕ) → set (set (set (set l at a) (at + 1) b) (at + 2) c) (at + 3) d ≡ sets l at (a ∷ b ∷ c ∷ d ∷ [])
+four-set l at a b c d =
+    let x : at + 2 ≡ suc (suc at) = omega arith in
+    let y : at + 3 ≡ suc (suc (suc at)) = omega arith in
+    rw (add-one, x, y)
+
+-- the numbers of the first i of 32 entries are written
+pub record Put (held : List ℕ) (tasks : List Task) (now : List ℕ) (i : ℕ) : Type 0 where
+  pub many : length tasks ≡ 32
+  pub within : i ≤ 32
+  pub room : 128 ≤ length held
+  pub long : length now ≡ length held
+  pub whole : now ≡ sets held 0 (numbersOf (take i tasks))
+
+pub put-none : (held : List ℕ) (tasks : List Task) → length tasks ≡ 32 → 128 ≤ length held → Put held tasks held 0
+unfolding numbersOf
+put-none held tasks h g = record { many = h; within = omega arith; room = g; long = refl; whole = refl }
+
+pub put-next
+    : (held : List ℕ) (tasks : List Task) (now now′ : List ℕ) (i : ℕ)
+    → Put held tasks now i
+    → i < 32
+    → now′ ≡ sets now (4 * i) (taskNumbers (getD tasks i noTask))
+    → Put held tasks now′ (i + 1)
+unfolding numbersOf
+put-next held tasks now now′ i f h e =
+    let t = getD tasks i noTask in
+    let front = numbersOf (take i tasks) in
+    let n : length front ≡ 4 * i = length-numbers (take i tasks) ∙ ap (λ (k : ℕ). 4 * k) (length-take-le i tasks (omega (arith, f .many))) in
+    let n′ : 0 + length front ≡ 4 * i = omega (arith, n) in
+    let more : numbersOf (take (i + 1) tasks) ≡ front ++ taskNumbers t =
+    rw (add-one, take-suc tasks i noTask (omega (arith, f .many))) (numbers-append (take i tasks) (t ∷ [])) in
+    record {
+      many = f .many;
+      within = omega arith;
+      room = f .room;
+      long = ap length e ∙ length-sets now (4 * i) (taskNumbers t) ∙ f .long;
+      whole = e ∙ ap (λ (l : List ℕ). sets l (4 * i) (taskNumbers t)) (f .whole) ∙ sym (ap (sets held 0) more ∙ sets-more held front (taskNumbers t) 0 ∙ ap (λ (k : ℕ). sets (sets held 0 front) k (taskNumbers t)) n′);
+    }
+
+pub put-all : (held : List ℕ) (tasks : List Task) (now : List ℕ) (i : ℕ) → Put held tasks now i → 32 ≤ i → now ≡ numbersOf tasks ++ drop (length (numbersOf tasks)) held
+put-all held tasks now i f h =
+    let e : take i tasks ≡ tasks = take-all i tasks (omega (arith, f .many)) in
+    let n : length (numbersOf tasks) ≡ 128 = length-numbers tasks ∙ ap (λ (k : ℕ). 4 * k) (f .many) in
+    let z : 0 + length (numbersOf tasks) ≡ length (numbersOf tasks) = omega arith in
+    f .whole
+    ∙ ap (λ (l : List Task). sets held 0 (numbersOf l)) e
+    ∙ sets-eq (numbersOf tasks) held 0 (omega (arith, n, f .room))
+    ∙ ap (λ (k : ℕ). numbersOf tasks ++ drop k held) z
+
+module _ (f sheet task tick cost answer : List ℕ) where
+  abbrev ended : Answer File
+  ended = readAnswer f sheet task tick cost answer
+
+  few-words : length answer < 2 → ended ≡ refused (record { number = 13; place = 2 })
+  unfolding readAnswer withWords
+  few-words h = rw (readAnswer, withWords, lt-ltb (length answer) 2 h)
+
+  few-numbers : 2 ≤ length answer → length sheet < 128 → ended ≡ refused (record { number = 13; place = 128 })
+  unfolding readAnswer withWords
+  few-numbers h g = rw (readAnswer, withWords, le-ltb (length answer) 2 h, lt-ltb (length sheet) 128 g)
+
+  as-called : 2 ≤ length answer → 128 ≤ length sheet → ended ≡ readCall f task tick cost
+  unfolding readAnswer withWords
+  as-called h g = rw (readAnswer, withWords, le-ltb (length answer) 2 h, le-ltb (length sheet) 128 g)
+
+  halted : (a : Answer File) (r number place : ℕ) → a ≡ refused (record { number = number; place = place }) → r ≡ refusalCode number place
+      → ReadEnds a sheet task tick cost answer r sheet task tick cost answer
+  unfolding codeIn wordsAfter asWords readColumn columnAfter
+  halted a r number place e h = rw e (record { code = h; words = refl; numbers = refl; task-column = refl; tick-column = refl; cost-column = refl })
+
+  pub read-few-words : (r : ℕ) → length answer < 2 → r ≡ refusalCode 13 2 → ReadEnds ended sheet task tick cost answer r sheet task tick cost answer
+  read-few-words r h g = halted ended r 13 2 (few-words h) g
+
+  pub read-few-numbers
+      : (r : ℕ)
+      → 2 ≤ length answer
+      → length sheet < 128
+      → r ≡ refusalCode 13 128
+      → ReadEnds ended sheet task tick cost answer r sheet task tick cost answer
+  read-few-numbers r h g e = halted ended r 13 128 (few-numbers h g) e
+
+  -- a count that is a refusal is that of a read that is refused; one that is not tells the releases
+  refusal-of : (a : Answer File) (q : Refusal) → refused q ≡ readCount a → a ≡ refused q
+  unfolding readCount
+  refusal-of (refused p) q h = sym h′
+    where
+      h′ : _≡_ {A = Answer File} (refused q) (refused p)
+      h′ = cc
+  refusal-of (answered x) q h = let z : _≡_ {A = ℕ} 0 1 = cc in absurd (omega arith)
+
+  pub read-refused
+      : (r number place : ℕ) (task′ tick′ cost′ : List ℕ)
+      → 2 ≤ length answer
+      → 128 ≤ length sheet
+      → refused (record { number = number; place = place }) ≡ readCount (readCall f task tick cost)
+      → r ≡ refusalCode number place
+      → task′ ≡ readColumn (λ q. q .task) (readCall f task tick cost) task
+      → tick′ ≡ readColumn (λ q. q .tick) (readCall f task tick cost) tick
+      → cost′ ≡ readColumn (λ q. q .cost) (readCall f task tick cost) cost
+      → ReadEnds ended sheet task tick cost answer r sheet task′ tick′ cost′ answer
+  unfolding codeIn wordsAfter asWords
+  read-refused r number place task′ tick′ cost′ h g e i ta ti co =
+      let s = refusal-of (readCall f task tick cost) (record { number = number; place = place }) e in
+      rw (as-called h g) (record { code = rw s i; words = rw s refl; numbers = rw s refl; task-column = ta; tick-column = ti; cost-column = co })
+
+  -- the code, the words and the numbers of a read that is answered
+  module _ (n : ℕ) (s : TaskSet) where
+    read-code : (a : Answer File) → answered n ≡ readCount a → 0 ≡ codeIn a
+    unfolding readCount codeIn
+    read-code (refused p) e = let z : _≡_ {A = ℕ} 0 1 = cc in absurd (omega arith)
+    read-code (answered x) e = refl
+
+    read-words : (a : Answer File) → answered n ≡ readCount a → s ≡ readSheet a → s .count ∷ n ∷ drop 2 answer ≡ wordsAfter (asWords fileWords a) answer
+    unfolding readCount readSheet wordsAfter asWords fileWords setOf
+    read-words (refused p) e i = let z : _≡_ {A = ℕ} 0 1 = cc in absurd (omega arith)
+    read-words (answered x) e i = let m : n ≡ length (x .releases) = cc in rw (i, m) refl
+
+    read-numbers
+        : (a : Answer File)
+        → answered n ≡ readCount a
+        → s ≡ readSheet a
+        → numbersOf (s .tasks) ++ drop (length (numbersOf (s .tasks))) sheet ≡ wordsAfter (asWords sheetNumbers a) sheet
+    unfolding readCount readSheet wordsAfter asWords sheetNumbers
+    read-numbers (refused p) e i = let z : _≡_ {A = ℕ} 0 1 = cc in absurd (omega arith)
+    read-numbers (answered x) e i = rw i refl
+
+  pub read-answered
+      : (n : ℕ) (s : TaskSet) (sheet′ task′ tick′ cost′ answer′ : List ℕ)
+      → 2 ≤ length answer
+      → 128 ≤ length sheet
+      → answered n ≡ readCount (readCall f task tick cost)
+      → s ≡ readSheet (readCall f task tick cost)
+      → sheet′ ≡ numbersOf (s .tasks) ++ drop (length (numbersOf (s .tasks))) sheet
+      → answer′ ≡ s .count ∷ n ∷ drop 2 answer
+      → task′ ≡ readColumn (λ q. q .task) (readCall f task tick cost) task
+      → tick′ ≡ readColumn (λ q. q .tick) (readCall f task tick cost) tick
+      → cost′ ≡ readColumn (λ q. q .cost) (readCall f task tick cost) cost
+      → ReadEnds ended sheet task tick cost answer 0 sheet′ task′ tick′ cost′ answer′
+  read-answered n s sheet′ task′ tick′ cost′ answer′ h g e i se an ta ti co =
+      let a = readCall f task tick cost in
+      rw (as-called h g) (record {
+        code = read-code n s a e;
+        words = an ∙ read-words n s a e i;
+        numbers = se ∙ read-numbers n s a e i;
+        task-column = ta;
+        tick-column = ti;
+        cost-column = co;
+      })

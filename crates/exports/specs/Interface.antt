@@ -1,0 +1,68 @@
+-- The C interface: a sheet passed as numbers, refusals as codes, answers as words in a lent slice.
+use Prim.Native.Nat.{ℕ, _+_, _*_, _%_}
+use mathlib.Core.Path.{_≡_}
+use mathlib.Core.Bool.{true, false}
+use mathlib.Core.Option.{Option, some, none}
+use mathlib.Core.List.{List, [], _∷_, _++_}
+use lib.ListN.{length, getD, drop}
+use lib.Dec.{ltb}
+use lib.IntN.{natAbs}
+use Rattle.model.specs.Series.{table}
+use Rattle.model.specs.Verdict.{Verdict, horizon, late, fits}
+use Rattle.model.specs.Refusal.{Refusal, Answer, refused, answered}
+use Rattle.taskset.specs.declared.Task.{Task}
+use Rattle.taskset.specs.declared.TaskSet.{TaskSet}
+
+-- the entry of task i in a sheet passed as numbers: P, J, E and D of task 0, then of task 1, ..; numbers past the end count as 0
+unfoldable pub taskAt : List ℕ → ℕ → Task
+taskAt l i = record { period = getD l (4 * i) 0; jitter = getD l (4 * i + 1) 0; cost = getD l (4 * i + 2) 0; deadline = getD l (4 * i + 3) 0 }
+
+-- the sheet of such numbers and a count
+abbrev pub sheetFrom : List ℕ → ℕ → TaskSet
+sheetFrom l n = record { tasks = table (taskAt l) 32; count = n }
+
+-- a refusal as one number: number · 2^32 + place
+unfoldable pub refusalCode : ℕ → ℕ → ℕ
+refusalCode n p = n * 4294967296 + p % 4294967296
+
+-- what a call returns: 0 where it answered, else the code of its refusal
+unfoldable pub codeOf : Option Refusal → ℕ
+codeOf none = 0
+codeOf (some r) = refusalCode (r .number) (r .place)
+
+unfoldable pub codeIn : {A : Type 0} → Answer A → ℕ
+codeIn (answered a) = 0
+codeIn (refused r) = refusalCode (r .number) (r .place)
+
+-- what stands in the lent words afterwards: the answer and then what the slots past it held; after a refusal, what they held
+unfoldable pub wordsAfter : Answer (List ℕ) → List ℕ → List ℕ
+wordsAfter (answered l) held = l ++ drop (length l) held
+wordsAfter (refused r) held = held
+
+-- an answer as words
+unfoldable pub asWords : {A : Type 0} → (A → List ℕ) → Answer A → Answer (List ℕ)
+asWords f (answered a) = answered (f a)
+asWords f (refused r) = refused r
+
+-- 13 before all else where fewer than n words are lent
+unfoldable pub withWords : {A : Type 0} → ℕ → List ℕ → Answer A → Answer A
+withWords n held a = elim (ltb (length held) n) [ true ↦ refused (record { number = 13; place = n }) | false ↦ a ]
+
+-- how a call ends that answers in n lent words: what it returns, and what stands in the words, given what they held
+abbrev pub Ends : {A : Type 0} → ℕ → (A → List ℕ) → Answer A → List ℕ → ℕ → List ℕ → Type 0
+Ends n f a held r words = (r ≡ codeIn (withWords n held (asWords f a))) × (words ≡ wordsAfter (withWords n held (asWords f a)) held)
+
+-- a number as one word
+abbrev pub oneWord : ℕ → List ℕ
+oneWord n = n ∷ []
+
+-- a verdict as three words: 0, q, 0 for horizon; 1, q, R for late; 2, q, R for fits
+unfoldable pub verdictWords : Verdict → List ℕ
+verdictWords (horizon q) = 0 ∷ q ∷ 0 ∷ []
+verdictWords (late q r) = 1 ∷ q ∷ natAbs r ∷ []
+verdictWords (fits r q) = 2 ∷ q ∷ natAbs r ∷ []
+
+-- the answer of the trace check as two words: 0, 0 for legal; 1 and the release that is too close
+unfoldable pub traceWords : Option ℕ → List ℕ
+traceWords none = 0 ∷ 0 ∷ []
+traceWords (some p) = 1 ∷ p ∷ []

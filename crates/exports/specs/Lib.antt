@@ -1,0 +1,5 @@
+pub mod Interface
+pub mod InterfaceLaws
+pub mod Files
+pub mod FileLaws
+pub mod WriteLaws

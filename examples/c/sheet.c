@@ -1,0 +1,90 @@
+/*
+ * The printed sheet of document 01 from C: choice, verdicts, arrival count, trace check, ready ticks, run, write and read.
+ * Build (after `rt staticlib exports`):
+ *   cc -O2 -Iinclude examples/c/sheet.c target/staticlib/libexports.a -o target/sheet
+ */
+#include <stdio.h>
+#include <string.h>
+
+#include "nolkrada.h"
+
+#define LENGTH(a) (sizeof(a) / sizeof((a)[0]))
+
+/* P, J, E, D of each task, task 0 first. */
+static const uint32_t sheet[] = {6, 5, 2, 6, 8, 7, 2, 8, 10, 0, 2, 10};
+#define TASKS 3
+
+/* Three releases: task 0 at tick 0, task 2 at tick 0, task 0 at tick 1, all of cost 2. */
+static const uint32_t task[] = {0, 2, 0};
+static const uint32_t tick[] = {0, 0, 1};
+static const uint32_t cost[] = {2, 2, 2};
+#define RELEASES 3
+
+static int refused(const char *call, uint64_t code) {
+    if (code != 0) printf("%s refused %u at %u\n", call, nolkrada_number(code), nolkrada_place(code));
+    return code != 0;
+}
+
+static int print_choice(uint32_t *kept) {
+    uint32_t worst[TASKS];
+    if (refused("choice", nolkrada_choice(sheet, LENGTH(sheet), TASKS, kept, TASKS, worst, TASKS))) return 1;
+    printf("task keep worst\n");
+    for (int i = 0; i < TASKS; i++) printf("%d %u %u\n", i, kept[i], worst[i]);
+    return 0;
+}
+
+static int print_verdict(const uint32_t *kept, uint32_t i) {
+    static const char *const kinds[] = {"horizon", "late", "fits"};
+    uint64_t answer[3];
+    if (refused("verdict", nolkrada_verdict(sheet, LENGTH(sheet), TASKS, i, kept, TASKS, answer, 3))) return 1;
+    printf("task %u with kept jitter %u: %s, q %llu, R %llu\n", i, kept[i], kinds[answer[0]], (unsigned long long)answer[1],
+           (unsigned long long)answer[2]);
+    return 0;
+}
+
+static int print_run(const uint32_t *kept) {
+    uint32_t ready[RELEASES], finish[RELEASES];
+    uint64_t close[2];
+    if (refused("trace check", nolkrada_trace_check(sheet, LENGTH(sheet), TASKS, RELEASES, task, RELEASES, tick, RELEASES, cost,
+                                                    RELEASES, close, 2)))
+        return 1;
+    printf("the releases are %s\n", close[0] == 0 ? "legal" : "too close");
+    if (refused("ready", nolkrada_ready(sheet, LENGTH(sheet), TASKS, kept, TASKS, RELEASES, task, RELEASES, tick, RELEASES, cost,
+                                        RELEASES, ready, RELEASES)))
+        return 1;
+    if (refused("run", nolkrada_run(sheet, LENGTH(sheet), TASKS, kept, TASKS, RELEASES, task, RELEASES, tick, RELEASES, cost,
+                                    RELEASES, ready, RELEASES, finish, RELEASES)))
+        return 1;
+    printf("job task release ready finish response\n");
+    for (int p = 0; p < RELEASES; p++)
+        printf("%d %u %u %u %u %u\n", p, task[p], tick[p], ready[p], finish[p], finish[p] - tick[p]);
+    return 0;
+}
+
+static int print_file(void) {
+    uint8_t file[128];
+    uint32_t again[128], tasks[8], ticks[8], costs[8];
+    uint64_t bytes[1], counts[2];
+    if (refused("write", nolkrada_write(sheet, LENGTH(sheet), TASKS, RELEASES, task, RELEASES, tick, RELEASES, cost, RELEASES,
+                                        file, sizeof file, bytes, 1)))
+        return 1;
+    if (refused("read", nolkrada_read(file, bytes[0], again, 128, tasks, 8, ticks, 8, costs, 8, counts, 2))) return 1;
+    printf("%llu bytes, %llu tasks, %llu releases, %s\n", (unsigned long long)bytes[0], (unsigned long long)counts[0],
+           (unsigned long long)counts[1], memcmp(again, sheet, sizeof sheet) == 0 ? "the same sheet" : "another sheet");
+    return 0;
+}
+
+int main(void) {
+    uint32_t kept[TASKS];
+    uint64_t arrivals[1];
+    if (print_choice(kept)) return 1;
+    if (print_verdict(kept, 1)) return 1;
+    if (refused("arrival count", nolkrada_arrival_count(sheet, LENGTH(sheet), TASKS, 0, kept, TASKS, 8, arrivals, 1))) return 1;
+    printf("task 0 arrives at most %llu times in 8 ticks\n", (unsigned long long)arrivals[0]);
+    if (print_run(kept)) return 1;
+    if (print_file()) return 1;
+    kept[1] = 2;
+    if (print_verdict(kept, 1)) return 1;
+    kept[1] = 8;
+    return print_verdict(kept, 1) ? 0 : 1;
+}

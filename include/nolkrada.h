@@ -1,0 +1,119 @@
+/*
+ * Nolkrada for C: kept jitters and verdicts for a fixed-priority sheet.
+ *
+ * Build the archive with `rt staticlib exports` and link target/staticlib/libexports.a (x86-64 Linux). Of the C library the archive
+ * calls memcpy and memset alone; it allocates nothing and keeps no state, so any number of threads may call it. A read takes some
+ * 26 kilobytes of stack, any other call below 8.
+ *
+ * WHAT A CALL RETURNS
+ *   0 where it answered. Otherwise a refusal, number * 2^32 + place; nolkrada_number and nolkrada_place take it apart.
+ *   A refusal leaves every slot of every lent array as it was. An answer fills the first slots of an array, and the slots
+ *   past it keep what they held.
+ *
+ * SHEET
+ *   sheet, sheet_length: the numbers of the tasks, P, J, E and D of task 0, then of task 1, and so on; task 0 has the highest
+ *   priority. sheet_length is the number of uint32_t, normally 4 * count. Numbers past the end count as 0, and nothing past
+ *   task 31 is read. count: how many tasks the sheet has, 1 to 32.
+ *   P (period) and D (deadline) are 1 to 1000000, J (jitter) is 0 to 1000000, E (cost) is 1 to the smaller of P and D.
+ *
+ * KEPT JITTERS
+ *   kept, kept_length: one K for each task of the sheet, 0 <= K <= J; a call looks at all of them.
+ *
+ * RELEASES
+ *   n releases, at most 1024, in three arrays of at least n slots each, each with its own length: task (its number), tick
+ *   (0 to 1000000000, never falling along the list) and cost (1 to the task's E).
+ *
+ * EVERY LENGTH counts elements, not bytes. An array of length 0 may be any non-null, aligned pointer. Arrays that a call
+ * writes must not overlap each other or an array that it reads.
+ *
+ * REFUSALS (number: condition, place)
+ *    1  read: kind byte not 1, 2 or 3; offset of the kind byte
+ *    2  read: the file ends inside a record, or where a kind is due; offset of that kind
+ *    3  read: task after a release; offset of the record
+ *    4  over 32 tasks; 32 (read: offset)
+ *    5  no task: count 0; 0 (read: release or end before any task; offset)
+ *    6  P, J, E or D outside its range; the task (read: offset)
+ *    7  release of a task that is not in the sheet; the release (read: offset)
+ *    8  tick below the one before, or over 1000000000; the release (read: offset)
+ *    9  cost 0 or over the task's E; the release (read: offset)
+ *   10  over 1024 releases; 1024 (read: offset)
+ *   11  read: a byte follows the end record; its offset
+ *   12  some kept jitter is over J; the first such task
+ *   13  an array is too short; the slots that it needs
+ *   14  there is no such task; the number given
+ *   15  choice: no K fits; the first such task
+ * A short `answer`, and a short `sheet` of nolkrada_read, are refused first. Otherwise a call checks, in this order: the sheet
+ * (5, 4, then 6 by task), 14, 10, 13 (arrays by task, then by release, then bytes), 12, the releases in order (7, 8, 9), 15.
+ * A read checks the whole file, record by record and the lower number first, and then 13.
+ */
+#ifndef NOLKRADA_H
+#define NOLKRADA_H
+
+#include <stddef.h>
+#include <stdint.h>
+
+#ifdef __cplusplus
+extern "C" {
+#endif
+
+/* The number and the place of a refusal. */
+static inline uint32_t nolkrada_number(uint64_t code) { return (uint32_t)(code >> 32); }
+static inline uint32_t nolkrada_place(uint64_t code) { return (uint32_t)code; }
+
+/* Arrival count of a task in t ticks: 0 for t = 0, else ceil((t + K) / P).
+ * answer: 1 slot, the count.                                                            Refuses 13 (answer), 5 4 6 14 13 12. */
+uint64_t nolkrada_arrival_count(const uint32_t *sheet, size_t sheet_length, uint32_t count, uint32_t task,
+                                const uint32_t *kept, size_t kept_length, uint32_t t, uint64_t *answer, size_t answer_length);
+
+enum { NOLKRADA_HORIZON = 0, NOLKRADA_LATE = 1, NOLKRADA_FITS = 2 };
+
+/* Verdict of a task.
+ * answer: 3 slots. NOLKRADA_HORIZON, q, 0: no W(q) up to 10000000 ticks, and nothing is claimed. NOLKRADA_LATE, q, R(q): some legal
+ * list of releases makes a job of the task late. NOLKRADA_FITS, q, R: no job of the task is ever late; R is the largest response
+ * bound met and q the first that had it.                                                Refuses 13 (answer), 5 4 6 14 13 12. */
+uint64_t nolkrada_verdict(const uint32_t *sheet, size_t sheet_length, uint32_t count, uint32_t task, const uint32_t *kept,
+                          size_t kept_length, uint64_t *answer, size_t answer_length);
+
+/* Choice: from task 0 down the least K at which the verdict is "fits", given the choices above.
+ * kept, worst: `count` slots each, written: the kept jitters and the largest response bounds.             Refuses 5 4 6 13 15. */
+uint64_t nolkrada_choice(const uint32_t *sheet, size_t sheet_length, uint32_t count, uint32_t *kept, size_t kept_length,
+                         uint32_t *worst, size_t worst_length);
+
+/* Trace check: whether the releases keep the jitters of their tasks.
+ * answer: 2 slots. 0, 0: they do. 1, p: release p is the first that is too close to an earlier one of its task.
+ *                                                                                Refuses 13 (answer), 5 4 6 10 13 7 8 9. */
+uint64_t nolkrada_trace_check(const uint32_t *sheet, size_t sheet_length, uint32_t count, uint32_t n, const uint32_t *task,
+                              size_t task_length, const uint32_t *tick, size_t tick_length, const uint32_t *cost,
+                              size_t cost_length, uint64_t *answer, size_t answer_length);
+
+/* Ready ticks: when the shapers let each job through.
+ * ready: n slots, written.                                                                Refuses 5 4 6 10 13 12 7 8 9. */
+uint64_t nolkrada_ready(const uint32_t *sheet, size_t sheet_length, uint32_t count, const uint32_t *kept, size_t kept_length,
+                        uint32_t n, const uint32_t *task, size_t task_length, const uint32_t *tick, size_t tick_length,
+                        const uint32_t *cost, size_t cost_length, uint32_t *ready, size_t ready_length);
+
+/* Run: ready and finish tick of each job, from tick 0 with no earlier job. Response is finish - tick.
+ * ready, finish: n slots each, written.                                                   Refuses 5 4 6 10 13 12 7 8 9. */
+uint64_t nolkrada_run(const uint32_t *sheet, size_t sheet_length, uint32_t count, const uint32_t *kept, size_t kept_length,
+                      uint32_t n, const uint32_t *task, size_t task_length, const uint32_t *tick, size_t tick_length,
+                      const uint32_t *cost, size_t cost_length, uint32_t *ready, size_t ready_length, uint32_t *finish,
+                      size_t finish_length);
+
+/* Read a file. A file with 1024 releases has at most 10785 bytes.
+ * sheet: 128 slots, all written; entries past the count are 0. task, tick, cost: a slot for each release, written.
+ * answer: 2 slots, the tasks and the releases of the file.             Refuses 13 (answer, then sheet), 1 to 11, 13. */
+uint64_t nolkrada_read(const uint8_t *file, size_t file_length, uint32_t *sheet, size_t sheet_length, uint32_t *task,
+                       size_t task_length, uint32_t *tick, size_t tick_length, uint32_t *cost, size_t cost_length,
+                       uint64_t *answer, size_t answer_length);
+
+/* Write a file: 17 bytes for each task, 10 for each release, 1 for the end.
+ * out: the bytes, written. answer: 1 slot, how many.                                Refuses 13 (answer), 5 4 6 10 13 7 8 9. */
+uint64_t nolkrada_write(const uint32_t *sheet, size_t sheet_length, uint32_t count, uint32_t n, const uint32_t *task,
+                        size_t task_length, const uint32_t *tick, size_t tick_length, const uint32_t *cost, size_t cost_length,
+                        uint8_t *out, size_t out_length, uint64_t *answer, size_t answer_length);
+
+#ifdef __cplusplus
+}
+#endif
+
+#endif
