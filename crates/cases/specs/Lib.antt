@@ -1,0 +1,3 @@
+-- What the blocks of a case mean, and laws of it.
+pub mod Cases
+pub mod CaseLaws

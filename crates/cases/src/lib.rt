@@ -1,0 +1,178 @@
+// Cases of the stored vectors. Standard input is a row of blocks, each with its length in bytes first (four bytes, little-endian). A case is a
+// label, a block of numbers that holds the task set and what the call is given besides, and a block for each lent slice: what it holds before the call.
+use libc::STDIN_FILENO;
+use libc::STDOUT_FILENO;
+use taskset::Checked;
+use taskset::Task;
+use taskset::TaskSet;
+ghost use Prim.Native.Nat.{_+_, _≤_, _<_, min};
+ghost use mathlib.Core.Path.{_≡_};
+ghost use lib.ListN.{length};
+ghost use Rattle.io.specs.Counts.{Counts};
+ghost use Rattle.cases.specs.Cases.{numberAt, entryOf, Numbers, SetIn};
+
+// A byte as a number of 32 bits.
+fn wide(b: u8) -> u32
+    ensures { λ r. ⌜ (r ≡ b) × (r < 256) ⌝ }
+{
+    b as u32
+}
+
+// The smaller of a number and a limit.
+fn at_most(n: u32, limit: usize) -> usize
+    ensures { λ r. ⌜ r ≡ min n limit ⌝ }
+{
+    let m = n as usize;
+    if m < limit { m } else { limit }
+}
+
+// The number of the four bytes from a place on, the low byte first.
+fn number_at(s: &[u8], at: usize) -> u32
+    requires { ⌜ at + 4 ≤ length (now s) ⌝ }
+    ensures { λ r. ⌜ r ≡ numberAt (now (s .entry)) at ⌝ }
+{
+    wide(s[at]) + 256 * wide(s[at + 1]) + 65536 * wide(s[at + 2]) + 16777216 * wide(s[at + 3])
+}
+
+// Reads a block to the start of a buffer, as far as the buffer goes; the answer is how many bytes were read.
+pub fn read_block(out: &mut [u8]) -> usize
+    ensures { λ r. ⌜ Counts r (now (out .exit)) ⌝ }
+{
+    let mut head = [0u8; 4];
+    io::read_full(STDIN_FILENO, &mut head);
+    let n = at_most(number_at(&head, 0), out.len());
+    io::read_full(STDIN_FILENO, &mut out[..n])
+}
+
+// The numbers of four bytes in a row of bytes, as many as there are slots for them; the answer is how many.
+fn numbers(s: &[u8], out: &mut [u32]) -> usize
+    ensures { λ r. ⌜ Counts r (now (out .exit)) ⌝ }
+    ensures { λ r. ⌜ Numbers (now (s .entry)) (now (out .entry)) r (now (out .exit)) ⌝ }
+{
+    let n = s.len() / 4;
+    let mut i = 0;
+    while i < n {
+        if i == out.len() {
+            return i;
+        }
+        out[i] = number_at(s, 4 * i);
+        i += 1;
+    }
+    i
+}
+
+// Reads a block of numbers to the start of a column; the answer is how many were read.
+pub fn read_column(out: &mut [u32]) -> usize
+    ensures { λ r. ⌜ Counts r (now (out .exit)) ⌝ }
+{
+    let mut bytes = [0u8; 4224];
+    let n = read_block(&mut bytes);
+    numbers(&bytes[..n], out)
+}
+
+// Reads the label of the next case and prints it; false at the end of the input.
+pub fn next_case() -> bool {
+    let mut label = [0u8; 128];
+    let n = read_block(&mut label);
+    if n == 0 {
+        return false;
+    }
+    io::write_all(STDOUT_FILENO, &label[..n]);
+    io::write_all(STDOUT_FILENO, b":");
+    true
+}
+
+// A number of 32 bits as an index or a count.
+pub fn index(n: u32) -> usize
+    ensures { λ r. ⌜ r ≡ n ⌝ }
+{
+    n as usize
+}
+
+// The entry of a task in a block of numbers.
+fn entry(head: &[u32; 136], i: usize) -> Task
+    requires { ⌜ i < 32 ⌝ }
+    ensures { λ r. ⌜ r ≡ entryOf (now (head .entry)) i ⌝ }
+{
+    let at = 8 + 4 * i;
+    Task {
+        period: head[at],
+        jitter: head[at + 1],
+        cost: head[at + 2],
+        deadline: head[at + 3],
+    }
+}
+
+// The task set in a block of numbers: the count at 4, the entries from 8 on.
+pub fn task_set(head: &[u32; 136]) -> TaskSet
+    ensures { λ r. ⌜ SetIn (now (head .entry)) r ⌝ }
+{
+    let none = Task {
+        period: 0,
+        jitter: 0,
+        cost: 0,
+        deadline: 0,
+    };
+    let mut tasks = [none; 32];
+    let mut i = 0;
+    while i < 32 {
+        tasks[i] = entry(head, i);
+        i += 1;
+    }
+    TaskSet {
+        tasks: tasks,
+        count: index(head[4]),
+    }
+}
+
+// Prints a blank and words.
+pub fn print_words(words: &[u8]) {
+    io::write_all(STDOUT_FILENO, b" ");
+    io::write_all(STDOUT_FILENO, words);
+}
+
+// Prints a blank and a number.
+pub fn print_number(n: u64) {
+    io::write_all(STDOUT_FILENO, b" ");
+    io::print_decimal(STDOUT_FILENO, n);
+}
+
+// Prints a blank and a slot of a column, or a stroke for the largest number, which no answer is.
+fn print_slot(v: u32) {
+    if v == 4294967295 {
+        print_words(b"-");
+        return;
+    }
+    print_number(v as u64);
+}
+
+// Prints the slots of a column after a comma.
+pub fn print_column(column: &[u32]) {
+    io::write_all(STDOUT_FILENO, b",");
+    let mut i = 0;
+    while i < column.len() {
+        print_slot(column[i]);
+        i += 1;
+    }
+}
+
+// Prints a refusal as the programs do.
+pub fn print_refusal(number: u32, place: usize) {
+    print_words(b"refused");
+    print_number(number as u64);
+    print_words(b"at");
+    print_number(place as u64);
+}
+
+// Prints what a call answers whose results stand in lent columns.
+pub fn print_checked(answer: Checked) {
+    match answer {
+        Checked::Fine => print_words(b"fine"),
+        Checked::Refused { number, place } => print_refusal(number, place),
+    }
+}
+
+// Ends the line of a case.
+pub fn end_line() {
+    io::write_all(STDOUT_FILENO, b"\n");
+}

@@ -1,0 +1,97 @@
+// Runs the stored cases of arrival count, verdict and choice, and prints a line for each: the answer, and every slot of the lent columns that the
+// choice writes.
+use demand::ArrivalAnswer;
+use taskset::TaskSet;
+use verdict::VerdictAnswer;
+
+// Prints what the arrival count answers.
+fn print_arrivals(answer: ArrivalAnswer) {
+    match answer {
+        ArrivalAnswer::Count(n) => cases::print_number(n),
+        ArrivalAnswer::Refused { number, place } => cases::print_refusal(number, place),
+    }
+}
+
+// Prints words and the number after them.
+fn print_named(words: &[u8], n: u32) {
+    cases::print_words(words);
+    cases::print_number(n as u64);
+}
+
+// Prints what the verdict answers.
+fn print_verdict(answer: VerdictAnswer) {
+    match answer {
+        VerdictAnswer::Horizon { q } => print_named(b"horizon q", q),
+        VerdictAnswer::Late { q, bound } => {
+            print_named(b"late q", q);
+            print_named(b"R", bound);
+        }
+        VerdictAnswer::Fits { worst, q } => {
+            print_named(b"fits R", worst);
+            print_named(b"q", q);
+        }
+        VerdictAnswer::Refused { number, place } => cases::print_refusal(number, place),
+    }
+}
+
+// A case of the arrival count: task and t; then the kept jitters.
+fn arrival_case(head: &[u32; 136]) {
+    let set = cases::task_set(head);
+    let mut kept = [0u32; 64];
+    let keeps = cases::read_column(&mut kept);
+    let answer = demand::arrival_count(set, cases::index(head[1]), &kept[..keeps], head[2]);
+    print_arrivals(answer);
+}
+
+// A case of the verdict: task; then the kept jitters.
+fn verdict_case(head: &[u32; 136]) {
+    let set = cases::task_set(head);
+    let mut kept = [0u32; 64];
+    let keeps = cases::read_column(&mut kept);
+    let answer = verdict::verdict(set, cases::index(head[1]), &kept[..keeps]);
+    print_verdict(answer);
+}
+
+// Calls the choice, and prints the answer and the columns lent.
+fn choice_call(set: TaskSet, kept: &mut [u32], worst: &mut [u32]) {
+    let answer = choice::choose(set, kept, worst);
+    cases::print_checked(answer);
+    cases::print_column(kept);
+    cases::print_column(worst);
+}
+
+// A case of the choice: the columns of kept jitters and of worst values.
+fn choice_case(head: &[u32; 136]) {
+    let set = cases::task_set(head);
+    let mut kept = [0u32; 64];
+    let keeps = cases::read_column(&mut kept);
+    let mut worst = [0u32; 64];
+    let worsts = cases::read_column(&mut worst);
+    choice_call(set, &mut kept[..keeps], &mut worst[..worsts]);
+}
+
+// One case: 0 is the arrival count, 1 the verdict, 2 the choice.
+fn one() -> bool {
+    if !cases::next_case() {
+        return false;
+    }
+    let mut head = [0u32; 136];
+    cases::read_column(&mut head);
+    if head[0] == 0 {
+        arrival_case(&head);
+    } else if head[0] == 1 {
+        verdict_case(&head);
+    } else {
+        choice_case(&head);
+    }
+    cases::end_line();
+    true
+}
+
+// Case after case up to the end of the input. A proved loop has to end, so it counts its turns down, from a number that no input uses up.
+fn main() {
+    let mut turns = u64::MAX;
+    while turns > 0 && one() {
+        turns -= 1;
+    }
+}

@@ -1,0 +1,67 @@
+// Runs the stored cases of the run, and prints a line for each: the answer, and every slot of the lent columns of ready and finish ticks.
+use taskset::TaskSet;
+
+// Calls the run, and prints the answer and the columns lent.
+fn run_call(
+    set: TaskSet,
+    kept: &[u32],
+    count: usize,
+    task: &[u32],
+    tick: &[u32],
+    cost: &[u32],
+    ready: &mut [u32],
+    finish: &mut [u32],
+) {
+    let answer = schedule::run(set, kept, count, task, tick, cost, ready, finish);
+    cases::print_checked(answer);
+    cases::print_column(ready);
+    cases::print_column(finish);
+}
+
+// A case: count of releases; then kept jitters, tasks, ticks, costs, and the columns of ready and finish ticks.
+fn run_case(head: &[u32; 136]) {
+    let set = cases::task_set(head);
+    let count = cases::index(head[1]);
+    let mut kept = [0u32; 64];
+    let keeps = cases::read_column(&mut kept);
+    let mut task = [0u32; 1056];
+    let tasks = cases::read_column(&mut task);
+    let mut tick = [0u32; 1056];
+    let ticks = cases::read_column(&mut tick);
+    let mut cost = [0u32; 1056];
+    let costs = cases::read_column(&mut cost);
+    let mut ready = [0u32; 1056];
+    let readies = cases::read_column(&mut ready);
+    let mut finish = [0u32; 1056];
+    let finishes = cases::read_column(&mut finish);
+    run_call(
+        set,
+        &kept[..keeps],
+        count,
+        &task[..tasks],
+        &tick[..ticks],
+        &cost[..costs],
+        &mut ready[..readies],
+        &mut finish[..finishes],
+    );
+}
+
+// One case.
+fn one() -> bool {
+    if !cases::next_case() {
+        return false;
+    }
+    let mut head = [0u32; 136];
+    cases::read_column(&mut head);
+    run_case(&head);
+    cases::end_line();
+    true
+}
+
+// Case after case up to the end of the input. A proved loop has to end, so it counts its turns down, from a number that no input uses up.
+fn main() {
+    let mut turns = u64::MAX;
+    while turns > 0 && one() {
+        turns -= 1;
+    }
+}

@@ -1,0 +1,576 @@
+//! Compares the archive with the reference implementation: every answer, every lent slot, refusals with their place.
+//! One argument may give another seed. The last line says how many calls were compared and how many differed.
+
+mod generator;
+mod library;
+mod reference;
+mod sums;
+
+use generator::*;
+use reference::{Budget, Refusal, Release, Sheet, Verdict, MAX_TICK};
+
+const SEED: u64 = 20_240_601;
+
+/// Slots lent to a call: filled with numbers that no answer depends on.
+struct Lent<T> {
+    held: Vec<T>,
+    now: Vec<T>,
+}
+
+impl<T: Copy + PartialEq + std::fmt::Debug> Lent<T> {
+    fn of(held: Vec<T>) -> Lent<T> {
+        Lent { now: held.clone(), held }
+    }
+    /// The answer stands in the first slots and all others keep what they held; nothing changes without an answer.
+    fn holds(&self, answer: Option<&[T]>) -> bool {
+        let answer = answer.unwrap_or(&[]);
+        let n = answer.len();
+        n <= self.now.len() && self.now[..n] == *answer && self.now[n..] == self.held[n..]
+    }
+}
+
+fn words(r: &mut Random, n: usize) -> Lent<u64> {
+    Lent::of((0..n).map(|_| r.bits()).collect())
+}
+
+fn numbers(r: &mut Random, n: usize) -> Lent<u32> {
+    Lent::of((0..n).map(|_| r.bits() as u32).collect())
+}
+
+fn bytes(r: &mut Random, n: usize) -> Lent<u8> {
+    Lent::of((0..n).map(|_| r.bits() as u8).collect())
+}
+
+/// What a call returns: 0 where it answered, else number · 2^32 + place.
+fn code(refusal: Option<Refusal>) -> u64 {
+    refusal.map_or(0, |r| ((r.number as u64) << 32) + (r.place & 0xffff_ffff))
+}
+
+/// Slots around a number needed: exact, some more, or too few.
+fn around(r: &mut Random, needed: usize) -> usize {
+    match r.within(0, 19) {
+        0 => needed.saturating_sub(1),
+        1 => r.within(0, needed as u32) as usize,
+        2..=4 => needed + r.within(1, 5) as usize,
+        _ => needed,
+    }
+}
+
+/// A sheet as it is passed, with kept jitters and a list. Each column has a length of its own.
+struct Case {
+    numbers: Vec<u32>,
+    count: u32,
+    kept: Vec<u32>,
+    n: u32,
+    task: Vec<u32>,
+    tick: Vec<u32>,
+    cost: Vec<u32>,
+}
+
+impl Case {
+    fn sound(r: &mut Random, sheet: &Sheet, list: &[Release]) -> Case {
+        Case {
+            numbers: numbers_of(sheet),
+            count: sheet.count as u32,
+            kept: kept_for(r, sheet),
+            n: list.len() as u32,
+            task: list.iter().map(|x| x.task).collect(),
+            tick: list.iter().map(|x| x.tick).collect(),
+            cost: list.iter().map(|x| x.cost).collect(),
+        }
+    }
+
+    /// One thing about the case changed.
+    fn damage(&mut self, r: &mut Random) {
+        match r.within(0, 12) {
+            0 => self.count = r.of(&[0, 1, 31, 32, 33, 34, 64, u32::MAX]),
+            1 => self.numbers.truncate(r.within(0, self.numbers.len() as u32) as usize),
+            2 => {
+                let at = r.within(0, self.numbers.len() as u32 - 1) as usize;
+                self.numbers[at] = r.of(&BOUNDARY);
+            }
+            3 => self.kept.truncate(r.within(0, self.kept.len() as u32) as usize),
+            4 | 5 => {
+                let i = r.within(0, self.kept.len() as u32 - 1) as usize;
+                self.kept[i] = if r.once_in(3) { u32::MAX } else { self.numbers[4 * i + 1].wrapping_add(1) };
+            }
+            6 => self.kept.push(r.bits() as u32),
+            7 => self.n = r.of(&[self.n + 1, 1024, 1025, u32::MAX]),
+            8 => self.task.truncate(self.task.len().saturating_sub(1)),
+            9 => self.tick.truncate(self.tick.len().saturating_sub(1)),
+            10 => self.cost.truncate(self.cost.len().saturating_sub(1)),
+            11 => self.numbers.push(r.bits() as u32),
+            _ => {
+                self.task.push(r.bits() as u32);
+                self.tick.push(r.bits() as u32);
+                self.cost.push(r.bits() as u32);
+            }
+        }
+    }
+
+    fn sheet(&self) -> Sheet {
+        sheet_of(&self.numbers, self.count)
+    }
+    fn reference_list(&self) -> reference::Columns<'_> {
+        reference::Columns { task: &self.task, tick: &self.tick, cost: &self.cost }
+    }
+    fn library_list(&self) -> library::Columns<'_> {
+        library::Columns { task: &self.task, tick: &self.tick, cost: &self.cost }
+    }
+    fn show(&self) -> String {
+        format!(
+            "sheet {:?} count {} kept {:?} n {} task {:?} tick {:?} cost {:?}",
+            self.numbers, self.count, self.kept, self.n, self.task, self.tick, self.cost
+        )
+    }
+}
+
+#[derive(Default)]
+struct Tally {
+    calls: [u64; 8],
+    refusals: [u64; 16],
+    verdicts: [u64; 3],
+    too_close: u64,
+    passed_over: u64,
+    differences: u64,
+}
+
+const NAMES: [&str; 8] = ["arrival count", "verdict", "choice", "trace check", "ready ticks", "run", "read", "write"];
+
+impl Tally {
+    fn note(&mut self, call: usize, expected: Option<Refusal>, got: u64, slots: bool, show: impl Fn() -> String) {
+        self.calls[call] += 1;
+        if let Some(r) = expected {
+            self.refusals[r.number as usize] += 1;
+        }
+        if got == code(expected) && slots {
+            return;
+        }
+        self.differences += 1;
+        if self.differences <= 5 {
+            let what = if got == code(expected) { "a lent slot differs" } else { "the code differs" };
+            println!("{}: {}; expected {:?}, got {} · 2^32 + {}; {}", NAMES[call], what, expected, got >> 32, got & 0xffff_ffff, show());
+        }
+    }
+}
+
+/// The refusal of an answer slice that is too short comes before all others.
+fn short(slots: usize, needed: usize) -> Option<Refusal> {
+    if slots < needed { Some(Refusal { number: 13, place: needed as u64 }) } else { None }
+}
+
+fn guarded<T>(slots: usize, needed: usize, call: impl FnOnce() -> Result<T, Refusal>) -> Result<T, Refusal> {
+    match short(slots, needed) {
+        Some(r) => Err(r),
+        None => call(),
+    }
+}
+
+fn compare_arrival_count(r: &mut Random, tally: &mut Tally, case: &Case, task: u32, t: u32) {
+    let slots = around(r, 1);
+    let mut answer = words(r, slots);
+    let expected = guarded(slots, 1, || reference::arrival_count(&case.sheet(), task as usize, &case.kept, t));
+    let got = library::arrival_count(&case.numbers, case.count, task, &case.kept, t, &mut answer.now);
+    let same = answer.holds(expected.ok().map(|n| [n]).as_ref().map(|a| &a[..]));
+    tally.note(0, expected.err(), got, same, || format!("task {} t {} answer {:?} {}", task, t, answer.now, case.show()));
+}
+
+fn compare_verdict(r: &mut Random, tally: &mut Tally, case: &Case, task: u32, budget: u64) {
+    let slots = around(r, 3);
+    let mut answer = words(r, slots);
+    let Ok(given) = reference::verdict(&case.sheet(), task as usize, &case.kept, &mut Budget::of(budget)) else {
+        tally.passed_over += 1;
+        return;
+    };
+    let expected = guarded(slots, 3, || given).map(|v| match v {
+        Verdict::Horizon { q } => [0, q as u64, 0],
+        Verdict::Late { q, r } => [1, q as u64, r as u64],
+        Verdict::Fits { r, q } => [2, q as u64, r as u64],
+    });
+    if let Ok(a) = expected {
+        tally.verdicts[a[0] as usize] += 1;
+    }
+    let got = library::verdict(&case.numbers, case.count, task, &case.kept, &mut answer.now);
+    let same = answer.holds(expected.as_ref().ok().map(|a| &a[..]));
+    tally.note(1, expected.err(), got, same, || format!("task {} answer {:?} {}", task, answer.now, case.show()));
+}
+
+fn compare_choice(r: &mut Random, tally: &mut Tally, case: &Case, budget: u64) {
+    let needed = case.count.min(40) as usize;
+    let (a, b) = (around(r, needed), around(r, needed));
+    let (mut kept, mut worst) = (numbers(r, a), numbers(r, b));
+    let Ok(expected) = reference::choice(&case.sheet(), a, b, &mut Budget::of(budget)) else {
+        tally.passed_over += 1;
+        return;
+    };
+    let got = library::choice(&case.numbers, case.count, &mut kept.now, &mut worst.now);
+    let columns = expected.as_ref().ok();
+    let same = kept.holds(columns.map(|c| &c.0[..])) && worst.holds(columns.map(|c| &c.1[..]));
+    tally.note(2, expected.as_ref().err().copied(), got, same, || {
+        format!("kept {:?} worst {:?} expected {:?} {}", kept.now, worst.now, expected, case.show())
+    });
+}
+
+fn compare_trace_check(r: &mut Random, tally: &mut Tally, case: &Case) {
+    let slots = around(r, 2);
+    let mut answer = words(r, slots);
+    let expected = guarded(slots, 2, || reference::trace_check(&case.sheet(), case.n as usize, &case.reference_list()));
+    let got = library::trace_check(&case.numbers, case.count, case.n, case.library_list(), &mut answer.now);
+    let numbers = expected.ok().map(|close| match close {
+        None => [0, 0],
+        Some(p) => [1, p as u64],
+    });
+    if let Some([1, _]) = numbers {
+        tally.too_close += 1;
+    }
+    let same = answer.holds(numbers.as_ref().map(|a| &a[..]));
+    tally.note(3, expected.err(), got, same, || format!("answer {:?} {}", answer.now, case.show()));
+}
+
+fn compare_ready(r: &mut Random, tally: &mut Tally, case: &Case) {
+    let slots = around(r, case.n.min(1030) as usize);
+    let mut ready = numbers(r, slots);
+    let expected = reference::ready(&case.sheet(), &case.kept, case.n as usize, &case.reference_list(), slots);
+    let got = library::ready(&case.numbers, case.count, &case.kept, case.n, case.library_list(), &mut ready.now);
+    let same = ready.holds(expected.as_ref().ok().map(|c| &c[..]));
+    tally.note(4, expected.as_ref().err().copied(), got, same, || {
+        format!("ready {:?} expected {:?} {}", ready.now, expected, case.show())
+    });
+}
+
+fn compare_run(r: &mut Random, tally: &mut Tally, case: &Case) {
+    let needed = case.n.min(1030) as usize;
+    let (a, b) = (around(r, needed), around(r, needed));
+    let (mut ready, mut finish) = (numbers(r, a), numbers(r, b));
+    let expected = reference::run(&case.sheet(), &case.kept, case.n as usize, &case.reference_list(), a, b);
+    let got = library::run(
+        &case.numbers, case.count, &case.kept, case.n, case.library_list(), &mut ready.now, &mut finish.now,
+    );
+    let columns = expected.as_ref().ok();
+    let same = ready.holds(columns.map(|c| &c.0[..])) && finish.holds(columns.map(|c| &c.1[..]));
+    tally.note(5, expected.as_ref().err().copied(), got, same, || {
+        format!("ready {:?} finish {:?} expected {:?} {}", ready.now, finish.now, expected, case.show())
+    });
+}
+
+fn compare_read(r: &mut Random, tally: &mut Tally, file: &[u8]) {
+    let releases = reference::decode(file).map_or(0, |(_, list)| list.len());
+    let slots = [around(r, releases), around(r, releases), around(r, releases)];
+    let (a, s) = (around(r, 2), around(r, 128));
+    let (mut answer, mut sheet) = (words(r, a), numbers(r, s));
+    let (mut task, mut tick, mut cost) = (numbers(r, slots[0]), numbers(r, slots[1]), numbers(r, slots[2]));
+    let expected = guarded(a, 2, || guarded(s, 128, || reference::read(file, slots)));
+    let got = library::read(file, &mut sheet.now, &mut task.now, &mut tick.now, &mut cost.now, &mut answer.now);
+    let same = match &expected {
+        Err(_) => {
+            answer.holds(None) && sheet.holds(None) && task.holds(None) && tick.holds(None) && cost.holds(None)
+        }
+        Ok((s, list)) => {
+            let mut whole = numbers_of(s);
+            whole.resize(128, 0);
+            let column = |f: fn(&Release) -> u32| list.iter().map(f).collect::<Vec<u32>>();
+            answer.holds(Some(&[s.count as u64, list.len() as u64]))
+                && sheet.holds(Some(&whole))
+                && task.holds(Some(&column(|x| x.task)))
+                && tick.holds(Some(&column(|x| x.tick)))
+                && cost.holds(Some(&column(|x| x.cost)))
+        }
+    };
+    tally.note(6, expected.as_ref().err().copied(), got, same, || format!("slots {:?} file {:?}", slots, file));
+}
+
+/// A write, and a read of what was written.
+fn compare_write(r: &mut Random, tally: &mut Tally, case: &Case) {
+    let slots = around(r, 17 * case.count.min(40) as usize + 10 * case.n.min(1030) as usize + 1);
+    let a = around(r, 1);
+    let (mut answer, mut out) = (words(r, a), bytes(r, slots));
+    let expected =
+        guarded(a, 1, || reference::write(&case.sheet(), case.n as usize, &case.reference_list(), slots));
+    let got = library::write(&case.numbers, case.count, case.n, case.library_list(), &mut out.now, &mut answer.now);
+    let length = expected.as_ref().ok().map(|f| [f.len() as u64]);
+    let same = answer.holds(length.as_ref().map(|l| &l[..])) && out.holds(expected.as_ref().ok().map(|f| &f[..]));
+    tally.note(7, expected.as_ref().err().copied(), got, same, || case.show());
+    if let Ok(file) = expected {
+        compare_read(r, tally, &file);
+    }
+}
+
+fn compare_list_calls(r: &mut Random, tally: &mut Tally, case: &Case) {
+    compare_trace_check(r, tally, case);
+    compare_ready(r, tally, case);
+    compare_run(r, tally, case);
+    compare_write(r, tally, case);
+}
+
+fn compare_sheet_calls(r: &mut Random, tally: &mut Tally, case: &Case, budget: u64) {
+    let task = if r.once_in(20) { r.of(&[case.count, case.count.wrapping_add(1), u32::MAX]) } else { r.within(0, case.count.saturating_sub(1).min(40)) };
+    let t = if r.once_in(3) { r.of(&[0, 1, 10_000_000, u32::MAX - 1, u32::MAX]) } else { r.within(0, 200) };
+    compare_arrival_count(r, tally, case, task, t);
+    compare_verdict(r, tally, case, task, budget);
+    compare_choice(r, tally, case, 4 * budget);
+}
+
+/// Small sheets with short lists, sound and damaged.
+fn small(r: &mut Random, tally: &mut Tally, cases: u32) {
+    for _ in 0..cases {
+        let sheet = small_sheet(r);
+        let n = r.within(0, 12) as usize;
+        let step = r.of(&[1, 4, 12, 40]);
+        let mut list = if r.once_in(3) { legal_list_for(r, &sheet, n) } else { list_for(r, &sheet, n, step) };
+        if r.once_in(4) {
+            damage_list(r, &sheet, &mut list);
+        }
+        let mut case = Case::sound(r, &sheet, &list);
+        if r.once_in(4) {
+            case.damage(r);
+        }
+        let budget = if r.once_in(400) { 20_000_000 } else { 40_000 };
+        compare_sheet_calls(r, tally, &case, budget);
+        compare_list_calls(r, tally, &case);
+    }
+}
+
+/// W(q) as the reference finds it agrees with a search that tries every t.
+fn check_reference_windows(r: &mut Random, cases: u32) {
+    for _ in 0..cases {
+        let sheet = small_sheet(r);
+        let kept = kept_for(r, &sheet);
+        let i = sheet.count - 1;
+        let mut budget = Budget::of(u64::MAX);
+        let mut windows = reference::Windows::of(&sheet, &kept, i, &mut budget);
+        for q in 0..4 {
+            let demand = |t: i64| -> i64 {
+                let above = (0..i).map(|j| {
+                    let x = sheet.task(j);
+                    x.e as i64 * reference::sigma(x.p as i64, kept[j] as i64, t)
+                });
+                (q + 1) * sheet.task(i).e as i64 + above.sum::<i64>()
+            };
+            match (1..2_000).find(|&t| demand(t) <= t) {
+                None => break,
+                Some(t) => assert_eq!(windows.get(q).ok(), Some(Some(t))),
+            }
+        }
+    }
+}
+
+/// The two ways in which the reference finds the finish ticks agree.
+fn check_reference_run(r: &mut Random, cases: u32) {
+    for _ in 0..cases {
+        let sheet = small_sheet(r);
+        let n = r.within(0, 12) as usize;
+        let list = list_for(r, &sheet, n, 8);
+        let kept = kept_for(r, &sheet);
+        let ready = reference::ready_ticks(&sheet, &kept, &list);
+        assert_eq!(reference::finish_ticks(&list, &ready), reference::finish_ticks_by_tick(&list, &ready));
+    }
+}
+
+/// Sheets of any size whose load is chosen, up to 32 tasks with the largest numbers.
+fn loaded(r: &mut Random, tally: &mut Tally, cases: u32, tasks: &[u32]) {
+    for _ in 0..cases {
+        let (n, top) = (r.of(tasks), r.of(&[40, 200, 1_000, 20_000, 1_000_000]));
+        let sheet = loaded_sheet(r, n, top);
+        let case = Case::sound(r, &sheet, &[]);
+        for _ in 0..3 {
+            compare_sheet_calls(r, tally, &case, 30_000);
+        }
+    }
+}
+
+fn boundary(r: &mut Random, tally: &mut Tally, cases: u32) {
+    for _ in 0..cases {
+        let sheet = boundary_sheet(r);
+        let mut list = list_for_any(r, &sheet);
+        if r.once_in(2) {
+            damage_list(r, &sheet, &mut list);
+        }
+        let mut case = Case::sound(r, &sheet, &list);
+        if r.once_in(3) {
+            case.damage(r);
+        }
+        compare_sheet_calls(r, tally, &case, 10_000);
+        compare_list_calls(r, tally, &case);
+    }
+}
+
+/// A list for a sheet that may be refused: costs are drawn as if it were sound.
+fn list_for_any(r: &mut Random, sheet: &Sheet) -> Vec<Release> {
+    let n = r.within(0, 6) as usize;
+    let mut tick = 0;
+    (0..n)
+        .map(|_| {
+            tick += r.within(0, 5);
+            Release { task: r.within(0, sheet.count as u32 - 1), tick, cost: 1 }
+        })
+        .collect()
+}
+
+/// Lists at the limit of 1,024 releases.
+fn long_lists(r: &mut Random, tally: &mut Tally, cases: u32) {
+    for _ in 0..cases {
+        let (tasks, top) = (r.of(&[1, 3, 32]), r.of(&[40, 300]));
+        let sheet = loaded_sheet(r, tasks, top);
+        let n = r.of(&[1023, 1024, 1024, 1025]);
+        let step = r.of(&[0, 3, 60]);
+        let mut list = if r.once_in(3) { legal_list_for(r, &sheet, n) } else { list_for(r, &sheet, n, step) };
+        if r.once_in(4) {
+            damage_list(r, &sheet, &mut list);
+        }
+        let case = Case::sound(r, &sheet, &list);
+        compare_list_calls(r, tally, &case);
+    }
+}
+
+/// Ticks at the limit of 1,000,000,000.
+fn late_ticks(r: &mut Random, tally: &mut Tally, cases: u32) {
+    for _ in 0..cases {
+        let sheet = loaded_sheet(r, 3, 1_000);
+        let mut list = list_for(r, &sheet, 8, 50);
+        for x in list.iter_mut() {
+            x.tick = MAX_TICK - 400 + x.tick.min(400);
+        }
+        let case = Case::sound(r, &sheet, &list);
+        compare_list_calls(r, tally, &case);
+    }
+}
+
+/// Sound files cut at every byte and with every byte changed; random records; files at the limits.
+fn files(r: &mut Random, tally: &mut Tally, cases: u32) {
+    for _ in 0..cases {
+        let (tasks, releases) = (r.within(1, 4) as usize, r.within(0, 6) as usize);
+        let file = file_for(r, tasks, releases);
+        for end in 0..file.len() {
+            compare_read(r, tally, &file[..end]);
+        }
+        for at in 0..file.len() {
+            let mut other = file.clone();
+            other[at] = if r.once_in(2) { r.bits() as u8 } else { other[at].wrapping_add(1) };
+            compare_read(r, tally, &other);
+        }
+        let mut longer = file.clone();
+        longer.push(r.within(0, 4) as u8);
+        compare_read(r, tally, &longer);
+        for _ in 0..20 {
+            let any = random_file(r);
+            compare_read(r, tally, &any);
+        }
+        let noise: Vec<u8> = (0..r.within(0, 40)).map(|_| r.within(0, 4) as u8).collect();
+        compare_read(r, tally, &noise);
+    }
+}
+
+/// 32 and 33 tasks, 1,024 and 1,025 releases, whole and cut at every byte near the end.
+fn full_files(r: &mut Random, tally: &mut Tally) {
+    for tasks in [32, 33] {
+        for releases in [0, 1, 1024, 1025] {
+            let file = file_for(r, tasks, releases);
+            for end in (0..=file.len()).filter(|e| e % 97 == 0 || e + 40 > file.len()) {
+                compare_read(r, tally, &file[..end]);
+            }
+            for _ in 0..40 {
+                let mut other = file.clone();
+                let at = r.within(0, file.len() as u32 - 1) as usize;
+                other[at] = r.bits() as u8;
+                compare_read(r, tally, &other);
+            }
+            let mut longer = file.clone();
+            longer.extend_from_slice(&[1; 20]);
+            compare_read(r, tally, &longer);
+        }
+    }
+}
+
+/// Walks that reach the horizon or take many q, and jitters for which every K in 0..J can only just be tried.
+fn long_walks(r: &mut Random, tally: &mut Tally) {
+    let sheets: [&[[u32; 4]]; 6] = [
+        &[[1, 0, 1, 1], [1, 0, 1, 1]],
+        &[[2, 0, 1, 2], [2, 1, 1, 1_000_000]],
+        &[[3, 2, 1, 9], [3, 2, 1, 90], [3, 1_000_000, 1, 1_000_000]],
+        &[[1_000_000, 1_000_000, 1_000_000, 1_000_000], [1_000_000, 0, 1, 1_000_000]],
+        &[[10, 9, 3, 30], [1_000_000, 1_000_000, 400_000, 1_000_000], [1_000_000, 999_999, 200_000, 990_000]],
+        &[[2, 1, 1, 1], [2, 999_990, 1, 1_000_000]],
+    ];
+    for sheet in sheets {
+        let flat: Vec<u32> = sheet.iter().flatten().copied().collect();
+        let whole = sheet_of(&flat, sheet.len() as u32);
+        for full in [true, false] {
+            let mut case = Case::sound(r, &whole, &[]);
+            case.kept = sheet.iter().map(|t| if full { t[1] } else { t[1] / 2 }).collect();
+            for task in 0..case.count {
+                compare_verdict(r, tally, &case, task, 2_000_000_000);
+            }
+        }
+        let case = Case::sound(r, &whole, &[]);
+        compare_choice(r, tally, &case, 100_000_000);
+        compare_choice_by_verdicts(tally, &case);
+    }
+}
+
+/// A choice that is too long to be made by trying every K: the K chosen fits with the worst value given, and one less does not fit.
+fn compare_choice_by_verdicts(tally: &mut Tally, case: &Case) {
+    let (sheet, n) = (case.sheet(), case.count as usize);
+    let (mut kept, mut worst) = (vec![0; n], vec![0; n]);
+    if library::choice(&case.numbers, case.count, &mut kept, &mut worst) != 0 {
+        return;
+    }
+    for i in 0..n {
+        let at = |k: u32| {
+            let mut all = kept.clone();
+            all[i] = k;
+            reference::verdict_of(&sheet, &all, i, &mut Budget::of(u64::MAX)).ok().unwrap()
+        };
+        let fits = matches!(at(kept[i]), Verdict::Fits { r, .. } if r == worst[i] as i64);
+        let least = kept[i] == 0 || !matches!(at(kept[i] - 1), Verdict::Fits { .. });
+        tally.note(2, None, 0, fits && least, || format!("task {} kept {:?} worst {:?} {}", i, kept, worst, case.show()));
+    }
+}
+
+/// Document 01's printed sheet and releases.
+fn printed(r: &mut Random, tally: &mut Tally) {
+    let sheet = sums::printed_sheet();
+    let case = Case::sound(r, &sheet, &sums::printed_releases());
+    for _ in 0..50 {
+        compare_sheet_calls(r, tally, &case, 1_000_000);
+        compare_list_calls(r, tally, &case);
+    }
+}
+
+fn timed(name: &str, part: impl FnOnce()) {
+    let start = std::time::Instant::now();
+    part();
+    println!("{:<40} {:6.1} s", name, start.elapsed().as_secs_f64());
+}
+
+fn main() {
+    let seed = std::env::args().nth(1).and_then(|s| s.parse().ok()).unwrap_or(SEED);
+    let r = &mut Random::seeded(seed);
+    let tally = &mut Tally::default();
+    println!("seed {}", seed);
+    println!("reference: {} sums and examples of document 01 agree", sums::check());
+    timed("reference: W(q) by step and by tick", || check_reference_windows(r, 2_000));
+    timed("reference: run by event and by tick", || check_reference_run(r, 2_000));
+    timed("printed sheet", || printed(r, tally));
+    timed("small sheets and lists", || small(r, tally, 100_000));
+    timed("boundary values", || boundary(r, tally, 20_000));
+    timed("loaded sheets", || loaded(r, tally, 3_000, &[1, 2, 3, 5, 8, 16]));
+    timed("full sheets", || loaded(r, tally, 400, &[31, 32]));
+    timed("long lists", || long_lists(r, tally, 60));
+    timed("ticks at the limit", || late_ticks(r, tally, 3));
+    timed("files, cut and changed at every byte", || files(r, tally, 1_000));
+    timed("full files", || full_files(r, tally));
+    timed("long walks", || long_walks(r, tally));
+    for (name, n) in NAMES.iter().zip(tally.calls) {
+        println!("{:<14} {:8} calls", name, n);
+    }
+    let each: Vec<String> = (1..16).map(|n| format!("{}: {}", n, tally.refusals[n])).collect();
+    println!("refusals by number  {}", each.join("  "));
+    let [horizon, late, fits] = tally.verdicts;
+    println!("verdicts  horizon {}  late {}  fits {}; too close {}; passed over {}", horizon, late, fits, tally.too_close, tally.passed_over);
+    println!("outside comparison: {} calls, {} differences", tally.calls.iter().sum::<u64>(), tally.differences);
+    let missing = (1..16).any(|n| tally.refusals[n] == 0) || tally.verdicts.contains(&0);
+    if missing {
+        println!("some refusal or verdict never came up");
+    }
+    std::process::exit(if tally.differences == 0 && !missing { 0 } else { 1 });
+}

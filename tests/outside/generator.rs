@@ -1,0 +1,217 @@
+//! Seeded cases: sheets, kept jitters, lists of releases and files, sound and damaged.
+
+use crate::reference::{encode, Release, Sheet, Task, MAX_TICK};
+
+/// SplitMix64.
+pub struct Random {
+    state: u64,
+}
+
+impl Random {
+    pub fn seeded(seed: u64) -> Random {
+        Random { state: seed }
+    }
+    pub fn bits(&mut self) -> u64 {
+        self.state = self.state.wrapping_add(0x9e37_79b9_7f4a_7c15);
+        let mut z = self.state;
+        z = (z ^ (z >> 30)).wrapping_mul(0xbf58_476d_1ce4_e5b9);
+        z = (z ^ (z >> 27)).wrapping_mul(0x94d0_49bb_1331_11eb);
+        z ^ (z >> 31)
+    }
+    /// A number from low to high, both included.
+    pub fn within(&mut self, low: u32, high: u32) -> u32 {
+        low + (self.bits() % (high as u64 - low as u64 + 1)) as u32
+    }
+    /// True once in n times.
+    pub fn once_in(&mut self, n: u32) -> bool {
+        self.within(1, n) == 1
+    }
+    pub fn of<T: Copy>(&mut self, all: &[T]) -> T {
+        all[self.within(0, all.len() as u32 - 1) as usize]
+    }
+}
+
+/// Values at the limits of a period, jitter or deadline, and beyond.
+pub const BOUNDARY: [u32; 9] = [0, 1, 2, 3, 999_999, 1_000_000, 1_000_001, 1 << 31, u32::MAX];
+
+fn small_task(r: &mut Random) -> Task {
+    let p = r.within(1, 24);
+    let d = if r.once_in(3) { r.within(1, 24) } else { r.within(1, 80) };
+    let e = if r.once_in(4) { r.within(1, p.min(d)) } else { r.within(1, p.min(d).min(3)) };
+    let j = match r.within(0, 3) {
+        0 => 0,
+        1 => r.within(0, p),
+        2 => r.within(0, 3 * p),
+        _ => r.within(0, 60),
+    };
+    Task { p, j, e, d }
+}
+
+/// One to five tasks with small numbers.
+pub fn small_sheet(r: &mut Random) -> Sheet {
+    let n = r.within(1, 5);
+    let tasks: Vec<Task> = (0..n).map(|_| small_task(r)).collect();
+    Sheet::of(&tasks)
+}
+
+/// Tasks whose costs add up to a chosen share of the processor; periods up to `top`.
+pub fn loaded_sheet(r: &mut Random, n: u32, top: u32) -> Sheet {
+    let per_mille = r.within(200, 1_050) as u64;
+    let tasks: Vec<Task> = (0..n)
+        .map(|i| {
+            let p = r.within(top / 20 + 1, top);
+            let e = ((p as u64 * per_mille / (n as u64 * 1_000)) as u32).max(1);
+            let d = r.within(e.max(p / 2), (p as u64 * (i as u64 + 2)).min(1_000_000) as u32);
+            let j = if r.once_in(2) { r.within(0, p / 2) } else { r.within(0, (3 * p).min(1_000_000)) };
+            Task { p, j, e, d }
+        })
+        .collect();
+    Sheet::of(&tasks)
+}
+
+/// Each number a boundary value or a small one; most of these are refused.
+pub fn boundary_sheet(r: &mut Random) -> Sheet {
+    let n = r.of(&[1, 2, 3, 31, 32]);
+    let tasks: Vec<Task> = (0..n)
+        .map(|_| {
+            let mut t = small_task(r);
+            match r.within(0, 11) {
+                0 => t.p = r.of(&BOUNDARY),
+                1 => t.j = r.of(&BOUNDARY),
+                2 => t.e = r.of(&BOUNDARY),
+                3 => t.d = r.of(&BOUNDARY),
+                4 => t = Task { p: 1_000_000, j: r.of(&[0, 1, 1_000_000]), e: r.of(&[1, 999_999, 1_000_000]), d: 1_000_000 },
+                5 => t.e = t.p.min(t.d),
+                6 => t.e = t.p.min(t.d) + 1,
+                _ => {}
+            }
+            t
+        })
+        .collect();
+    Sheet::of(&tasks)
+}
+
+/// The numbers of a sheet as the archive takes them.
+pub fn numbers_of(sheet: &Sheet) -> Vec<u32> {
+    sheet.tasks.iter().flat_map(|t| [t.p, t.j, t.e, t.d]).collect()
+}
+
+/// The sheet that a slice of numbers and a count give: numbers past the slice's end count as 0.
+pub fn sheet_of(numbers: &[u32], count: u32) -> Sheet {
+    let at = |i: usize| numbers.get(i).copied().unwrap_or(0);
+    let tasks = (0..count.min(32) as usize)
+        .map(|i| Task { p: at(4 * i), j: at(4 * i + 1), e: at(4 * i + 2), d: at(4 * i + 3) })
+        .collect();
+    Sheet { count: count as usize, tasks }
+}
+
+/// Kept jitters for each task of a sheet, from 0 to J.
+pub fn kept_for(r: &mut Random, sheet: &Sheet) -> Vec<u32> {
+    let style = r.within(0, 3);
+    sheet
+        .tasks
+        .iter()
+        .map(|t| match style {
+            0 => t.j,
+            1 => 0,
+            _ => r.within(0, t.j),
+        })
+        .collect()
+}
+
+/// A list that passes the checks; ticks rise by up to `step`.
+pub fn list_for(r: &mut Random, sheet: &Sheet, n: usize, step: u32) -> Vec<Release> {
+    let mut tick = 0u32;
+    (0..n)
+        .map(|_| {
+            if !r.once_in(3) {
+                tick = tick.saturating_add(r.within(0, step)).min(MAX_TICK);
+            }
+            let task = r.within(0, sheet.count as u32 - 1);
+            let e = sheet.task(task as usize).e;
+            let cost = if r.once_in(2) { e } else { r.within(1, e) };
+            Release { task, tick, cost }
+        })
+        .collect()
+}
+
+/// A legal list: each release lies at least d_J(k) after every earlier one of its task, k places before.
+pub fn legal_list_for(r: &mut Random, sheet: &Sheet, n: usize) -> Vec<Release> {
+    let mut all: Vec<Release> = Vec::new();
+    let mut ticks: Vec<Vec<i64>> = vec![Vec::new(); sheet.count];
+    let mut now = 0i64;
+    for _ in 0..n {
+        let i = r.within(0, sheet.count as u32 - 1) as usize;
+        let t = sheet.task(i);
+        let m = ticks[i].len();
+        let least = (0..m).map(|a| ticks[i][a] + ((m - a) as i64 * t.p as i64 - t.j as i64).max(0)).max().unwrap_or(0);
+        let tick = least.max(now) + if r.once_in(2) { 0 } else { r.within(0, t.p) as i64 };
+        if tick > MAX_TICK as i64 {
+            break;
+        }
+        now = tick;
+        ticks[i].push(tick);
+        all.push(Release { task: i as u32, tick: tick as u32, cost: r.within(1, t.e) });
+    }
+    all
+}
+
+/// One number of a list changed, so that most lists are refused with 7, 8 or 9.
+pub fn damage_list(r: &mut Random, sheet: &Sheet, list: &mut [Release]) {
+    if list.is_empty() {
+        return;
+    }
+    let p = r.within(0, list.len() as u32 - 1) as usize;
+    match r.within(0, 5) {
+        0 => list[p].task = r.of(&[sheet.count as u32, sheet.count as u32 + 1, 32, 255, 256, u32::MAX]),
+        1 => list[p].tick = r.of(&[0, 1, MAX_TICK + 1, u32::MAX]),
+        2 => list[p].tick = list[p].tick.wrapping_sub(1),
+        3 => list[p].cost = 0,
+        4 => list[p].cost = sheet.task(list[p].task as usize).e + 1,
+        _ => list[p].cost = u32::MAX,
+    }
+}
+
+/// A sound file.
+pub fn file_for(r: &mut Random, tasks: usize, releases: usize) -> Vec<u8> {
+    let all: Vec<Task> = (0..tasks).map(|_| small_task(r)).collect();
+    let sheet = Sheet::of(&all);
+    let list = list_for(r, &sheet, releases, 9);
+    encode(&all, &list)
+}
+
+/// Records in any order, with numbers at and beyond the limits.
+pub fn random_file(r: &mut Random) -> Vec<u8> {
+    let mut file = Vec::new();
+    let mut tick = 0u32;
+    for _ in 0..r.within(0, 12) {
+        match r.within(0, 9) {
+            0..=3 => {
+                let mut t = small_task(r);
+                if r.once_in(8) {
+                    t.e = r.of(&BOUNDARY);
+                }
+                if r.once_in(8) {
+                    t.p = r.of(&BOUNDARY);
+                }
+                file.push(1);
+                for x in [t.p, t.j, t.e, t.d] {
+                    file.extend_from_slice(&x.to_le_bytes());
+                }
+            }
+            4..=7 => {
+                tick = if r.once_in(12) { r.of(&[0, MAX_TICK, MAX_TICK + 1, u32::MAX]) } else { tick.saturating_add(r.within(0, 9)) };
+                file.push(2);
+                file.push(if r.once_in(12) { r.within(0, 255) as u8 } else { r.within(0, 2) as u8 });
+                file.extend_from_slice(&tick.to_le_bytes());
+                file.extend_from_slice(&r.within(0, 3).to_le_bytes());
+            }
+            8 => file.push(3),
+            _ => file.push(r.within(0, 5) as u8),
+        }
+    }
+    if r.once_in(2) {
+        file.push(3);
+    }
+    file
+}

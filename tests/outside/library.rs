@@ -1,0 +1,119 @@
+//! The functions of the archive, as include/nolkrada.h declares them, with slices in place of pointer and length.
+
+extern "C" {
+    fn nolkrada_arrival_count(
+        sheet: *const u32, sheet_length: usize, count: u32, task: u32, kept: *const u32, kept_length: usize, t: u32,
+        answer: *mut u64, answer_length: usize,
+    ) -> u64;
+    fn nolkrada_verdict(
+        sheet: *const u32, sheet_length: usize, count: u32, task: u32, kept: *const u32, kept_length: usize,
+        answer: *mut u64, answer_length: usize,
+    ) -> u64;
+    fn nolkrada_choice(
+        sheet: *const u32, sheet_length: usize, count: u32, kept: *mut u32, kept_length: usize,
+        worst: *mut u32, worst_length: usize,
+    ) -> u64;
+    fn nolkrada_trace_check(
+        sheet: *const u32, sheet_length: usize, count: u32, n: u32, task: *const u32, task_length: usize,
+        tick: *const u32, tick_length: usize, cost: *const u32, cost_length: usize, answer: *mut u64, answer_length: usize,
+    ) -> u64;
+    fn nolkrada_ready(
+        sheet: *const u32, sheet_length: usize, count: u32, kept: *const u32, kept_length: usize, n: u32,
+        task: *const u32, task_length: usize, tick: *const u32, tick_length: usize, cost: *const u32, cost_length: usize,
+        ready: *mut u32, ready_length: usize,
+    ) -> u64;
+    fn nolkrada_run(
+        sheet: *const u32, sheet_length: usize, count: u32, kept: *const u32, kept_length: usize, n: u32,
+        task: *const u32, task_length: usize, tick: *const u32, tick_length: usize, cost: *const u32, cost_length: usize,
+        ready: *mut u32, ready_length: usize, finish: *mut u32, finish_length: usize,
+    ) -> u64;
+    fn nolkrada_read(
+        file: *const u8, file_length: usize, sheet: *mut u32, sheet_length: usize, task: *mut u32, task_length: usize,
+        tick: *mut u32, tick_length: usize, cost: *mut u32, cost_length: usize, answer: *mut u64, answer_length: usize,
+    ) -> u64;
+    fn nolkrada_write(
+        sheet: *const u32, sheet_length: usize, count: u32, n: u32, task: *const u32, task_length: usize,
+        tick: *const u32, tick_length: usize, cost: *const u32, cost_length: usize, out: *mut u8, out_length: usize,
+        answer: *mut u64, answer_length: usize,
+    ) -> u64;
+}
+
+/// Columns of releases, each with a length of its own.
+#[derive(Clone, Copy)]
+pub struct Columns<'a> {
+    pub task: &'a [u32],
+    pub tick: &'a [u32],
+    pub cost: &'a [u32],
+}
+
+pub fn arrival_count(sheet: &[u32], count: u32, task: u32, kept: &[u32], t: u32, answer: &mut [u64]) -> u64 {
+    unsafe {
+        nolkrada_arrival_count(
+            sheet.as_ptr(), sheet.len(), count, task, kept.as_ptr(), kept.len(), t, answer.as_mut_ptr(), answer.len(),
+        )
+    }
+}
+
+pub fn verdict(sheet: &[u32], count: u32, task: u32, kept: &[u32], answer: &mut [u64]) -> u64 {
+    unsafe {
+        nolkrada_verdict(
+            sheet.as_ptr(), sheet.len(), count, task, kept.as_ptr(), kept.len(), answer.as_mut_ptr(), answer.len(),
+        )
+    }
+}
+
+pub fn choice(sheet: &[u32], count: u32, kept: &mut [u32], worst: &mut [u32]) -> u64 {
+    unsafe {
+        nolkrada_choice(
+            sheet.as_ptr(), sheet.len(), count, kept.as_mut_ptr(), kept.len(), worst.as_mut_ptr(), worst.len(),
+        )
+    }
+}
+
+pub fn trace_check(sheet: &[u32], count: u32, n: u32, list: Columns, answer: &mut [u64]) -> u64 {
+    unsafe {
+        nolkrada_trace_check(
+            sheet.as_ptr(), sheet.len(), count, n, list.task.as_ptr(), list.task.len(), list.tick.as_ptr(), list.tick.len(),
+            list.cost.as_ptr(), list.cost.len(), answer.as_mut_ptr(), answer.len(),
+        )
+    }
+}
+
+pub fn ready(sheet: &[u32], count: u32, kept: &[u32], n: u32, list: Columns, ready: &mut [u32]) -> u64 {
+    unsafe {
+        nolkrada_ready(
+            sheet.as_ptr(), sheet.len(), count, kept.as_ptr(), kept.len(), n, list.task.as_ptr(), list.task.len(),
+            list.tick.as_ptr(), list.tick.len(), list.cost.as_ptr(), list.cost.len(), ready.as_mut_ptr(), ready.len(),
+        )
+    }
+}
+
+pub fn run(sheet: &[u32], count: u32, kept: &[u32], n: u32, list: Columns, ready: &mut [u32], finish: &mut [u32]) -> u64 {
+    unsafe {
+        nolkrada_run(
+            sheet.as_ptr(), sheet.len(), count, kept.as_ptr(), kept.len(), n, list.task.as_ptr(), list.task.len(),
+            list.tick.as_ptr(), list.tick.len(), list.cost.as_ptr(), list.cost.len(), ready.as_mut_ptr(), ready.len(),
+            finish.as_mut_ptr(), finish.len(),
+        )
+    }
+}
+
+pub fn read(
+    file: &[u8], sheet: &mut [u32], task: &mut [u32], tick: &mut [u32], cost: &mut [u32], answer: &mut [u64],
+) -> u64 {
+    unsafe {
+        nolkrada_read(
+            file.as_ptr(), file.len(), sheet.as_mut_ptr(), sheet.len(), task.as_mut_ptr(), task.len(), tick.as_mut_ptr(),
+            tick.len(), cost.as_mut_ptr(), cost.len(), answer.as_mut_ptr(), answer.len(),
+        )
+    }
+}
+
+pub fn write(sheet: &[u32], count: u32, n: u32, list: Columns, out: &mut [u8], answer: &mut [u64]) -> u64 {
+    unsafe {
+        nolkrada_write(
+            sheet.as_ptr(), sheet.len(), count, n, list.task.as_ptr(), list.task.len(), list.tick.as_ptr(), list.tick.len(),
+            list.cost.as_ptr(), list.cost.len(), out.as_mut_ptr(), out.len(), answer.as_mut_ptr(), answer.len(),
+        )
+    }
+}

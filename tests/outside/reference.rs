@@ -1,0 +1,554 @@
+//! An implementation of document 01 for comparison, written from its words alone. It shares no code and no method with the
+//! library: ready ticks and the trace check look at every pair of jobs, W(q) is found by walking over the ticks at which
+//! the demand steps, and the choice tries every K in rising order.
+
+pub const MAX_TASKS: usize = 32;
+pub const MAX_RELEASES: usize = 1024;
+pub const MAX_TICK: u32 = 1_000_000_000;
+pub const MAX_TIME: u32 = 1_000_000;
+pub const HORIZON: i64 = 10_000_000;
+
+#[derive(Clone, Copy, Debug, PartialEq, Eq)]
+pub struct Task {
+    pub p: u32,
+    pub j: u32,
+    pub e: u32,
+    pub d: u32,
+}
+
+/// A sheet: `count` as given, and the entries that there are. An entry that is not there counts as 0, 0, 0, 0.
+#[derive(Clone, Debug, PartialEq, Eq)]
+pub struct Sheet {
+    pub count: usize,
+    pub tasks: Vec<Task>,
+}
+
+impl Sheet {
+    pub fn of(tasks: &[Task]) -> Sheet {
+        Sheet { count: tasks.len(), tasks: tasks.to_vec() }
+    }
+    pub fn task(&self, i: usize) -> Task {
+        self.tasks.get(i).copied().unwrap_or(Task { p: 0, j: 0, e: 0, d: 0 })
+    }
+}
+
+#[derive(Clone, Copy, Debug, PartialEq, Eq)]
+pub struct Release {
+    pub task: u32,
+    pub tick: u32,
+    pub cost: u32,
+}
+
+/// A refusal: document 01's number and place.
+#[derive(Clone, Copy, Debug, PartialEq, Eq)]
+pub struct Refusal {
+    pub number: u32,
+    pub place: u64,
+}
+
+fn refuse<T>(number: u32, place: usize) -> Result<T, Refusal> {
+    Err(Refusal { number, place: place as u64 })
+}
+
+#[derive(Clone, Copy, Debug, PartialEq, Eq)]
+pub enum Verdict {
+    Horizon { q: i64 },
+    Late { q: i64, r: i64 },
+    Fits { r: i64, q: i64 },
+}
+
+/// A limit on the steps of a search, so that a comparison can pass over a case that takes too long.
+pub struct Budget {
+    pub left: u64,
+}
+
+pub struct Exhausted;
+
+impl Budget {
+    pub fn of(left: u64) -> Budget {
+        Budget { left }
+    }
+    fn spend(&mut self, n: u64) -> Result<(), Exhausted> {
+        if self.left < n {
+            return Err(Exhausted);
+        }
+        self.left -= n;
+        Ok(())
+    }
+}
+
+// ---- Definitions -------------------------------------------------------------------------------------------------------
+
+/// Arrival count: zero in 0 ticks, ceil((t + K) ÷ P) in t ticks for t ≥ 1.
+pub fn sigma(p: i64, k: i64, t: i64) -> i64 {
+    if t == 0 {
+        return 0;
+    }
+    let (whole, rest) = ((t + k) / p, (t + k) % p);
+    if rest == 0 { whole } else { whole + 1 }
+}
+
+/// Gap: max(0, nP − K) for n ≥ 1, and 0 for n = 0.
+pub fn gap(p: i64, k: i64, n: i64) -> i64 {
+    if n == 0 { 0 } else { std::cmp::max(0, n * p - k) }
+}
+
+/// The jobs of a release's task up to and including it: their places in the list, in list order.
+fn own_places(list: &[Release], at: usize) -> Vec<usize> {
+    (0..=at).filter(|&p| list[p].task == list[at].task).collect()
+}
+
+/// The first release of the whole list that lies less than d_J(k) after the one k places before it in its task.
+pub fn first_too_close(sheet: &Sheet, list: &[Release]) -> Option<usize> {
+    (0..list.len()).find(|&at| {
+        let t = sheet.task(list[at].task as usize);
+        let own = own_places(list, at);
+        let last = own.len() - 1;
+        (1..=last).any(|k| {
+            let earlier = list[own[last - k]].tick as i64;
+            (list[at].tick as i64) < earlier + gap(t.p as i64, t.j as i64, k as i64)
+        })
+    })
+}
+
+/// Ready ticks: the least tick not before the release and at least d_K(k) after the ready tick of the job k places before.
+pub fn ready_ticks(sheet: &Sheet, kept: &[u32], list: &[Release]) -> Vec<i64> {
+    let mut ready: Vec<i64> = Vec::new();
+    for at in 0..list.len() {
+        let i = list[at].task as usize;
+        let own = own_places(list, at);
+        let last = own.len() - 1;
+        let least = (1..=last)
+            .map(|k| ready[own[last - k]] + gap(sheet.task(i).p as i64, kept[i] as i64, k as i64))
+            .max()
+            .unwrap_or(0);
+        ready.push(std::cmp::max(list[at].tick as i64, least));
+    }
+    ready
+}
+
+/// The job that runs at tick t: of those ready at or before t and unfinished, the highest-priority task's oldest.
+fn job_at(list: &[Release], ready: &[i64], left: &[i64], t: i64) -> Option<usize> {
+    (0..list.len()).filter(|&p| ready[p] <= t && left[p] > 0).min_by_key(|&p| (list[p].task, p))
+}
+
+/// Finish ticks of the run, from event to event: a job runs until it is finished or the next job gets ready.
+pub fn finish_ticks(list: &[Release], ready: &[i64]) -> Vec<i64> {
+    let mut left: Vec<i64> = list.iter().map(|r| r.cost as i64).collect();
+    let mut finish = vec![0; list.len()];
+    let mut t = 0;
+    loop {
+        let next_ready = (0..list.len()).filter(|&p| ready[p] > t).map(|p| ready[p]).min();
+        match (job_at(list, ready, &left, t), next_ready) {
+            (None, None) => return finish,
+            (None, Some(r)) => t = r,
+            (Some(p), next) => {
+                let end = std::cmp::min(t + left[p], next.unwrap_or(i64::MAX));
+                left[p] -= end - t;
+                t = end;
+                if left[p] == 0 {
+                    finish[p] = t;
+                }
+            }
+        }
+    }
+}
+
+/// Finish ticks of the run, tick by tick.
+pub fn finish_ticks_by_tick(list: &[Release], ready: &[i64]) -> Vec<i64> {
+    let mut left: Vec<i64> = list.iter().map(|r| r.cost as i64).collect();
+    let mut finish = vec![0; list.len()];
+    let mut t = 0;
+    while left.iter().any(|&l| l > 0) {
+        if let Some(p) = job_at(list, ready, &left, t) {
+            left[p] -= 1;
+            finish[p] = t + 1;
+        }
+        t += 1;
+    }
+    finish
+}
+
+/// W(q) of one task for q = 0, 1, .., found when asked for. None: over the horizon, or no such t.
+pub struct Windows<'a> {
+    own_cost: i64,
+    above: Vec<(i64, i64, i64)>,
+    found: Vec<Option<i64>>,
+    budget: &'a mut Budget,
+}
+
+impl<'a> Windows<'a> {
+    pub fn of(sheet: &Sheet, kept: &[u32], i: usize, budget: &'a mut Budget) -> Windows<'a> {
+        let above = (0..i)
+            .map(|j| (sheet.task(j).p as i64, kept[j] as i64, sheet.task(j).e as i64))
+            .collect();
+        Windows { own_cost: sheet.task(i).e as i64, above, found: Vec::new(), budget }
+    }
+
+    /// The least t from `from` on with (q + 1)E + sum of E_j σ_j(t) ≤ t. The demand is constant up to the least tick
+    /// σ_j P_j − K_j, where some σ_j takes its last tick, so only one t in each such stretch is to be tried.
+    fn search(&mut self, q: i64, from: i64) -> Result<Option<i64>, Exhausted> {
+        let mut t = from;
+        while t <= HORIZON {
+            self.budget.spend(1 + self.above.len() as u64)?;
+            let mut demand = (q + 1) * self.own_cost;
+            let mut end = HORIZON;
+            for &(p, k, e) in &self.above {
+                let n = sigma(p, k, t);
+                demand += e * n;
+                end = std::cmp::min(end, n * p - k);
+            }
+            let met = std::cmp::max(t, demand);
+            if met <= end {
+                return Ok(Some(met));
+            }
+            t = end + 1;
+        }
+        Ok(None)
+    }
+
+    /// W(q). The demand grows with q, so that no t below W(q − 1) need be tried.
+    pub fn get(&mut self, q: i64) -> Result<Option<i64>, Exhausted> {
+        while self.found.len() as i64 <= q {
+            let n = self.found.len();
+            let from = if n == 0 { Some(1) } else { self.found[n - 1] };
+            let w = match from {
+                None => None,
+                Some(t) => self.search(n as i64, t)?,
+            };
+            self.found.push(w);
+        }
+        Ok(self.found[q as usize])
+    }
+}
+
+/// The walk over q of a task with kept jitter K.
+fn walk(task: Task, keep: u32, windows: &mut Windows) -> Result<Verdict, Exhausted> {
+    let (p, j, d, k) = (task.p as i64, task.j as i64, task.d as i64, keep as i64);
+    let mut best: Option<(i64, i64)> = None;
+    let mut q = 0;
+    loop {
+        windows.budget.spend(1)?;
+        let Some(w) = windows.get(q)? else {
+            return Ok(Verdict::Horizon { q });
+        };
+        let x = j - q * p;
+        let r = w + std::cmp::max(x - k, std::cmp::min(0, x));
+        if r > d {
+            return Ok(Verdict::Late { q, r });
+        }
+        if best.map_or(true, |(b, _)| r > b) {
+            best = Some((r, q));
+        }
+        if w <= gap(p, k, q + 1) {
+            let (r, q) = best.unwrap();
+            return Ok(Verdict::Fits { r, q });
+        }
+        q += 1;
+    }
+}
+
+pub fn verdict_of(sheet: &Sheet, kept: &[u32], i: usize, budget: &mut Budget) -> Result<Verdict, Exhausted> {
+    walk(sheet.task(i), kept[i], &mut Windows::of(sheet, kept, i, budget))
+}
+
+/// The least K in 0..J at which the verdict is "fits", with the largest R.
+pub fn least_keep(sheet: &Sheet, kept: &[u32], i: usize, budget: &mut Budget) -> Result<Option<(u32, u32)>, Exhausted> {
+    let mut windows = Windows::of(sheet, kept, i, budget);
+    for k in 0..=sheet.task(i).j {
+        if let Verdict::Fits { r, .. } = walk(sheet.task(i), k, &mut windows)? {
+            return Ok(Some((k, r as u32)));
+        }
+    }
+    Ok(None)
+}
+
+// ---- Checks of a call on values, in the stated order -------------------------------------------------------------------
+
+pub fn check_sheet(sheet: &Sheet) -> Result<(), Refusal> {
+    if sheet.count == 0 {
+        return refuse(5, 0);
+    }
+    if sheet.count > MAX_TASKS {
+        return refuse(4, MAX_TASKS);
+    }
+    for i in 0..sheet.count {
+        if !in_range(sheet.task(i)) {
+            return refuse(6, i);
+        }
+    }
+    Ok(())
+}
+
+fn in_range(t: Task) -> bool {
+    (1..=MAX_TIME).contains(&t.p)
+        && t.j <= MAX_TIME
+        && (1..=MAX_TIME).contains(&t.d)
+        && t.e >= 1
+        && t.e <= std::cmp::min(t.p, t.d)
+}
+
+fn check_task(sheet: &Sheet, i: usize) -> Result<(), Refusal> {
+    if i < sheet.count { Ok(()) } else { refuse(14, i) }
+}
+
+fn check_count(n: usize) -> Result<(), Refusal> {
+    if n > MAX_RELEASES { refuse(10, MAX_RELEASES) } else { Ok(()) }
+}
+
+fn check_slots(slots: usize, needed: usize) -> Result<(), Refusal> {
+    if slots < needed { refuse(13, needed) } else { Ok(()) }
+}
+
+fn check_kept(sheet: &Sheet, kept: &[u32]) -> Result<(), Refusal> {
+    match (0..sheet.count).find(|&i| kept[i] > sheet.task(i).j) {
+        Some(i) => refuse(12, i),
+        None => Ok(()),
+    }
+}
+
+/// The number of what is wrong with a release, the lowest first.
+fn release_fault(sheet: &Sheet, before: Option<u32>, r: Release) -> Option<u32> {
+    if r.task as usize >= sheet.count {
+        return Some(7);
+    }
+    if before.map_or(false, |b| r.tick < b) || r.tick > MAX_TICK {
+        return Some(8);
+    }
+    if r.cost == 0 || r.cost > sheet.task(r.task as usize).e {
+        return Some(9);
+    }
+    None
+}
+
+fn check_releases(sheet: &Sheet, list: &[Release]) -> Result<(), Refusal> {
+    for p in 0..list.len() {
+        let before = if p == 0 { None } else { Some(list[p - 1].tick) };
+        if let Some(number) = release_fault(sheet, before, list[p]) {
+            return refuse(number, p);
+        }
+    }
+    Ok(())
+}
+
+/// Three columns of releases.
+pub struct Columns<'a> {
+    pub task: &'a [u32],
+    pub tick: &'a [u32],
+    pub cost: &'a [u32],
+}
+
+impl<'a> Columns<'a> {
+    fn check_slots(&self, n: usize) -> Result<(), Refusal> {
+        check_slots(self.task.len(), n)?;
+        check_slots(self.tick.len(), n)?;
+        check_slots(self.cost.len(), n)
+    }
+    fn list(&self, n: usize) -> Vec<Release> {
+        (0..n)
+            .map(|p| Release { task: self.task[p], tick: self.tick[p], cost: self.cost[p] })
+            .collect()
+    }
+}
+
+// ---- The calls ---------------------------------------------------------------------------------------------------------
+
+fn check_single(sheet: &Sheet, i: usize, kept: &[u32]) -> Result<(), Refusal> {
+    check_sheet(sheet)?;
+    check_task(sheet, i)?;
+    check_slots(kept.len(), sheet.count)?;
+    check_kept(sheet, kept)
+}
+
+pub fn arrival_count(sheet: &Sheet, i: usize, kept: &[u32], t: u32) -> Result<u64, Refusal> {
+    check_single(sheet, i, kept)?;
+    Ok(sigma(sheet.task(i).p as i64, kept[i] as i64, t as i64) as u64)
+}
+
+pub fn verdict(sheet: &Sheet, i: usize, kept: &[u32], budget: &mut Budget) -> Result<Result<Verdict, Refusal>, Exhausted> {
+    if let Err(r) = check_single(sheet, i, kept) {
+        return Ok(Err(r));
+    }
+    Ok(Ok(verdict_of(sheet, kept, i, budget)?))
+}
+
+/// The choice: kept jitters and worst values. The lengths of the two lent columns decide 13.
+pub fn choice(
+    sheet: &Sheet,
+    kept_slots: usize,
+    worst_slots: usize,
+    budget: &mut Budget,
+) -> Result<Result<(Vec<u32>, Vec<u32>), Refusal>, Exhausted> {
+    let checks = check_sheet(sheet)
+        .and_then(|_| check_slots(kept_slots, sheet.count))
+        .and_then(|_| check_slots(worst_slots, sheet.count));
+    if let Err(r) = checks {
+        return Ok(Err(r));
+    }
+    let (mut kept, mut worst) = (Vec::new(), Vec::new());
+    for i in 0..sheet.count {
+        match least_keep(sheet, &kept, i, budget)? {
+            None => return Ok(refuse(15, i)),
+            Some((k, r)) => {
+                kept.push(k);
+                worst.push(r);
+            }
+        }
+    }
+    Ok(Ok((kept, worst)))
+}
+
+/// The trace check: none where the list is legal, else the first release that is too close.
+pub fn trace_check(sheet: &Sheet, n: usize, columns: &Columns) -> Result<Option<usize>, Refusal> {
+    check_sheet(sheet)?;
+    check_count(n)?;
+    columns.check_slots(n)?;
+    let list = columns.list(n);
+    check_releases(sheet, &list)?;
+    Ok(first_too_close(sheet, &list))
+}
+
+pub fn ready(sheet: &Sheet, kept: &[u32], n: usize, columns: &Columns, ready_slots: usize) -> Result<Vec<u32>, Refusal> {
+    check_sheet(sheet)?;
+    check_count(n)?;
+    check_slots(kept.len(), sheet.count)?;
+    columns.check_slots(n)?;
+    check_slots(ready_slots, n)?;
+    check_kept(sheet, kept)?;
+    let list = columns.list(n);
+    check_releases(sheet, &list)?;
+    Ok(ready_ticks(sheet, kept, &list).iter().map(|&t| t as u32).collect())
+}
+
+pub fn run(
+    sheet: &Sheet,
+    kept: &[u32],
+    n: usize,
+    columns: &Columns,
+    ready_slots: usize,
+    finish_slots: usize,
+) -> Result<(Vec<u32>, Vec<u32>), Refusal> {
+    check_sheet(sheet)?;
+    check_count(n)?;
+    check_slots(kept.len(), sheet.count)?;
+    columns.check_slots(n)?;
+    check_slots(ready_slots, n)?;
+    check_slots(finish_slots, n)?;
+    check_kept(sheet, kept)?;
+    let list = columns.list(n);
+    check_releases(sheet, &list)?;
+    let ready = ready_ticks(sheet, kept, &list);
+    let finish = finish_ticks(&list, &ready);
+    Ok((ready.iter().map(|&t| t as u32).collect(), finish.iter().map(|&t| t as u32).collect()))
+}
+
+/// The bytes of a sheet and a list.
+pub fn encode(tasks: &[Task], list: &[Release]) -> Vec<u8> {
+    let mut out = Vec::new();
+    for t in tasks {
+        out.push(1);
+        for x in [t.p, t.j, t.e, t.d] {
+            out.extend_from_slice(&x.to_le_bytes());
+        }
+    }
+    for r in list {
+        out.push(2);
+        out.push(r.task as u8);
+        out.extend_from_slice(&r.tick.to_le_bytes());
+        out.extend_from_slice(&r.cost.to_le_bytes());
+    }
+    out.push(3);
+    out
+}
+
+pub fn write(sheet: &Sheet, n: usize, columns: &Columns, out_slots: usize) -> Result<Vec<u8>, Refusal> {
+    check_sheet(sheet)?;
+    check_count(n)?;
+    columns.check_slots(n)?;
+    check_slots(out_slots, 17 * sheet.count + 10 * n + 1)?;
+    let list = columns.list(n);
+    check_releases(sheet, &list)?;
+    Ok(encode(&sheet.tasks[..sheet.count], &list))
+}
+
+fn number_at(file: &[u8], at: usize) -> u32 {
+    u32::from_le_bytes([file[at], file[at + 1], file[at + 2], file[at + 3]])
+}
+
+/// What a file holds. The earliest record decides, and within a record the lowest number.
+pub fn decode(file: &[u8]) -> Result<(Sheet, Vec<Release>), Refusal> {
+    let mut sheet = Sheet { count: 0, tasks: Vec::new() };
+    let mut list: Vec<Release> = Vec::new();
+    let mut at = 0;
+    loop {
+        let Some(&kind) = file.get(at) else {
+            return refuse(2, at);
+        };
+        let size = match kind {
+            1 => 17,
+            2 => 10,
+            3 => 1,
+            _ => return refuse(1, at),
+        };
+        if file.len() - at < size {
+            return refuse(2, at);
+        }
+        match kind {
+            1 => {
+                let t = Task {
+                    p: number_at(file, at + 1),
+                    j: number_at(file, at + 5),
+                    e: number_at(file, at + 9),
+                    d: number_at(file, at + 13),
+                };
+                if !list.is_empty() {
+                    return refuse(3, at);
+                }
+                if sheet.count == MAX_TASKS {
+                    return refuse(4, at);
+                }
+                if !in_range(t) {
+                    return refuse(6, at);
+                }
+                sheet.tasks.push(t);
+                sheet.count += 1;
+            }
+            2 => {
+                if sheet.count == 0 {
+                    return refuse(5, at);
+                }
+                let r = Release {
+                    task: file[at + 1] as u32,
+                    tick: number_at(file, at + 2),
+                    cost: number_at(file, at + 6),
+                };
+                if let Some(number) = release_fault(&sheet, list.last().map(|r| r.tick), r) {
+                    return refuse(number, at);
+                }
+                if list.len() == MAX_RELEASES {
+                    return refuse(10, at);
+                }
+                list.push(r);
+            }
+            _ => {
+                if sheet.count == 0 {
+                    return refuse(5, at);
+                }
+                if file.len() > at + 1 {
+                    return refuse(11, at + 1);
+                }
+                return Ok((sheet, list));
+            }
+        }
+        at += size;
+    }
+}
+
+/// A read: 13 after the whole file; the lengths of the three lent columns decide it.
+pub fn read(file: &[u8], slots: [usize; 3]) -> Result<(Sheet, Vec<Release>), Refusal> {
+    let (sheet, list) = decode(file)?;
+    for s in slots {
+        check_slots(s, list.len())?;
+    }
+    Ok((sheet, list))
+}

@@ -1,0 +1,362 @@
+//! The cases of `vectors_analysis`: arrival count, verdict and choice.
+
+use crate::case::*;
+use crate::lists::{full_kept, full_sheet};
+use crate::reference::{arrival_count, choice, verdict, Budget, Sheet, Verdict};
+
+const MILLION: u32 = 1_000_000;
+
+/// What a call about one task is given; t matters to the arrival count alone.
+#[derive(Clone)]
+struct TaskCall {
+    sheet: Sheet,
+    task: u32,
+    kept: Vec<u32>,
+    t: u32,
+}
+
+fn about(sheet: &Sheet, task: u32, kept: &[u32], t: u32) -> TaskCall {
+    TaskCall { sheet: sheet.clone(), task, kept: kept.to_vec(), t }
+}
+
+fn arrival_answer(c: &TaskCall) -> String {
+    match arrival_count(&c.sheet, c.task as usize, &c.kept, c.t) {
+        Err(r) => refused(r),
+        Ok(n) => format!(" {n}"),
+    }
+}
+
+fn verdict_answer(c: &TaskCall) -> String {
+    match verdict(&c.sheet, c.task as usize, &c.kept, &mut Budget::of(u64::MAX)).ok().unwrap() {
+        Err(r) => refused(r),
+        Ok(Verdict::Horizon { q }) => format!(" horizon q {q}"),
+        Ok(Verdict::Late { q, r }) => format!(" late q {q} R {r}"),
+        Ok(Verdict::Fits { r, q }) => format!(" fits R {r} q {q}"),
+    }
+}
+
+fn arrival_blocks(c: &TaskCall) -> Vec<Vec<u8>> {
+    vec![head(0, &[c.task, c.t], &c.sheet), numbers(&c.kept)]
+}
+
+fn verdict_blocks(c: &TaskCall) -> Vec<Vec<u8>> {
+    vec![head(1, &[c.task], &c.sheet), numbers(&c.kept)]
+}
+
+/// What the choice is given.
+#[derive(Clone)]
+struct ChoiceCall {
+    sheet: Sheet,
+    kept: Vec<u32>,
+    worst: Vec<u32>,
+}
+
+/// Two slots more than the sheet has tasks in each column.
+fn choosing(sheet: &Sheet) -> ChoiceCall {
+    ChoiceCall { sheet: sheet.clone(), kept: held(sheet.count + 2), worst: held(sheet.count + 2) }
+}
+
+fn choice_answer(c: &ChoiceCall) -> String {
+    match choice(&c.sheet, c.kept.len(), c.worst.len(), &mut Budget::of(u64::MAX)).ok().unwrap() {
+        Err(r) => refused(r) + &column(&c.kept) + &column(&c.worst),
+        Ok((kept, worst)) => format!(" fine{}{}", column(&written(&kept, &c.kept)), column(&written(&worst, &c.worst))),
+    }
+}
+
+fn choice_blocks(c: &ChoiceCall) -> Vec<Vec<u8>> {
+    vec![head(2, &[], &c.sheet), numbers(&c.kept), numbers(&c.worst)]
+}
+
+fn add_arrivals(v: &mut Vectors, label: &str, c: &TaskCall) {
+    v.case(&format!("arrivals, {label}"), &arrival_blocks(c), &arrival_answer(c));
+}
+
+fn add_verdict(v: &mut Vectors, label: &str, c: &TaskCall) {
+    v.case(&format!("verdict, {label}"), &verdict_blocks(c), &verdict_answer(c));
+}
+
+fn add_choice(v: &mut Vectors, label: &str, c: &ChoiceCall) {
+    v.case(&format!("choice, {label}"), &choice_blocks(c), &choice_answer(c));
+}
+
+/// The printed sheet with another deadline for one task.
+fn with_deadline(task: usize, d: u32) -> Sheet {
+    let mut s = printed_sheet();
+    s.tasks[task].d = d;
+    s
+}
+
+/// Sums 1 and 6 to 11.
+fn worked_tasks(v: &mut Vectors) {
+    let s = printed_sheet();
+    for (t, line) in [(0, " 0"), (1, " 1"), (2, " 2"), (7, " 2"), (8, " 3")] {
+        let c = about(&s, 0, &[5, 7, 0], t);
+        v.worked(&format!("arrivals, sum 1, t {t}"), &arrival_blocks(&c), &arrival_answer(&c), line);
+    }
+    let most = about(&sheet(&[(1, MILLION, 1, 1)]), 0, &[MILLION], u32::MAX);
+    v.worked("arrivals, most", &arrival_blocks(&most), &arrival_answer(&most), " 4295967295");
+    let mut add = |label: &str, sheet: &Sheet, task: u32, kept: &[u32], line: &str| {
+        let c = about(sheet, task, kept, 0);
+        v.worked(&format!("verdict, {label}"), &verdict_blocks(&c), &verdict_answer(&c), line);
+    };
+    // With K = J = 7, R(0) is W(0) and R(1) is W(1) − 1: 4 and 7.
+    add("sum 6, W(0)", &with_deadline(1, 3), 1, &[1, 7, 0], " late q 0 R 4");
+    add("sum 6, W(1)", &with_deadline(1, 6), 1, &[1, 7, 0], " late q 1 R 7");
+    add("sum 7, K 2", &s, 1, &[1, 2, 0], " late q 0 R 9");
+    add("sum 7, K 3", &s, 1, &[1, 3, 0], " fits R 8 q 0");
+    add("sum 8, W(0)", &with_deadline(1, 5), 1, &[5, 7, 0], " late q 0 R 6");
+    add("sum 8", &s, 1, &[5, 7, 0], " late q 1 R 9");
+    add("sum 9", &s, 2, &[1, 3, 0], " fits R 10 q 0");
+    add("sum 9, D 9", &with_deadline(2, 9), 2, &[1, 3, 0], " late q 0 R 10");
+    add("sum 10", &s, 2, &[5, 7, 0], " late q 0 R 16");
+    let busy = sheet(&[(1, 0, 1, 1), (1, 0, 1, 1)]);
+    add("sum 11, task 0", &busy, 0, &[0, 0], " fits R 1 q 0");
+    add("sum 11, task 1", &busy, 1, &[0, 0], " horizon q 0");
+}
+
+/// The printed choice, and choices that follow from the sums.
+fn worked_choices(v: &mut Vectors) {
+    let mut add = |label: &str, sheet: &Sheet, line: &str| {
+        let c = choosing(sheet);
+        v.worked(&format!("choice, {label}"), &choice_blocks(&c), &choice_answer(&c), line);
+    };
+    add("printed sheet", &printed_sheet(), " fine, 1 3 0 - -, 6 8 10 - -");
+    add("printed sheet, D 9", &with_deadline(2, 9), " refused 15 at 2, - - - - -, - - - - -");
+    add("sum 11, one task", &sheet(&[(1, 0, 1, 1)]), " fine, 0 - -, 1 - -");
+    add("sum 11, two tasks", &sheet(&[(1, 0, 1, 1), (1, 0, 1, 1)]), " refused 15 at 1, - - - -, - - - -");
+}
+
+/// Choices that the reference is too slow for, since it walks to the horizon for each of a million K.
+fn worked_by_hand_alone(v: &mut Vectors) {
+    // Task 0 keeps 1 (R(0) = 1 + 1 − K, D 1), so that for task 1 W(q) is 2q + 3. That is over d_K(q + 1) ≤ 2q + 2 for every K and q.
+    let c = choosing(&sheet(&[(2, 1, 1, 1), (2, 999_990, 1, MILLION)]));
+    v.case("choice, no K fits up to the horizon", &choice_blocks(&c), " refused 15 at 1, - - - -, - - - -");
+    // W(q) is q + 1. At K 0 R(0) is 1,000,001; at any other K W(q) is over d_K(q + 1) for every q.
+    let c = choosing(&sheet(&[(1, MILLION, 1, MILLION)]));
+    v.case("choice, period 1, largest jitter", &choice_blocks(&c), " refused 15 at 0, - - -, - - -");
+}
+
+fn arrivals(v: &mut Vectors) {
+    let s = sheet(&[(7, 20, 2, 9), (MILLION, MILLION, 1, 5), (3, 2, 3, 3)]);
+    for (task, kept) in [(0, [0, 0, 0]), (0, [20, 0, 0]), (1, [0, MILLION, 0]), (1, [0, 999_999, 0]), (2, [0, 0, 2])] {
+        for t in [0, 1, 2, 7, 8, 1_000_000, 1_000_001, 10_000_000, u32::MAX - 1, u32::MAX] {
+            let label = format!("task {task}, K {}, t {t}", kept[task as usize]);
+            add_arrivals(v, &label, &about(&s, task, &kept, t));
+        }
+    }
+}
+
+/// Sheets at the limits of each number, and relations between the numbers of a task.
+fn edges() -> Vec<(&'static str, Sheet)> {
+    vec![
+        ("J over P", sheet(&[(10, 35, 3, 40), (20, 70, 3, 90), (50, 120, 10, 200)])),
+        ("D over P", sheet(&[(10, 4, 4, 30), (14, 5, 5, 60), (25, 3, 5, 100)])),
+        ("E is P", sheet(&[(5, 0, 5, 5)])),
+        ("E is P, D over P", sheet(&[(5, 3, 5, 20)])),
+        ("E is P, J over P", sheet(&[(5, 11, 5, 16)])),
+        ("E is D", sheet(&[(9, 0, 4, 4), (20, 0, 5, 13)])),
+        ("E is D, J 1", sheet(&[(9, 1, 4, 4), (20, 0, 5, 13)])),
+        ("whole processor", sheet(&[(4, 0, 2, 4), (8, 0, 2, 8), (16, 0, 4, 16)])),
+        ("whole processor and one more", sheet(&[(4, 0, 2, 4), (8, 0, 2, 8), (16, 0, 4, 16), (1000, 0, 1, 1000)])),
+        ("over the whole processor", sheet(&[(4, 0, 2, 4), (8, 0, 4, 16), (16, 0, 1, 64)])),
+        ("least numbers", sheet(&[(1, 0, 1, 1)])),
+        ("period 1, J is D", sheet(&[(1, 60, 1, 60)])),
+        ("period 1, J below D", sheet(&[(1, 60, 1, 61)])),
+        ("largest numbers", sheet(&[(MILLION, MILLION, MILLION, MILLION)])),
+        ("largest numbers, J 0", sheet(&[(MILLION, 0, MILLION, MILLION)])),
+        ("largest P, J and D, E 1", sheet(&[(MILLION, MILLION, 1, MILLION)])),
+        ("D 1", sheet(&[(MILLION, MILLION, 1, 1)])),
+        ("no K is enough", sheet(&[(6, 5, 2, 2)])),
+    ]
+}
+
+/// W(0) at and over the horizon. With one task above, of cost P − 1 and kept jitter K, W(0) = e + (e + K)(P − 1) for a cost e.
+fn horizon(v: &mut Vectors) {
+    let at = sheet(&[(MILLION, 0, 999_999, MILLION), (50, 9, 10, MILLION)]);
+    add_verdict(v, "W(0) is the horizon", &about(&at, 1, &[0, 9], 0));
+    add_verdict(v, "W(0) is the horizon, K 0", &about(&at, 1, &[0, 0], 0));
+    let also = sheet(&[(909_091, 1, 909_090, MILLION), (50, 9, 10, MILLION), (50, 0, 11, MILLION)]);
+    add_verdict(v, "W(0) is the horizon, K 1 above", &about(&also, 1, &[1, 9, 0], 0));
+    let over = sheet(&[(909_091, 1, 909_090, MILLION), (50, 0, 11, MILLION)]);
+    add_verdict(v, "W(0) one over the horizon", &about(&over, 1, &[0, 0], 0));
+    let far = sheet(&[(MILLION, 0, 999_999, MILLION), (50, 9, 11, MILLION)]);
+    add_verdict(v, "W(0) far over the horizon", &about(&far, 1, &[0, 0], 0));
+    // W(q) = (q + 1)P + (99 − q), so that the stop is met at q 99 first, where W is the horizon.
+    let stop = sheet(&[(100_000, 101, 100, 100), (100_000, 0, 99_899, 200_000)]);
+    add_verdict(v, "fits with W(99) at the horizon", &about(&stop, 1, &[101, 0], 0));
+    add_choice(v, "fits with W(99) at the horizon", &choosing(&stop));
+    let beyond = sheet(&[(100_000, 102, 101, 101), (100_000, 0, 99_898, 200_000)]);
+    add_verdict(v, "W(99) one over the horizon", &about(&beyond, 1, &[102, 0], 0));
+    add_choice(v, "W(99) one over the horizon", &choosing(&beyond));
+    let late_q = sheet(&[(2000, 1, 1000, 1001), (2000, 1500, 1000, MILLION)]);
+    add_verdict(v, "horizon at a late q", &about(&late_q, 1, &[1, 1500], 0));
+    add_verdict(v, "horizon at a late q, K 0", &about(&late_q, 1, &[1, 0], 0));
+    add_choice(v, "horizon at a late q", &choosing(&late_q));
+}
+
+/// 32 tasks that load a part of the processor.
+fn loaded(per_mille: u32, jitter: u32, deadlines: u32) -> Sheet {
+    let all: Vec<_> = (0..32u32)
+        .map(|i| {
+            let p = 400 + 97 * i + 13 * (i * i % 7);
+            let e = (p * per_mille / 32_000).max(1);
+            (p, p * jitter / 100 + i % 5, e, (p * deadlines / 100 + 12 * i).max(e))
+        })
+        .collect();
+    sheet(&all)
+}
+
+fn full(v: &mut Vectors) {
+    for (per_mille, jitter, deadlines) in
+        [(300, 0, 90), (400, 100, 100), (300, 90, 80), (500, 60, 70), (300, 160, 110), (900, 50, 400), (980, 5, 700), (1010, 0, 700)]
+    {
+        let s = loaded(per_mille, jitter, deadlines);
+        let label = format!("32 tasks, load {per_mille}, jitter {jitter}, deadlines {deadlines}");
+        let whole: Vec<u32> = s.tasks.iter().map(|t| t.j).collect();
+        for i in [0, 15, 31] {
+            add_verdict(v, &format!("{label}, task {i}, K is J"), &about(&s, i, &whole, 0));
+            add_verdict(v, &format!("{label}, task {i}, K 0"), &about(&s, i, &[0; 32], 0));
+        }
+        add_choice(v, &label, &choosing(&s));
+    }
+    for i in 0..32 {
+        add_verdict(v, &format!("full sheet, task {i}"), &about(&full_sheet(), i, &full_kept(), 0));
+    }
+    add_choice(v, "full sheet", &choosing(&full_sheet()));
+}
+
+/// Small sheets: each task's verdict and the choice.
+fn small(v: &mut Vectors) {
+    let mut m = Mixer::from(7);
+    for n in 0..40 {
+        let all: Vec<_> = (0..m.within(1, 4))
+            .map(|_| {
+                let p = m.within(3, 30);
+                let e = m.within(1, 1 + p / 4);
+                (p, m.within(0, 2 * p), e, m.within(e, 3 * p + 10))
+            })
+            .collect();
+        let s = sheet(&all);
+        let kept: Vec<u32> = s.tasks.iter().map(|t| m.within(0, t.j)).collect();
+        for i in 0..s.count {
+            add_verdict(v, &format!("small sheet {n}, task {i}"), &about(&s, i as u32, &kept, 0));
+        }
+        add_choice(v, &format!("small sheet {n}"), &choosing(&s));
+    }
+}
+
+/// The refusals of a call about one task.
+fn task_refusals() -> Vec<(&'static str, TaskCall)> {
+    let of = |change: fn(&mut TaskCall)| {
+        let mut c = about(&printed_sheet(), 1, &[1, 3, 0], 8);
+        change(&mut c);
+        c
+    };
+    vec![
+        ("count 0", of(|c| c.sheet.count = 0)),
+        ("count 33", of(|c| c.sheet.count = 33)),
+        ("P 0 of task 2", of(|c| c.sheet.tasks[2].p = 0)),
+        ("E over D of task 0", of(|c| c.sheet.tasks[0].d = 1)),
+        ("J 1000001 of task 1", of(|c| c.sheet.tasks[1].j = 1_000_001)),
+        ("D 1000001 of task 1", of(|c| c.sheet.tasks[1].d = 1_000_001)),
+        ("task 3", of(|c| c.task = 3)),
+        ("task 32", of(|c| c.task = 32)),
+        ("task 4294967295", of(|c| c.task = u32::MAX)),
+        ("kept column short", of(|c| c.kept.truncate(2))),
+        ("no kept column", of(|c| c.kept.clear())),
+        ("kept column longer", of(|c| c.kept.push(99))),
+        ("K over J of task 0", of(|c| c.kept[0] = 6)),
+        ("K over J of task 1", of(|c| c.kept[1] = 8)),
+        ("K over J of the task below", of(|c| c.kept[2] = 1)),
+        ("K over J of tasks 1 and 2", of(|c| c.kept = vec![5, u32::MAX, 1])),
+        ("6 before 14", of(|c| {
+            c.sheet.tasks[2].p = 0;
+            c.task = 3;
+        })),
+        ("14 before 13", of(|c| {
+            c.task = 5;
+            c.kept.clear();
+        })),
+        ("13 before 12", of(|c| c.kept = vec![6, 8])),
+        ("5 before 14", of(|c| {
+            c.sheet.count = 0;
+            c.task = 0;
+        })),
+        ("4 before 6", of(|c| {
+            c.sheet.count = 33;
+            c.sheet.tasks[0].p = 0;
+        })),
+        ("an entry past the count out of range", of(|c| c.sheet.tasks.push(task(0, 0, 0, 0)))),
+    ]
+}
+
+/// The refusals of the choice.
+fn choice_refusals() -> Vec<(&'static str, ChoiceCall)> {
+    let of = |change: fn(&mut ChoiceCall)| {
+        let mut c = choosing(&printed_sheet());
+        change(&mut c);
+        c
+    };
+    vec![
+        ("count 0", of(|c| c.sheet.count = 0)),
+        ("count 33", of(|c| c.sheet.count = 33)),
+        ("P 0 of task 2", of(|c| c.sheet.tasks[2].p = 0)),
+        ("kept column short", of(|c| c.kept.truncate(2))),
+        ("worst column short", of(|c| c.worst.truncate(2))),
+        ("no column", of(|c| {
+            c.kept.clear();
+            c.worst.clear();
+        })),
+        ("columns as long as the sheet", of(|c| {
+            c.kept.truncate(3);
+            c.worst.truncate(3);
+        })),
+        ("6 before 13", of(|c| {
+            c.sheet.tasks[1].e = 0;
+            c.kept.clear();
+        })),
+        ("13 before 15", of(|c| {
+            c.sheet.tasks[0].d = 2;
+            c.worst.truncate(1);
+        })),
+        ("no K fits task 0", of(|c| c.sheet.tasks[0].d = 2)),
+        ("no K fits task 1", of(|c| c.sheet.tasks[1].d = 3)),
+        ("slots hold numbers, accepted", of(|c| {
+            c.kept = vec![11, 22, 33, 44];
+            c.worst = vec![55, 66, 77, 88];
+        })),
+        ("slots hold numbers, 15", of(|c| {
+            c.sheet.tasks[2].d = 9;
+            c.kept = vec![11, 22, 33, 44];
+            c.worst = vec![55, 66, 77, 88];
+        })),
+        ("an entry past the count out of range", of(|c| c.sheet.tasks.push(task(0, 0, 0, 0)))),
+    ]
+}
+
+pub fn vectors() -> Vectors {
+    let mut v = Vectors::new();
+    worked_tasks(&mut v);
+    worked_choices(&mut v);
+    worked_by_hand_alone(&mut v);
+    arrivals(&mut v);
+    for (label, s) in &edges() {
+        let whole: Vec<u32> = s.tasks.iter().map(|t| t.j).collect();
+        for i in 0..s.count {
+            add_verdict(&mut v, &format!("{label}, task {i}, K is J"), &about(s, i as u32, &whole, 0));
+            add_verdict(&mut v, &format!("{label}, task {i}, K 0"), &about(s, i as u32, &vec![0; s.count], 0));
+        }
+        add_choice(&mut v, label, &choosing(s));
+    }
+    horizon(&mut v);
+    full(&mut v);
+    small(&mut v);
+    for (label, c) in &task_refusals() {
+        add_arrivals(&mut v, label, c);
+        add_verdict(&mut v, label, c);
+    }
+    for (label, c) in &choice_refusals() {
+        add_choice(&mut v, label, c);
+    }
+    v
+}

@@ -1,0 +1,151 @@
+//! A stored case: blocks of standard input and the line that answers them.
+
+use crate::reference::{Columns, Refusal, Release, Sheet, Task};
+
+/// What a lent slot holds before a call; the programs print it as a stroke.
+pub const HELD: u32 = u32::MAX;
+
+/// The cases of one program.
+pub struct Vectors {
+    pub stdin: Vec<u8>,
+    pub stdout: String,
+}
+
+impl Vectors {
+    pub fn new() -> Vectors {
+        Vectors { stdin: Vec::new(), stdout: String::new() }
+    }
+
+    /// Adds a case with the line that the reference gives.
+    pub fn case(&mut self, label: &str, blocks: &[Vec<u8>], answer: &str) {
+        assert!(label.len() <= 128);
+        self.block(label.as_bytes());
+        for b in blocks {
+            self.block(b);
+        }
+        self.stdout += &format!("{label}:{answer}\n");
+    }
+
+    /// Adds a case of document 01 with the line worked out by hand, which the reference has to give too.
+    pub fn worked(&mut self, label: &str, blocks: &[Vec<u8>], answer: &str, by_hand: &str) {
+        assert_eq!(answer, by_hand, "{label}");
+        self.case(label, blocks, by_hand);
+    }
+
+    fn block(&mut self, bytes: &[u8]) {
+        self.stdin.extend_from_slice(&(bytes.len() as u32).to_le_bytes());
+        self.stdin.extend_from_slice(bytes);
+    }
+}
+
+/// A block of numbers.
+pub fn numbers(all: &[u32]) -> Vec<u8> {
+    all.iter().flat_map(|n| n.to_le_bytes()).collect()
+}
+
+/// The first block of numbers: which call, up to three numbers that it is given, the sheet's count and its entries.
+pub fn head(call: u32, given: &[u32], sheet: &Sheet) -> Vec<u8> {
+    let mut all = vec![0; 8];
+    all[0] = call;
+    all[1..1 + given.len()].copy_from_slice(given);
+    all[4] = sheet.count as u32;
+    all.extend(sheet.tasks.iter().flat_map(|t| [t.p, t.j, t.e, t.d]));
+    numbers(&all)
+}
+
+/// `n` slots that hold the stroke.
+pub fn held(n: usize) -> Vec<u32> {
+    vec![HELD; n]
+}
+
+/// A column as it stands after a call: the answer, then what the slots held.
+pub fn written(answer: &[u32], slots: &[u32]) -> Vec<u32> {
+    answer.iter().chain(&slots[answer.len()..]).copied().collect()
+}
+
+/// A column as it is printed.
+pub fn column(slots: &[u32]) -> String {
+    slots.iter().fold(String::from(","), |text, &v| match v {
+        HELD => text + " -",
+        _ => text + &format!(" {v}"),
+    })
+}
+
+pub fn refused(r: Refusal) -> String {
+    format!(" refused {} at {}", r.number, r.place)
+}
+
+pub fn task(p: u32, j: u32, e: u32, d: u32) -> Task {
+    Task { p, j, e, d }
+}
+
+pub fn sheet(tasks: &[(u32, u32, u32, u32)]) -> Sheet {
+    Sheet::of(&tasks.iter().map(|&(p, j, e, d)| task(p, j, e, d)).collect::<Vec<_>>())
+}
+
+pub fn list(releases: &[(u32, u32, u32)]) -> Vec<Release> {
+    releases.iter().map(|&(task, tick, cost)| Release { task, tick, cost }).collect()
+}
+
+/// The sheet and the releases printed in document 01.
+pub fn printed_sheet() -> Sheet {
+    sheet(&[(6, 5, 2, 6), (8, 7, 2, 8), (10, 0, 2, 10)])
+}
+
+pub fn printed_list() -> Vec<Release> {
+    list(&[(0, 0, 2), (2, 0, 2), (0, 1, 2)])
+}
+
+/// Numbers that look random, the same at each run.
+pub struct Mixer {
+    state: u64,
+}
+
+impl Mixer {
+    pub fn from(seed: u64) -> Mixer {
+        Mixer { state: seed }
+    }
+    /// A number from low to high, both included.
+    pub fn within(&mut self, low: u32, high: u32) -> u32 {
+        self.state = self.state.wrapping_mul(6364136223846793005).wrapping_add(1442695040888963407);
+        low + ((self.state >> 33) % (high as u64 - low as u64 + 1)) as u32
+    }
+}
+
+/// What a call with a list is given. A call that takes no kept jitters or writes no ticks leaves those columns aside.
+#[derive(Clone)]
+pub struct ListCall {
+    pub sheet: Sheet,
+    pub kept: Vec<u32>,
+    pub count: usize,
+    pub task: Vec<u32>,
+    pub tick: Vec<u32>,
+    pub cost: Vec<u32>,
+    pub ready: Vec<u32>,
+    pub finish: Vec<u32>,
+}
+
+impl ListCall {
+    /// Columns as long as the list, and two slots more than that for each answer.
+    pub fn of(sheet: &Sheet, kept: &[u32], list: &[Release]) -> ListCall {
+        ListCall {
+            sheet: sheet.clone(),
+            kept: kept.to_vec(),
+            count: list.len(),
+            task: list.iter().map(|r| r.task).collect(),
+            tick: list.iter().map(|r| r.tick).collect(),
+            cost: list.iter().map(|r| r.cost).collect(),
+            ready: held(list.len() + 2),
+            finish: held(list.len() + 2),
+        }
+    }
+
+    pub fn columns(&self) -> Columns<'_> {
+        Columns { task: &self.task, tick: &self.tick, cost: &self.cost }
+    }
+
+    /// The three columns of releases as blocks.
+    pub fn list_blocks(&self) -> Vec<Vec<u8>> {
+        vec![numbers(&self.task), numbers(&self.tick), numbers(&self.cost)]
+    }
+}

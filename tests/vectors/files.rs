@@ -1,0 +1,314 @@
+//! The cases of `vectors_files`: read, write, and a file read and written again.
+
+use crate::case::*;
+use crate::lists::{full_list, full_sheet, refusals, sound};
+use crate::reference::{encode, read, write, Release, Sheet, Task};
+
+/// What a byte of a lent buffer holds before a call.
+const BYTE: u8 = 0xee;
+
+fn no_sheet() -> Sheet {
+    Sheet { count: 0, tasks: Vec::new() }
+}
+
+/// What a read is given: a file and three columns.
+#[derive(Clone)]
+struct ReadCall {
+    file: Vec<u8>,
+    slots: [Vec<u32>; 3],
+}
+
+/// Columns with `n` slots each.
+fn reading(file: &[u8], n: usize) -> ReadCall {
+    ReadCall { file: file.to_vec(), slots: [held(n), held(n), held(n)] }
+}
+
+fn entries(s: &Sheet) -> String {
+    s.tasks.iter().fold(format!(" sheet {}", s.count), |text, t| text + &format!(", {} {} {} {}", t.p, t.j, t.e, t.d))
+}
+
+fn read_answer(c: &ReadCall) -> String {
+    match read(&c.file, [c.slots[0].len(), c.slots[1].len(), c.slots[2].len()]) {
+        Err(r) => {
+            let columns: String = c.slots.iter().map(|s| column(s)).collect();
+            refused(r) + " sheet 0" + &columns
+        }
+        Ok((sheet, list)) => {
+            let columns: [Vec<u32>; 3] = [
+                list.iter().map(|r| r.task).collect(),
+                list.iter().map(|r| r.tick).collect(),
+                list.iter().map(|r| r.cost).collect(),
+            ];
+            let text: String = (0..3).map(|i| column(&written(&columns[i], &c.slots[i]))).collect();
+            format!(" read {}{}{}", list.len(), entries(&sheet), text)
+        }
+    }
+}
+
+fn read_blocks(c: &ReadCall) -> Vec<Vec<u8>> {
+    let mut all = vec![head(0, &[], &no_sheet()), c.file.clone()];
+    all.extend(c.slots.iter().map(|s| numbers(s)));
+    all
+}
+
+fn bytes(all: &[u8]) -> String {
+    all.iter().fold(String::from(", "), |text, b| text + &format!("{b:02x}"))
+}
+
+fn write_answer(c: &ListCall, slots: usize) -> String {
+    match write(&c.sheet, c.count, &c.columns(), slots) {
+        Err(r) => refused(r) + &bytes(&vec![BYTE; slots]),
+        Ok(file) => {
+            let mut all = file.clone();
+            all.resize(slots, BYTE);
+            format!(" written {}{}", file.len(), bytes(&all))
+        }
+    }
+}
+
+fn write_blocks(c: &ListCall, slots: usize) -> Vec<Vec<u8>> {
+    let mut all = vec![head(1, &[c.count as u32], &c.sheet)];
+    all.extend(c.list_blocks());
+    all.push(vec![BYTE; slots]);
+    all
+}
+
+fn needed(c: &ListCall) -> usize {
+    17 * c.sheet.count + 10 * c.count + 1
+}
+
+/// A file that is read and written again: the same bytes.
+fn again_answer(file: &[u8]) -> String {
+    match read(file, [1024; 3]) {
+        Err(r) => refused(r),
+        Ok((sheet, list)) => {
+            assert_eq!(encode(&sheet.tasks, &list), file);
+            format!(" written {}{}", file.len(), bytes(file))
+        }
+    }
+}
+
+fn again_blocks(file: &[u8]) -> Vec<Vec<u8>> {
+    vec![head(2, &[], &no_sheet()), file.to_vec()]
+}
+
+fn add_read(v: &mut Vectors, label: &str, c: &ReadCall) {
+    v.case(&format!("read, {label}"), &read_blocks(c), &read_answer(c));
+}
+
+fn add_write(v: &mut Vectors, label: &str, c: &ListCall, slots: usize) {
+    v.case(&format!("write, {label}"), &write_blocks(c, slots), &write_answer(c, slots));
+}
+
+fn add_again(v: &mut Vectors, label: &str, file: &[u8]) {
+    v.case(&format!("again, {label}"), &again_blocks(file), &again_answer(file));
+}
+
+// ---- Records as bytes ----
+
+fn of_task(t: Task) -> Vec<u8> {
+    let mut all = encode(&[t], &[]);
+    all.pop();
+    all
+}
+
+fn of_release(task: u32, tick: u32, cost: u32) -> Vec<u8> {
+    let mut all = encode(&[], &[Release { task, tick, cost }]);
+    all.pop();
+    all
+}
+
+/// Records one after the other.
+fn file(records: &[Vec<u8>]) -> Vec<u8> {
+    records.concat()
+}
+
+fn end() -> Vec<u8> {
+    vec![3]
+}
+
+fn printed_file() -> Vec<u8> {
+    encode(&printed_sheet().tasks, &printed_list())
+}
+
+/// The printed sheet without and with the printed releases, written out by hand.
+fn worked(v: &mut Vectors) {
+    let sheet_hex = "0106000000050000000200000006000000010800000007000000020000000800000001\
+                     0a00000000000000020000000a000000";
+    let list_hex = "020000000000020000000202000000000200000002000100000002000000";
+    let sheet_line = " sheet 3, 6 5 2 6, 8 7 2 8, 10 0 2 10";
+    for (label, list, hex, line) in [
+        ("printed sheet", vec![], format!("{sheet_hex}03"), format!(" read 0{sheet_line}, - - - - -, - - - - -, - - - - -")),
+        ("printed example", printed_list(), format!("{sheet_hex}{list_hex}03"),
+         format!(" read 3{sheet_line}, 0 2 0 - -, 0 0 1 - -, 2 2 2 - -")),
+    ] {
+        let whole = encode(&printed_sheet().tasks, &list);
+        let r = reading(&whole, 5);
+        v.worked(&format!("read, {label}"), &read_blocks(&r), &read_answer(&r), &line);
+        let w = ListCall::of(&printed_sheet(), &[], &list);
+        let line = format!(" written {}, {hex}eeee", hex.len() / 2);
+        v.worked(&format!("write, {label}"), &write_blocks(&w, needed(&w) + 2), &write_answer(&w, needed(&w) + 2), &line);
+        let line = format!(" written {}, {hex}", hex.len() / 2);
+        v.worked(&format!("again, {label}"), &again_blocks(&whole), &again_answer(&whole), &line);
+    }
+    let empty = reading(&[], 1);
+    v.worked("read, empty file", &read_blocks(&empty), &read_answer(&empty), " refused 2 at 0 sheet 0, -, -, -");
+    let lone = reading(&[3], 1);
+    v.worked("read, lone end", &read_blocks(&lone), &read_answer(&lone), " refused 5 at 0 sheet 0, -, -, -");
+    let after = reading(&[3, 3], 1);
+    v.worked("read, lone end and a byte", &read_blocks(&after), &read_answer(&after), " refused 5 at 0 sheet 0, -, -, -");
+}
+
+/// A file cut before each of its bytes.
+fn cut(v: &mut Vectors) {
+    let whole = file(&[
+        of_task(task(6, 5, 2, 6)), of_task(task(8, 7, 2, 8)), of_release(0, 3, 2), of_release(1, 4, 1), end(),
+    ]);
+    for n in 0..=whole.len() {
+        add_read(v, &format!("the first {n} bytes"), &reading(&whole[..n], 3));
+    }
+    for n in 1..10 {
+        add_read(v, &format!("a release before any task, {n} bytes"), &reading(&of_release(9, u32::MAX, 0)[..n], 1));
+    }
+}
+
+/// Files with one fault or with several that compete.
+fn faults() -> Vec<(&'static str, Vec<u8>)> {
+    let t = || of_task(task(6, 5, 2, 6));
+    let low = || of_task(task(8, 7, 2, 8));
+    let bad = || of_task(task(0, 7, 2, 8));
+    let r = |task, tick, cost| of_release(task, tick, cost);
+    vec![
+        ("kind 0", file(&[t(), vec![0], end()])),
+        ("kind 4", file(&[t(), low(), vec![4], end()])),
+        ("kind 255 first", vec![255]),
+        ("kind 0 after a release", file(&[t(), r(0, 1, 1), vec![0]])),
+        ("kind 9 with nothing after it", file(&[t(), r(0, 1, 1), vec![9]])),
+        ("no end", file(&[t(), low()])),
+        ("no end after a release", file(&[t(), r(0, 0, 1)])),
+        ("task after a release", file(&[t(), r(0, 0, 1), low(), end()])),
+        ("task out of range after a release", file(&[t(), r(0, 0, 1), bad(), end()])),
+        ("task after a release, cut", file(&[t(), r(0, 0, 1), low()[..16].to_vec()])),
+        ("release before any task", file(&[r(0, 0, 1), t(), end()])),
+        ("release of no task before any task", file(&[r(200, u32::MAX, 0), end()])),
+        ("end before any task, then a file", file(&[end(), t(), end()])),
+        ("P 0", file(&[t(), bad(), end()])),
+        ("P 1000001", file(&[of_task(task(1_000_001, 0, 1, 1)), end()])),
+        ("J 1000001", file(&[t(), of_task(task(5, 1_000_001, 1, 1)), end()])),
+        ("E 0", file(&[t(), of_task(task(5, 0, 0, 1)), end()])),
+        ("E over P", file(&[t(), of_task(task(5, 0, 6, 9)), end()])),
+        ("E over D", file(&[t(), of_task(task(5, 0, 4, 3)), end()])),
+        ("D 0", file(&[t(), of_task(task(5, 0, 1, 0)), end()])),
+        ("D 1000001", file(&[t(), low(), of_task(task(5, 0, 1, 1_000_001)), end()])),
+        ("every byte 255 in a task", file(&[vec![1], vec![255; 16], end()])),
+        ("least numbers", file(&[of_task(task(1, 0, 1, 1)), r(0, 0, 1), end()])),
+        ("largest numbers", file(&[of_task(task(1_000_000, 1_000_000, 1_000_000, 1_000_000)), r(0, 1_000_000_000, 1_000_000), end()])),
+        ("release of task 2 of two", file(&[t(), low(), r(2, 0, 1), end()])),
+        ("release of task 255", file(&[t(), low(), r(0, 0, 1), r(255, 0, 1), end()])),
+        ("tick falls", file(&[t(), r(0, 9, 1), r(0, 8, 1), end()])),
+        ("equal ticks", file(&[t(), r(0, 9, 1), r(0, 9, 2), end()])),
+        ("tick 1000000001", file(&[t(), r(0, 1_000_000_001, 1), end()])),
+        ("tick 4294967295", file(&[t(), r(0, 3, 1), r(0, u32::MAX, 1), end()])),
+        ("cost 0", file(&[t(), r(0, 9, 0), end()])),
+        ("cost over E", file(&[t(), r(0, 9, 3), end()])),
+        ("cost 4294967295", file(&[t(), r(0, 9, 1), r(0, 9, u32::MAX), end()])),
+        ("7 before 8 and 9", file(&[t(), r(0, 9, 1), r(1, 8, 0), end()])),
+        ("8 before 9", file(&[t(), r(0, 9, 1), r(0, 8, 0), end()])),
+        ("9 in an earlier record than 7", file(&[t(), r(0, 9, 0), r(1, 8, 0), end()])),
+        ("7 in an earlier record than 3", file(&[t(), r(1, 9, 1), t(), end()])),
+        ("6 in an earlier record than 1", file(&[bad(), vec![7]])),
+        ("a byte after the end", file(&[t(), end(), vec![0]])),
+        ("an end after the end", file(&[t(), r(0, 1, 1), end(), end()])),
+        ("a file after the end", file(&[t(), end(), t(), end()])),
+        ("9 before a byte after the end", file(&[t(), r(0, 1, 0), end(), end()])),
+    ]
+}
+
+/// Counts at their limits. Only the columns of an accepted file have as many slots as it has releases.
+fn limits(v: &mut Vectors) {
+    let tasks: Vec<Vec<u8>> = full_sheet().tasks.iter().map(|&t| of_task(t)).collect();
+    let all = file(&tasks);
+    let one = of_task(task(6, 5, 2, 6));
+    let with = |tail: &[Vec<u8>]| [all.clone(), tail.concat()].concat();
+    add_read(v, "32 tasks", &reading(&with(&[end()]), 1));
+    add_read(v, "33 tasks", &reading(&with(&[one.clone(), end()]), 1));
+    add_read(v, "33rd task out of range", &reading(&with(&[of_task(task(0, 0, 0, 0)), end()]), 1));
+    add_read(v, "33rd task cut", &reading(&with(&[one[..16].to_vec()]), 1));
+    add_read(v, "33rd task after a release", &reading(&with(&[of_release(0, 0, 1), one.clone(), end()]), 1));
+    add_read(v, "release of task 32 of 32", &reading(&with(&[of_release(32, 0, 1), end()]), 1));
+    add_again(v, "32 tasks", &with(&[end()]));
+
+    let list = full_list();
+    let full = encode(&full_sheet().tasks, &list);
+    let last = list[1023].tick;
+    let mut many = full.clone();
+    many.pop();
+    let then = |tail: &[Vec<u8>]| [many.clone(), tail.concat()].concat();
+    add_read(v, "1024 releases", &reading(&full, 1026));
+    add_read(v, "1024 releases, 1023 slots", &reading(&full, 1023));
+    add_again(v, "1024 releases", &full);
+    add_read(v, "1025 releases", &reading(&then(&[of_release(0, last, 1), end()]), 1));
+    add_read(v, "1025th release of no task", &reading(&then(&[of_release(32, last, 1), end()]), 1));
+    add_read(v, "1025th tick falls", &reading(&then(&[of_release(0, last - 1, 1), end()]), 1));
+    add_read(v, "1025th cost 0", &reading(&then(&[of_release(0, last, 0), end()]), 1));
+    add_read(v, "1025th release cut", &reading(&then(&[of_release(0, last, 1)[..9].to_vec()]), 1));
+    add_read(v, "task after 1024 releases", &reading(&then(&[one.clone(), end()]), 1));
+    add_read(v, "1024 releases, a byte after the end", &reading(&then(&[end(), vec![2]]), 1));
+}
+
+/// The columns of a read: 13 after the whole file.
+fn read_columns(v: &mut Vectors) {
+    for (label, slots) in [
+        ("task column short", [2, 3, 3]),
+        ("tick column short", [3, 2, 3]),
+        ("cost column short", [3, 3, 2]),
+        ("no columns", [0, 0, 0]),
+        ("columns as long as the list", [3, 3, 3]),
+        ("columns of different lengths", [3, 5, 4]),
+    ] {
+        let c = ReadCall { file: printed_file(), slots: slots.map(held) };
+        add_read(v, label, &c);
+    }
+    let mut after = printed_file();
+    after.push(3);
+    add_read(v, "11 before 13", &reading(&after, 0));
+    let numbers = ReadCall { file: printed_file(), slots: [vec![11, 22, 33, 44], vec![55, 66, 77, 88], vec![1, 2, 3, 4]] };
+    add_read(v, "slots hold numbers, accepted", &numbers);
+    add_read(v, "slots hold numbers, refused", &ReadCall { file: after, ..numbers });
+}
+
+/// The writer's bytes: 13 after the columns, before the releases.
+fn write_bytes(v: &mut Vectors) {
+    let c = sound();
+    let n = needed(&c);
+    add_write(v, "as many bytes as needed", &c, n);
+    add_write(v, "one byte too few", &c, n - 1);
+    add_write(v, "no bytes", &c, 0);
+    let mut short = c.clone();
+    short.tick.truncate(2);
+    add_write(v, "column short before bytes", &short, 0);
+    let mut wrong = c.clone();
+    wrong.task[0] = 3;
+    add_write(v, "bytes short before 7", &wrong, n - 1);
+    let full = ListCall::of(&full_sheet(), &[], &full_list());
+    add_write(v, "32 tasks and 1024 releases", &full, needed(&full) + 2);
+    add_write(v, "32 tasks and 1024 releases, too few bytes", &full, 3);
+    add_write(v, "no releases", &ListCall::of(&printed_sheet(), &[], &[]), 52);
+}
+
+pub fn vectors() -> Vectors {
+    let mut v = Vectors::new();
+    worked(&mut v);
+    cut(&mut v);
+    for (label, f) in &faults() {
+        add_read(&mut v, label, &reading(f, 2));
+        add_again(&mut v, label, f);
+    }
+    limits(&mut v);
+    read_columns(&mut v);
+    for (label, c) in &refusals() {
+        add_write(&mut v, label, c, needed(&sound()) + 2);
+    }
+    write_bytes(&mut v);
+    v
+}

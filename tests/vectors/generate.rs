@@ -1,0 +1,35 @@
+//! Writes the stored vectors: for each program its standard input, and the output that it has to write. The answers come from
+//! tests/outside/reference.rs, an implementation of document 01 that shares no code with the library; the worked cases of
+//! document 01 are written out by hand besides.
+//!
+//! Usage: generate FOLDER. Files: FOLDER/NAME/stdin and FOLDER/NAME/stdout.
+
+mod analysis;
+mod case;
+mod files;
+mod lists;
+#[allow(dead_code)]
+#[path = "../outside/reference.rs"]
+mod reference;
+mod run;
+mod trace;
+
+use case::Vectors;
+use std::path::Path;
+
+fn write(folder: &Path, name: &str, v: Vectors) {
+    let place = folder.join(name);
+    std::fs::create_dir_all(&place).unwrap();
+    std::fs::write(place.join("stdin"), &v.stdin).unwrap();
+    std::fs::write(place.join("stdout"), &v.stdout).unwrap();
+    println!("{name}: {} cases", v.stdout.lines().count());
+}
+
+fn main() {
+    let folder = std::env::args().nth(1).expect("the folder to write to");
+    let folder = Path::new(&folder);
+    write(folder, "vectors_trace", trace::vectors());
+    write(folder, "vectors_files", files::vectors());
+    write(folder, "vectors_analysis", analysis::vectors());
+    write(folder, "vectors_run", run::vectors());
+}
