@@ -1,0 +1,302 @@
+//! Times the archive against the same methods in plain Rust and against the reference implementation, and shows how the cost
+//! grows with tasks and releases. All three are optimised and called in turn. Each figure is the median of several
+//! repetitions, in processor time of the thread, so that other work on the machine counts little.
+
+#[path = "../tests/outside/generator.rs"]
+#[allow(dead_code)]
+mod generator;
+#[path = "../tests/outside/library.rs"]
+#[allow(dead_code)]
+mod library;
+#[path = "../tests/outside/reference.rs"]
+#[allow(dead_code)]
+mod reference;
+mod same_method;
+
+use generator::{list_for, numbers_of, Random};
+use reference::{Budget, Release, Sheet, Task};
+use std::hint::black_box;
+
+const REPETITIONS: usize = 21;
+
+/// The C library's `struct timespec` on 64-bit Linux.
+#[repr(C)]
+struct Timespec {
+    seconds: i64,
+    nanoseconds: i64,
+}
+
+extern "C" {
+    fn clock_gettime(clock: i32, time: *mut Timespec) -> i32;
+}
+
+/// Processor time of this thread in microseconds.
+fn processor_time() -> f64 {
+    const THREAD_CPUTIME: i32 = 3;
+    let mut t = Timespec { seconds: 0, nanoseconds: 0 };
+    assert_eq!(unsafe { clock_gettime(THREAD_CPUTIME, &mut t) }, 0);
+    t.seconds as f64 * 1e6 + t.nanoseconds as f64 / 1e3
+}
+
+/// Time of one call in microseconds.
+fn once(call: &mut dyn FnMut(), calls: u32) -> f64 {
+    let start = processor_time();
+    for _ in 0..calls {
+        call();
+    }
+    (processor_time() - start) / calls as f64
+}
+
+/// As many calls as take some milliseconds.
+fn calls_for(call: &mut dyn FnMut()) -> u32 {
+    let mut calls = 1;
+    while once(call, calls) * (calls as f64) < 3_000.0 && calls < 1 << 20 {
+        calls *= 2;
+    }
+    calls
+}
+
+/// Medians of the times of several calls, each timed in turn; of three repetitions where a call takes over 0.1 s.
+fn medians(all: &mut [&mut dyn FnMut()]) -> Vec<f64> {
+    let calls: Vec<u32> = all.iter_mut().map(|c| calls_for(*c)).collect();
+    let slow = all.iter_mut().map(|c| once(*c, 1)).fold(0.0, f64::max) > 100_000.0;
+    let mut times: Vec<Vec<f64>> = vec![Vec::new(); all.len()];
+    for _ in 0..if slow { 3 } else { REPETITIONS } {
+        for (i, call) in all.iter_mut().enumerate() {
+            times[i].push(once(*call, calls[i]));
+        }
+    }
+    times
+        .iter_mut()
+        .map(|t| {
+            t.sort_by(|a, b| a.partial_cmp(b).unwrap());
+            t[t.len() / 2]
+        })
+        .collect()
+}
+
+/// n tasks with a load of about 95 in 100 whatever n is, full jitters of half a period and deadlines that all tasks meet.
+fn full_sheet(n: u32) -> Sheet {
+    let tasks: Vec<Task> = (0..n)
+        .map(|i| {
+            let p = 3_000 + 211 * ((i * 7) % 32);
+            Task { p, j: p / 2, e: p * 95 / (100 * n), d: 1_000_000 }
+        })
+        .collect();
+    Sheet::of(&tasks)
+}
+
+/// A sheet of 32 tasks of which the lowest walks over many q.
+fn long_walk() -> (Sheet, Vec<u32>) {
+    let mut tasks: Vec<Task> = (0..31).map(|_| Task { p: 32, j: 31, e: 1, d: 1_000_000 }).collect();
+    tasks.push(Task { p: 40, j: 1, e: 1, d: 1_000_000 });
+    let kept = (0..32).map(|i| if i == 31 { 1 } else { i }).collect();
+    (Sheet::of(&tasks), kept)
+}
+
+struct List {
+    sheet: Sheet,
+    kept: Vec<u32>,
+    task: Vec<u32>,
+    tick: Vec<u32>,
+    cost: Vec<u32>,
+}
+
+/// n releases of 32 tasks that keep the processor busy most of the time.
+fn list_of(n: usize) -> List {
+    let tasks: Vec<Task> = (0..32).map(|i| Task { p: 400 + 10 * i, j: 100, e: 12, d: 1_000_000 }).collect();
+    let sheet = Sheet::of(&tasks);
+    let all: Vec<Release> = list_for(&mut Random::seeded(7), &sheet, n, 28);
+    List {
+        kept: tasks.iter().map(|t| t.j / 2).collect(),
+        task: all.iter().map(|r| r.task).collect(),
+        tick: all.iter().map(|r| r.tick).collect(),
+        cost: all.iter().map(|r| r.cost).collect(),
+        sheet,
+    }
+}
+
+/// One release at the last tick that is allowed.
+fn late_list() -> List {
+    let mut list = list_of(1);
+    list.tick[0] = reference::MAX_TICK;
+    list
+}
+
+impl List {
+    fn n(&self) -> u32 {
+        self.task.len() as u32
+    }
+    fn library(&self) -> library::Columns<'_> {
+        library::Columns { task: &self.task, tick: &self.tick, cost: &self.cost }
+    }
+    fn same(&self) -> same_method::Columns<'_> {
+        same_method::Columns { task: &self.task, tick: &self.tick, cost: &self.cost }
+    }
+    fn reference(&self) -> reference::Columns<'_> {
+        reference::Columns { task: &self.task, tick: &self.tick, cost: &self.cost }
+    }
+}
+
+/// Archive, same method and reference, in microseconds.
+fn time_verdict(sheet: &Sheet, kept: &[u32], task: usize) -> Vec<f64> {
+    let numbers = numbers_of(sheet);
+    let count = sheet.count as u32;
+    let mut answer = [0u64; 3];
+    assert_eq!(library::verdict(&numbers, count, task as u32, kept, &mut answer), 0);
+    assert_eq!(same_method::verdict(&sheet.tasks, task, kept).unwrap(), answer);
+    medians(&mut [
+        &mut || {
+            let mut a = [0u64; 3];
+            black_box(library::verdict(black_box(&numbers), count, task as u32, black_box(kept), &mut a));
+            black_box(a);
+        },
+        &mut || {
+            black_box(same_method::verdict(black_box(&sheet.tasks), task, black_box(kept)).is_ok());
+        },
+        &mut || {
+            black_box(reference::verdict(black_box(sheet), task, black_box(kept), &mut Budget::of(u64::MAX)).is_ok());
+        },
+    ])
+}
+
+fn time_choice(sheet: &Sheet) -> Vec<f64> {
+    let numbers = numbers_of(sheet);
+    let count = sheet.count as u32;
+    let (mut k, mut w) = ([0u32; 32], [0u32; 32]);
+    let (mut k2, mut w2) = ([0u32; 32], [0u32; 32]);
+    assert_eq!(library::choice(&numbers, count, &mut k, &mut w), 0);
+    assert!(same_method::choice(&sheet.tasks, &mut k2, &mut w2).is_ok());
+    assert_eq!((k, w), (k2, w2));
+    medians(&mut [
+        &mut || {
+            black_box(library::choice(black_box(&numbers), count, black_box(&mut k), black_box(&mut w)));
+        },
+        &mut || {
+            black_box(same_method::choice(black_box(&sheet.tasks), black_box(&mut k2), black_box(&mut w2)).is_ok());
+        },
+        &mut || {
+            black_box(reference::choice(black_box(sheet), 32, 32, &mut Budget::of(u64::MAX)).is_ok());
+        },
+    ])
+}
+
+fn time_ready(l: &List) -> Vec<f64> {
+    let numbers = numbers_of(&l.sheet);
+    let (mut a, mut b) = (vec![0u32; 1024], vec![0u32; 1024]);
+    assert_eq!(library::ready(&numbers, 32, &l.kept, l.n(), l.library(), &mut a), 0);
+    assert!(same_method::ready(&l.sheet.tasks, &l.kept, l.n() as usize, l.same(), &mut b).is_ok());
+    assert_eq!(a, b);
+    medians(&mut [
+        &mut || {
+            black_box(library::ready(black_box(&numbers), 32, &l.kept, l.n(), l.library(), black_box(&mut a)));
+        },
+        &mut || {
+            black_box(same_method::ready(black_box(&l.sheet.tasks), &l.kept, l.n() as usize, l.same(), black_box(&mut b)).is_ok());
+        },
+        &mut || {
+            black_box(reference::ready(black_box(&l.sheet), &l.kept, l.n() as usize, &l.reference(), 1024).is_ok());
+        },
+    ])
+}
+
+fn time_run(l: &List) -> Vec<f64> {
+    let numbers = numbers_of(&l.sheet);
+    let (mut a, mut b, mut c, mut d) = (vec![0u32; 1024], vec![0u32; 1024], vec![0u32; 1024], vec![0u32; 1024]);
+    assert_eq!(library::run(&numbers, 32, &l.kept, l.n(), l.library(), &mut a, &mut b), 0);
+    assert!(same_method::run(&l.sheet.tasks, &l.kept, l.n() as usize, l.same(), &mut c, &mut d).is_ok());
+    assert_eq!((&a, &b), (&c, &d));
+    medians(&mut [
+        &mut || {
+            black_box(library::run(black_box(&numbers), 32, &l.kept, l.n(), l.library(), black_box(&mut a), black_box(&mut b)));
+        },
+        &mut || {
+            let n = l.n() as usize;
+            black_box(same_method::run(black_box(&l.sheet.tasks), &l.kept, n, l.same(), black_box(&mut c), black_box(&mut d)).is_ok());
+        },
+        &mut || {
+            black_box(reference::run(black_box(&l.sheet), &l.kept, l.n() as usize, &l.reference(), 1024, 1024).is_ok());
+        },
+    ])
+}
+
+fn time_read(l: &List) -> Vec<f64> {
+    let file = reference::write(&l.sheet, l.n() as usize, &l.reference(), 1 << 20).unwrap();
+    let (mut sheet, mut answer) = ([0u32; 128], [0u64; 2]);
+    let (mut a, mut b, mut c) = (vec![0u32; 1024], vec![0u32; 1024], vec![0u32; 1024]);
+    let (mut d, mut e, mut f) = (vec![0u32; 1024], vec![0u32; 1024], vec![0u32; 1024]);
+    let mut tasks = [Task { p: 0, j: 0, e: 0, d: 0 }; 32];
+    assert_eq!(library::read(&file, &mut sheet, &mut a, &mut b, &mut c, &mut answer), 0);
+    assert_eq!(same_method::read(&file, &mut tasks, &mut d, &mut e, &mut f).unwrap(), (32, l.task.len()));
+    assert_eq!((&a, &b, &c), (&d, &e, &f));
+    medians(&mut [
+        &mut || {
+            black_box(library::read(black_box(&file), black_box(&mut sheet), &mut a, &mut b, &mut c, &mut answer));
+        },
+        &mut || {
+            black_box(same_method::read(black_box(&file), black_box(&mut tasks), &mut d, &mut e, &mut f).is_ok());
+        },
+        &mut || {
+            black_box(reference::read(black_box(&file), [1024; 3]).is_ok());
+        },
+    ])
+}
+
+fn time_write(l: &List) -> Vec<f64> {
+    let numbers = numbers_of(&l.sheet);
+    let (mut a, mut b, mut answer) = (vec![0u8; 10_785], vec![0u8; 10_785], [0u64; 1]);
+    assert_eq!(library::write(&numbers, 32, l.n(), l.library(), &mut a, &mut answer), 0);
+    assert!(same_method::write(&l.sheet.tasks, l.n() as usize, l.same(), &mut b).is_ok());
+    assert_eq!(a, b);
+    medians(&mut [
+        &mut || {
+            black_box(library::write(black_box(&numbers), 32, l.n(), l.library(), black_box(&mut a), &mut answer));
+        },
+        &mut || {
+            black_box(same_method::write(black_box(&l.sheet.tasks), l.n() as usize, l.same(), black_box(&mut b)).is_ok());
+        },
+        &mut || {
+            black_box(reference::write(black_box(&l.sheet), l.n() as usize, &l.reference(), 10_785).is_ok());
+        },
+    ])
+}
+
+fn line(name: &str, t: &[f64]) {
+    println!("| {} | {:.2} | {:.2} | {:.2} | {:.2} | {:.2} |", name, t[0], t[1], t[2], t[0] / t[1], t[0] / t[2]);
+}
+
+fn head(first: &str) {
+    println!("\n| {} | archive, µs | same method in Rust, µs | reference, µs | archive ÷ same | archive ÷ reference |", first);
+    println!("|---|---|---|---|---|---|");
+}
+
+fn main() {
+    head("Call");
+    let full = full_sheet(32);
+    let kept: Vec<u32> = full.tasks.iter().map(|t| t.j / 4).collect();
+    line("verdict of task 31 of 32", &time_verdict(&full, &kept, 31));
+    let (sheet, kept) = long_walk();
+    line("verdict of task 31 of 32, many q", &time_verdict(&sheet, &kept, 31));
+    line("choice of 32 tasks", &time_choice(&full));
+    let list = list_of(1024);
+    line("ready ticks of 1,024 releases", &time_ready(&list));
+    line("run of 1,024 releases", &time_run(&list));
+    line("run of one release at tick 1,000,000,000", &time_run(&late_list()));
+    line("read of 10,785 bytes", &time_read(&list));
+    line("write of 10,785 bytes", &time_write(&list));
+    head("Tasks");
+    for n in [1u32, 2, 4, 8, 16, 32] {
+        let sheet = full_sheet(n);
+        let kept: Vec<u32> = sheet.tasks.iter().map(|t| t.j / 4).collect();
+        line(&format!("verdict of the lowest of {}", n), &time_verdict(&sheet, &kept, n as usize - 1));
+        line(&format!("choice of {}", n), &time_choice(&sheet));
+    }
+    head("Releases");
+    for n in [64usize, 256, 1024] {
+        let list = list_of(n);
+        line(&format!("ready ticks of {}", n), &time_ready(&list));
+        line(&format!("run of {}", n), &time_run(&list));
+        line(&format!("read of {}", n), &time_read(&list));
+        line(&format!("write of {}", n), &time_write(&list));
+    }
+}

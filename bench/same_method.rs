@@ -1,0 +1,370 @@
+//! The calls in plain Rust with the methods of the library: the rising search for W(q), one walk over q for the choice, a
+//! shaper of two numbers for each task, a run tick by tick with one queue for each task, a reader and a writer in one pass.
+//! Each makes the checks of its call. Used as the measure of the archive's speed.
+
+use crate::reference::{Refusal, Task, HORIZON, MAX_RELEASES, MAX_TASKS, MAX_TICK, MAX_TIME};
+
+type Checked = Result<(), Refusal>;
+
+fn refuse<T>(number: u32, place: usize) -> Result<T, Refusal> {
+    Err(Refusal { number, place: place as u64 })
+}
+
+fn in_range(t: &Task) -> bool {
+    t.p >= 1 && t.p <= MAX_TIME && t.j <= MAX_TIME && t.e >= 1 && t.e <= t.p && t.e <= t.d && t.d <= MAX_TIME
+}
+
+fn check_sheet(tasks: &[Task]) -> Checked {
+    if tasks.is_empty() {
+        return refuse(5, 0);
+    }
+    if tasks.len() > MAX_TASKS {
+        return refuse(4, MAX_TASKS);
+    }
+    match tasks.iter().position(|t| !in_range(t)) {
+        Some(i) => refuse(6, i),
+        None => Ok(()),
+    }
+}
+
+fn check_slots(slots: usize, needed: usize) -> Checked {
+    if slots < needed { refuse(13, needed) } else { Ok(()) }
+}
+
+fn check_kept(tasks: &[Task], kept: &[u32]) -> Checked {
+    match tasks.iter().zip(kept).position(|(t, &k)| k > t.j) {
+        Some(i) => refuse(12, i),
+        None => Ok(()),
+    }
+}
+
+fn check_release(tasks: &[Task], before: u32, task: u32, tick: u32, cost: u32) -> Option<u32> {
+    if task as usize >= tasks.len() {
+        return Some(7);
+    }
+    if tick < before || tick > MAX_TICK {
+        return Some(8);
+    }
+    if cost == 0 || cost > tasks[task as usize].e {
+        return Some(9);
+    }
+    None
+}
+
+/// n releases in three columns.
+#[derive(Clone, Copy)]
+pub struct Columns<'a> {
+    pub task: &'a [u32],
+    pub tick: &'a [u32],
+    pub cost: &'a [u32],
+}
+
+fn check_list(tasks: &[Task], n: usize, list: Columns) -> Checked {
+    let mut before = 0;
+    for p in 0..n {
+        if let Some(number) = check_release(tasks, before, list.task[p], list.tick[p], list.cost[p]) {
+            return refuse(number, p);
+        }
+        before = list.tick[p];
+    }
+    Ok(())
+}
+
+// ---- Verdict and choice ------------------------------------------------------------------------------------------------
+
+/// Loads and periods of the tasks above, in flat columns.
+struct Flat {
+    loads: [u32; 32],
+    periods: [u32; 32],
+}
+
+fn flat(tasks: &[Task]) -> Flat {
+    let mut f = Flat { loads: [0; 32], periods: [0; 32] };
+    for (i, t) in tasks.iter().enumerate() {
+        f.loads[i] = t.e;
+        f.periods[i] = t.p;
+    }
+    f
+}
+
+fn above_load(f: &Flat, kept: &[u32], n: usize, t: u32) -> u64 {
+    let mut sum = 0u64;
+    for j in 0..n {
+        let (e, p, k) = (f.loads[j], f.periods[j], kept[j]);
+        sum += e as u64 * ((t + k + p - 1) / p) as u64;
+    }
+    sum
+}
+
+/// W(q) by the rising list from a t below which no demand is met.
+fn window(f: &Flat, kept: &[u32], n: usize, own: u64, from: u64) -> Option<u64> {
+    let mut t = from;
+    loop {
+        if t > HORIZON as u64 {
+            return None;
+        }
+        let d = own + above_load(f, kept, n, t as u32);
+        if d <= t {
+            return Some(t);
+        }
+        t = d;
+    }
+}
+
+/// Kind, q and R, as the archive answers.
+pub fn verdict(tasks: &[Task], task: usize, kept: &[u32]) -> Result<[u64; 3], Refusal> {
+    check_sheet(tasks)?;
+    if task >= tasks.len() {
+        return refuse(14, task);
+    }
+    check_slots(kept.len(), tasks.len())?;
+    check_kept(tasks, kept)?;
+    let f = flat(tasks);
+    let t = tasks[task];
+    let (p, j, d, k) = (t.p as i64, t.j as i64, t.d as i64, kept[task] as i64);
+    let once: u64 = f.loads[..task].iter().map(|&e| e as u64).sum();
+    let (mut worst, mut first) = (0i64, 0i64);
+    let mut q = 0i64;
+    loop {
+        let own = (q as u64 + 1) * t.e as u64;
+        let Some(w) = window(&f, kept, task, own, own + once) else {
+            return Ok([0, q as u64, 0]);
+        };
+        let x = j - q * p;
+        let r = w as i64 + (x - k).max(x.min(0));
+        if r > d {
+            return Ok([1, q as u64, r as u64]);
+        }
+        if worst < r {
+            (worst, first) = (r, q);
+        }
+        if w as i64 <= ((q + 1) * p - k).max(0) {
+            return Ok([2, first as u64, worst as u64]);
+        }
+        q += 1;
+    }
+}
+
+/// The least kept jitter at which a task fits, and its largest R, by one walk over q.
+fn least_keep(f: &Flat, kept: &[u32], i: usize, t: &Task) -> Option<(u32, u32)> {
+    let (p, j, d) = (t.p as u64, t.j as u64, t.d as u64);
+    let (mut q, mut high, mut from) = (0u64, 0u64, 1u64);
+    loop {
+        let w = window(f, kept, i, (q + 1) * t.e as u64, from)?;
+        let base = q * p;
+        if d + base.saturating_sub(j) < w {
+            return None;
+        }
+        high = high.max((w + j).saturating_sub(base));
+        let keep = high.saturating_sub(d);
+        if keep + w <= base + p {
+            return Some((keep as u32, high.min(d) as u32));
+        }
+        from = w;
+        q += 1;
+    }
+}
+
+pub fn choice(tasks: &[Task], kept: &mut [u32], worst: &mut [u32]) -> Checked {
+    check_sheet(tasks)?;
+    check_slots(kept.len(), tasks.len())?;
+    check_slots(worst.len(), tasks.len())?;
+    let f = flat(tasks);
+    let (mut keeps, mut worsts) = ([0u32; 32], [0u32; 32]);
+    for (i, t) in tasks.iter().enumerate() {
+        match least_keep(&f, &keeps, i, t) {
+            None => return refuse(15, i),
+            Some((k, w)) => {
+                keeps[i] = k;
+                worsts[i] = w;
+            }
+        }
+    }
+    kept[..tasks.len()].copy_from_slice(&keeps[..tasks.len()]);
+    worst[..tasks.len()].copy_from_slice(&worsts[..tasks.len()]);
+    Ok(())
+}
+
+// ---- Ready ticks and run -----------------------------------------------------------------------------------------------
+
+fn check_call(tasks: &[Task], kept: &[u32], n: usize, list: Columns, slots: usize) -> Checked {
+    check_sheet(tasks)?;
+    if n > MAX_RELEASES {
+        return refuse(10, MAX_RELEASES);
+    }
+    check_slots(kept.len(), tasks.len())?;
+    for column in [list.task, list.tick, list.cost] {
+        check_slots(column.len(), n)?;
+    }
+    check_slots(slots, n)?;
+    check_kept(tasks, kept)?;
+    check_list(tasks, n, list)
+}
+
+fn fill_ready(tasks: &[Task], kept: &[u32], n: usize, list: Columns, ready: &mut [u32]) {
+    let (mut last, mut next) = ([0u64; 32], [0u64; 32]);
+    for p in 0..n {
+        let i = list.task[p] as usize;
+        let r = (list.tick[p] as u64).max(last[i]).max(next[i].saturating_sub(kept[i] as u64));
+        last[i] = r;
+        next[i] = next[i].max(r) + tasks[i].p as u64;
+        ready[p] = r as u32;
+    }
+}
+
+pub fn ready(tasks: &[Task], kept: &[u32], n: usize, list: Columns, ready: &mut [u32]) -> Checked {
+    check_call(tasks, kept, n, list, ready.len())?;
+    fill_ready(tasks, kept, n, list, ready);
+    Ok(())
+}
+
+fn next_of(task: &[u32], n: usize, i: u32, from: usize) -> usize {
+    (from..n).find(|&p| task[p] == i).unwrap_or(n)
+}
+
+pub fn run(tasks: &[Task], kept: &[u32], n: usize, list: Columns, ready: &mut [u32], finish: &mut [u32]) -> Checked {
+    check_call(tasks, kept, n, list, ready.len().min(finish.len()))?;
+    fill_ready(tasks, kept, n, list, ready);
+    let mut left = [0u32; MAX_RELEASES];
+    left[..n].copy_from_slice(&list.cost[..n]);
+    let mut head = [0usize; 32];
+    for i in 0..tasks.len() {
+        head[i] = next_of(list.task, n, i as u32, 0);
+    }
+    let wake_of = |p: usize, ready: &[u32]| if p < n { ready[p] as u64 } else { u64::MAX };
+    let (mut t, mut wake) = (0u64, 0u64);
+    loop {
+        if t >= wake {
+            match (0..tasks.len()).find(|&i| wake_of(head[i], ready) <= t) {
+                None => {
+                    wake = (0..tasks.len()).map(|i| wake_of(head[i], ready)).min().unwrap_or(u64::MAX);
+                    if wake == u64::MAX {
+                        return Ok(());
+                    }
+                }
+                Some(i) => {
+                    let p = head[i];
+                    left[p] -= 1;
+                    if left[p] == 0 {
+                        finish[p] = (t + 1) as u32;
+                        head[i] = next_of(list.task, n, i as u32, p + 1);
+                    }
+                }
+            }
+        }
+        t += 1;
+    }
+}
+
+// ---- Files -------------------------------------------------------------------------------------------------------------
+
+pub fn write(tasks: &[Task], n: usize, list: Columns, out: &mut [u8]) -> Result<usize, Refusal> {
+    check_sheet(tasks)?;
+    if n > MAX_RELEASES {
+        return refuse(10, MAX_RELEASES);
+    }
+    for column in [list.task, list.tick, list.cost] {
+        check_slots(column.len(), n)?;
+    }
+    let size = 17 * tasks.len() + 10 * n + 1;
+    check_slots(out.len(), size)?;
+    check_list(tasks, n, list)?;
+    let mut at = 0;
+    for t in tasks {
+        out[at] = 1;
+        for (k, x) in [t.p, t.j, t.e, t.d].iter().enumerate() {
+            out[at + 1 + 4 * k..at + 5 + 4 * k].copy_from_slice(&x.to_le_bytes());
+        }
+        at += 17;
+    }
+    for p in 0..n {
+        out[at] = 2;
+        out[at + 1] = list.task[p] as u8;
+        out[at + 2..at + 6].copy_from_slice(&list.tick[p].to_le_bytes());
+        out[at + 6..at + 10].copy_from_slice(&list.cost[p].to_le_bytes());
+        at += 10;
+    }
+    out[at] = 3;
+    Ok(size)
+}
+
+fn number_at(file: &[u8], at: usize) -> u32 {
+    u32::from_le_bytes(file[at..at + 4].try_into().unwrap())
+}
+
+/// Reads a file: the sheet and three columns; the counts of tasks and releases.
+pub fn read(
+    file: &[u8], sheet: &mut [Task; 32], task: &mut [u32], tick: &mut [u32], cost: &mut [u32],
+) -> Result<(usize, usize), Refusal> {
+    let mut tasks = [Task { p: 0, j: 0, e: 0, d: 0 }; 32];
+    let mut list = [(0u32, 0u32, 0u32); MAX_RELEASES];
+    let (mut count, mut n, mut at, mut before) = (0, 0, 0, 0);
+    loop {
+        let Some(&kind) = file.get(at) else {
+            return refuse(2, at);
+        };
+        let size = match kind {
+            1 => 17,
+            2 => 10,
+            3 => 1,
+            _ => return refuse(1, at),
+        };
+        if file.len() - at < size {
+            return refuse(2, at);
+        }
+        match kind {
+            1 => {
+                let t = Task {
+                    p: number_at(file, at + 1),
+                    j: number_at(file, at + 5),
+                    e: number_at(file, at + 9),
+                    d: number_at(file, at + 13),
+                };
+                if n > 0 {
+                    return refuse(3, at);
+                }
+                if count == MAX_TASKS {
+                    return refuse(4, at);
+                }
+                if !in_range(&t) {
+                    return refuse(6, at);
+                }
+                tasks[count] = t;
+                count += 1;
+            }
+            2 => {
+                if count == 0 {
+                    return refuse(5, at);
+                }
+                let r = (file[at + 1] as u32, number_at(file, at + 2), number_at(file, at + 6));
+                if let Some(number) = check_release(&tasks[..count], before, r.0, r.1, r.2) {
+                    return refuse(number, at);
+                }
+                if n == MAX_RELEASES {
+                    return refuse(10, at);
+                }
+                list[n] = r;
+                before = r.1;
+                n += 1;
+            }
+            _ => {
+                if count == 0 {
+                    return refuse(5, at);
+                }
+                if file.len() > at + 1 {
+                    return refuse(11, at + 1);
+                }
+                break;
+            }
+        }
+        at += size;
+    }
+    for slots in [task.len(), tick.len(), cost.len()] {
+        check_slots(slots, n)?;
+    }
+    *sheet = tasks;
+    for p in 0..n {
+        (task[p], tick[p], cost[p]) = list[p];
+    }
+    Ok((count, n))
+}
