@@ -8,7 +8,7 @@ mod generator;
 mod reference;
 
 use generator::{file_for, legal_list_for, loaded_sheet, random_file, small_sheet, Random};
-use reference::{choice, decode, encode, finish_ticks, ready_ticks, Budget, Refusal, Release, Sheet, Task};
+use reference::{choice, decode, encode, finish_ticks, ready_ticks, Budget, Refusal, Release, Task};
 use std::io::{Read, Write};
 use std::process::{Command, Stdio};
 
@@ -179,6 +179,5 @@ fn main() {
         cut.truncate(r.within(0, 102) as usize);
         n += same("a cut file", &cut, 4096);
     }
-    let _: Option<Sheet> = None;
     println!("programs: {n} runs as the reference says");
 }
