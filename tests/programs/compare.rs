@@ -87,10 +87,10 @@ fn same(name: &str, file: &[u8], piece: usize) -> usize {
     n
 }
 
-/// The examples of the README, with their stored outputs.
-fn examples() -> usize {
+/// The files of a folder, with their stored outputs.
+fn stored(folder: &str) -> usize {
     let mut n = 0;
-    for entry in std::fs::read_dir("examples").unwrap() {
+    for entry in std::fs::read_dir(folder).unwrap() {
         let path = entry.unwrap().path();
         if path.extension().map_or(true, |x| x != "sheet") {
             continue;
@@ -160,7 +160,7 @@ fn endless() {
 }
 
 fn main() {
-    let mut n = examples();
+    let mut n = stored("examples") + stored("tests/programs/stored");
     for (name, file) in worked() {
         n += same(name, &file, 4096);
         n += same(name, &file, 7);
