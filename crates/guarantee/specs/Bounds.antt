@@ -15,7 +15,7 @@ use Rattle.model.proofs.SeriesLaws.{most-ge}
 use Rattle.theory.specs.FinishLaws.{finish-by}
 use Rattle.theory.specs.Fits.{Done, fits-core}
 use Rattle.response.specs.VerdictLaws.{Walked}
-use Rattle.witness.specs.SamePlace.{same-place}
+use Rattle.machine.specs.SamePlace.{same-place}
 use Rattle.guarantee.specs.TraceRun.{all-ours, some-work, bounded}
 use Rattle.guarantee.specs.LimitShare.{limit, share}
 use Rattle.guarantee.specs.Fits.{windowOf, walk}

@@ -23,7 +23,7 @@ use Rattle.theory.specs.Windows.{supply}
 use Rattle.response.specs.BoundLaws.{not-late}
 use Rattle.response.specs.WindowLaws.{Window, window-some}
 use Rattle.response.specs.VerdictLaws.{Passed, Walked, fits-says}
-use Rattle.witness.specs.SamePlace.{same-place}
+use Rattle.machine.specs.SamePlace.{same-place}
 use Rattle.guarantee.specs.TraceRun.{all-ours, spaced, some-work, own-work, bounded}
 use Rattle.theory.specs.FinishLaws.{finish-by}
 use Rattle.theory.specs.WorkLaws.{supply-all}

@@ -12,7 +12,7 @@ use Rattle.model.specs.Ready as Model
 use Rattle.model.specs.Run.{jobs, finishAt}
 use Rattle.model.specs.Claims.{Trace, Finished}
 use Rattle.shaper.specs.GapLaws.{gap-zero}
-use Rattle.witness.specs.SamePlace.{same-place}
+use Rattle.machine.specs.SamePlace.{same-place}
 use Rattle.trace.specs.ReadyAtLaws.{ready-gap}
 use Rattle.theory.specs.Windows.{AllOurs, Spaced, Clear, Bounded}
 use Rattle.response.specs.ArrivalLaws.{gap-arrivals}

@@ -2,6 +2,7 @@
 pub mod Search
 pub mod Series
 pub mod Limits
+pub mod Machine
 pub mod Tasks
 pub mod Arrival
 pub mod Gap

@@ -6,6 +6,7 @@ use mathlib.Core.List.{List}
 use lib.ListN.{length}
 use lib.Dec.{leb, ltb, eqb}
 use Rattle.model.specs.Series.{on, sum, most, table}
+use Rattle.model.specs.Machine.{Machine, plain}
 use Rattle.model.specs.Tasks.{Tasks, Release, releaseAt}
 use Rattle.model.specs.Ready.{readyAt}
 
@@ -66,23 +67,19 @@ endOf j = most (j .start) (j .count) + sum (j .work) (j .count)
 unfoldable pub finishOf : Jobs → ℕ → ℕ
 finishOf j p = most (λ t. on (runsIn j p t) (suc t)) (endOf j)
 
--- the tick from which a job may run, given its ready tick
-abbrev pub startOf : ℕ → ℕ
-startOf ready = ready
-
--- the ticks that a job takes, given its cost
-abbrev pub workOf : ℕ → ℕ
-workOf cost = cost
+-- the jobs of a list of releases on a processor
+abbrev pub jobsOn : Machine → Tasks → (ℕ → ℕ) → List Release → Jobs
+jobsOn m s k l = record {
+  count = length l;
+  task = λ p. releaseAt l p .task;
+  start = λ p. m .start (readyAt s k l p);
+  work = λ p. m .work (releaseAt l p .cost);
+  ours = m .ours;
+}
 
 -- the jobs of a list of releases
 abbrev pub jobs : Tasks → (ℕ → ℕ) → List Release → Jobs
-jobs s k l = record {
-  count = length l;
-  task = λ p. releaseAt l p .task;
-  start = λ p. startOf (readyAt s k l p);
-  work = λ p. workOf (releaseAt l p .cost);
-  ours = λ t. true;
-}
+jobs s k l = jobsOn plain s k l
 
 -- the finish of the release at p in "the run" of a list
 unfoldable pub finishAt : Tasks → (ℕ → ℕ) → List Release → ℕ → ℕ

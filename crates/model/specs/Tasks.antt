@@ -3,6 +3,7 @@ use Prim.Native.Nat.{ℕ, _≤_, _<_}
 use mathlib.Core.List.{List}
 use lib.ListN.{getD}
 use Rattle.model.specs.Limits.{maxTasks, maxTime}
+use Rattle.model.specs.Machine.{plain}
 
 -- "sheet": a count, and P, J, E and D of each task; task 0 has the highest priority
 pub record Tasks : Type 0 where
@@ -30,7 +31,7 @@ pub record Valid (s : Tasks) : Type 0 where
 
 -- the ticks that a job of full cost takes
 abbrev pub load : Tasks → ℕ → ℕ
-load s i = s .cost i
+load s i = plain .work (s .cost i)
 
 -- a release: its task, tick and cost
 pub record Release : Type 0 where

@@ -11,7 +11,7 @@ use lib.ListN.{length, getD, set, length-set}
 use lib.Seq.{getD-set-same, getD-set-other}
 use borrow.Author.Tests.{lt-ltb, le-ltb}
 use Rattle.model.specs.Search.{first}
-use Rattle.model.specs.Run.{startOf}
+use Rattle.model.specs.Machine.{plain}
 use Rattle.model.proofs.SearchLaws.{Found, first-found, first-nothing, search-here, search-next, search-end}
 use Rattle.model.proofs.SeriesLaws.{below-suc, le-or-lt}
 use Rattle.schedule.specs.Schedule.{orElse, firstFrom, never, wakeOf, earliest, Holds}
@@ -62,7 +62,7 @@ least-is test n from r h e = rw e (go (first test (n - from) from) refl)
 
 -- the tick from which the job at p may run
 module _ (ready : List ℕ) (n p : ℕ) where
-  pub wake-in : p < n → wakeOf ready n p ≡ startOf (getD ready p 0)
+  pub wake-in : p < n → wakeOf ready n p ≡ plain .start (getD ready p 0)
   unfolding wakeOf
   wake-in h = rw (lt-ltb p n h)
 

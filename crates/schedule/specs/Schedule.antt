@@ -8,7 +8,8 @@ use lib.ListN.{length, getD}
 use lib.Dec.{leb, ltb, eqb}
 use Rattle.model.specs.Limits.{maxTasks, maxTime, maxReleases}
 use Rattle.model.specs.Search.{first}
-use Rattle.model.specs.Run.{Jobs, startOf, workOf}
+use Rattle.model.specs.Machine.{plain}
+use Rattle.model.specs.Run.{Jobs}
 use Rattle.shaper.specs.ShaperLaws.{maxReady}
 
 -- the jobs of n releases, given in columns with their ready ticks
@@ -16,8 +17,8 @@ abbrev pub jobsOf : ℕ → List ℕ → List ℕ → List ℕ → Jobs
 jobsOf n task cost ready = record {
   count = n;
   task = λ p. getD task p 0;
-  start = λ p. startOf (getD ready p 0);
-  work = λ p. workOf (getD cost p 0);
+  start = λ p. plain .start (getD ready p 0);
+  work = λ p. plain .work (getD cost p 0);
   ours = λ t. true;
 }
 
@@ -39,7 +40,7 @@ never = 4294967296
 
 -- the tick from which the job at p may run; never where p is past the list
 unfoldable pub wakeOf : List ℕ → ℕ → ℕ → ℕ
-wakeOf ready n p = cond (ltb p n) (startOf (getD ready p 0)) never
+wakeOf ready n p = cond (ltb p n) (plain .start (getD ready p 0)) never
 
 -- the highest-priority task whose oldest unfinished job may run in tick t
 abbrev pub topReady : List ℕ → List ℕ → ℕ → ℕ → ℕ → ℕ

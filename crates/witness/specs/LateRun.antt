@@ -21,7 +21,7 @@ use Rattle.theory.specs.WorkLaws.{supply-all}
 use Rattle.theory.specs.FinishLaws.{finish-done}
 use Rattle.theory.specs.Late.{Burst, Queue, late-core}
 use Rattle.model.proofs.TableLaws.{getD-table}
-use Rattle.witness.specs.SamePlace.{same-place, all-places}
+use Rattle.machine.specs.SamePlace.{same-place, all-places}
 use Rattle.response.specs.ArrivalLaws.{arrivals-gap, arrivals-mono}
 use Rattle.witness.specs.Scenario.{above-yes, above-no, from, manyOf, timeOf, scenario, scenario-cost, scenario-own, scenario-many, scenario-trace, scenario-ready}
 

@@ -2,6 +2,5 @@
 pub mod Merge
 pub mod GapTimes
 pub mod Scenario
-pub mod SamePlace
 pub mod LateRun
 pub mod LateLaw
