@@ -4,7 +4,7 @@ use mathlib.Core.Path.{_≡_}
 use mathlib.Core.Logic.{dite}
 use mathlib.Core.Option.{some, none}
 use native.Mathlib.Omega.{arith}
-use native.Mathlib.Nat.{mul-le-mul-left, le-mul-of-pos-right}
+use native.Mathlib.Nat.{le-mul-of-pos-right}
 use native.Mathlib.Decide.{decLt, decLe}
 use borrow.Author.Tests.{le-leb, lt-leb}
 use Rattle.model.specs.Series.{sum}
@@ -13,7 +13,7 @@ use Rattle.model.specs.Tasks.{Tasks, load}
 use Rattle.model.specs.Demand.{aboveLoad, demand, meets, window}
 use Rattle.model.proofs.SearchLaws.{first-none, first-is}
 use Rattle.model.proofs.SeriesLaws.{sum-le}
-use Rattle.response.specs.ArrivalLaws.{arrivals-mono}
+use Rattle.response.specs.LoadSums.{loads-rise}
 use Rattle.response.specs.WindowLaws.{Window}
 use Rattle.demand.specs.ArrivalLaws.{arrivals-some}
 
@@ -25,7 +25,7 @@ module _ (s : Tasks) (k : ℕ → ℕ) (i : ℕ) (p : Periodic s i) where
   -- in more ticks the tasks above bring no less
   pub above-mono : (t u : ℕ) → t ≤ u → aboveLoad s k i t ≤ aboveLoad s k i u
   unfolding aboveLoad
-  above-mono t u h = sum-le _ _ i (λ j l. mul-le-mul-left (load s j) (arrivals-mono _ _ _ t u (p j l) (omega arith) h))
+  above-mono = loads-rise (load s) (s .period) k k i p (λ j l. omega arith)
 
   -- from one tick on, each task above brings one job at least
   pub above-once : (t : ℕ) → 1 ≤ t → sum (load s) i ≤ aboveLoad s k i t

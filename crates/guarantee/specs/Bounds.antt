@@ -4,21 +4,20 @@ use mathlib.Core.Path.{_≡_}
 use mathlib.Core.List.{List}
 use native.Mathlib.Omega.{arith}
 use lib.ListN.{length}
+use Rattle.model.specs.Machine.{plain}
 use Rattle.model.specs.Tasks.{Tasks, Release, releaseAt, load, Valid}
 use Rattle.model.specs.Arrival.{arrivals}
-use Rattle.model.specs.Gap.{gap}
 use Rattle.model.specs.Ready.{readyAt, place}
-use Rattle.model.specs.Run.{jobs, finishAt}
+use Rattle.model.specs.Run.{finishAt}
 use Rattle.model.specs.Demand.{aboveLoad}
 use Rattle.model.specs.Claims.{Trace, Finished, used, leftOver, isTask, isAbove}
 use Rattle.model.proofs.SeriesLaws.{most-ge}
-use Rattle.theory.specs.FinishLaws.{finish-by}
-use Rattle.theory.specs.Fits.{Done, fits-core}
 use Rattle.response.specs.VerdictLaws.{Walked}
-use Rattle.machine.specs.SamePlace.{same-place}
-use Rattle.guarantee.specs.TraceRun.{all-ours, some-work, bounded}
-use Rattle.guarantee.specs.LimitShare.{limit, share}
-use Rattle.guarantee.specs.Fits.{windowOf, walk}
+use Rattle.machine.specs.Processor.{regular}
+use Rattle.machine.specs.Fits.{DoneOn, done-on}
+use Rattle.guarantee.specs.Plain.{finished-by}
+use Rattle.guarantee.specs.Fits.{windowOf, walk-of}
+use Rattle.guarantee.specs.Demand3.{demand3}
 
 -- a job at p of task i is finished W(q) ticks after a tick that is not after the ready tick of the job q places before it
 pub record InWindow (s : Tasks) (k : ℕ → ℕ) (i : ℕ) (l : List Release) (last p : ℕ) : Type 0 where
@@ -32,10 +31,11 @@ pub record InWindow (s : Tasks) (k : ℕ → ℕ) (i : ℕ) (l : List Release) (
   pub from-le : from ≤ readyAt s k l lead
   pub finished : finishAt s k l p ≤ from + windowOf s k i q
 
-module _ (s : Tasks) (v : Valid s) (k : ℕ → ℕ) (i : ℕ) (h : i < s .count) (l : List Release) (tr : Trace s l) where
+module _ (s : Tasks) (v : Valid s) (k : ℕ → ℕ) (kept : (j : ℕ) → j < s .count → k j ≤ s .jitter j) (i : ℕ) (h : i < s .count)
+    (l : List Release) (tr : Trace s l) where
   -- a task runs at most E × σ(t) of the t ticks from u on
   pub limit-bound : (u t : ℕ) → Finished s k l (isTask i) u → used s k l (isTask i) u t ≤ load s i * arrivals (s .period i) (k i) t
-  limit-bound u t f = limit s v k i h l tr u t f
+  limit-bound u t f = demand3 s v k kept i h .limit l tr u t f
 
   -- the tasks above leave over n − Σ E_j σ_j(n) of the t ticks from u on, for every n ≤ t
   pub share-bound : (u t n : ℕ) → n ≤ t → Finished s k l (isAbove i) u → n - aboveLoad s k i n ≤ leftOver s k l (isAbove i) u t
@@ -43,25 +43,22 @@ module _ (s : Tasks) (v : Valid s) (k : ℕ → ℕ) (i : ℕ) (h : i < s .count
       omega (
         arith,
         most-ge (λ m. m - aboveLoad s k i m) (suc t) n (omega arith),
-        share s v k i h l tr u t f,
+        demand3 s v k kept i h .share l tr u t f,
       )
 
   -- where the walk of the verdict stops without a late q
   pub window-bound : (d : Walked s k i) (p : ℕ) → p < length l → releaseAt l p .task ≡ i → InWindow s k i l (d .last) p
-  unfolding finishAt
-  window-bound d p g e =
-      go (fits-core (jobs s k l) i (load s) (λ j. gap (s .period j) (k j)) (λ j. arrivals (s .period j) (k j)) (gap (s .period i) (k i))
-      (d .last) (windowOf s k i) (bounded s k l tr v i (omega arith)) (walk s v k i h l tr d) p g e)
+  window-bound d p g e = go (done-on plain regular s k i (λ j n. v .in-range j (omega arith) .period-low) (d .last) (windowOf s k i) (walk-of s k i d) l tr p g e)
     where
-      go : Done (jobs s k l) i (d .last) (windowOf s k i) p → InWindow s k i l (d .last) p
+      go : DoneOn plain s k i l (d .last) (windowOf s k i) p → InWindow s k i l (d .last) p
       go c = record {
         q = c .q;
         q-le = c .q-le;
         lead = c .lead;
         lead-le = c .lead-le;
         lead-own = c .lead-own;
-        places = rw (same-place l i p g e, same-place l i (c .lead) (omega (arith, c .lead-le)) (c .lead-own)) at (c .places);
+        places = c .places;
         from = c .from;
         from-le = c .from-le;
-        finished = finish-by (jobs s k l) (all-ours s k l) p g (some-work s k l tr p g) (c .from + windowOf s k i (c .q)) (c .done);
+        finished = finished-by s k l tr p g (c .from + windowOf s k i (c .q)) (c .done);
       }

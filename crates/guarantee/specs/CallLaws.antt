@@ -8,16 +8,15 @@ use native.Mathlib.Omega.{arith}
 use borrow.Author.Tests.{leb-false}
 use lib.Dec.{leb}
 use lib.IntN.{ℤ}
-use Rattle.model.specs.Tasks.{Tasks, Release, Valid}
-use Rattle.model.specs.Gap.{Legal}
+use Rattle.model.specs.Tasks.{Tasks, Valid}
 use Rattle.model.specs.Verdict.{Verdict, verdict}
 use Rattle.model.specs.Choice.{column, Choice, unfit, chosen, choice}
-use Rattle.model.specs.Claims.{Trace, OnTime, Demand3}
+use Rattle.model.specs.Claims.{Demand3}
 use Rattle.model.specs.Refusal.{Refusal, refuse, refused, answered, firstOf}
 use Rattle.model.specs.Checks.{Inputs, refuseIf, refuseAt, checkTasks, checkTask, checkCount, checkSlots, checkKept, checkReleases, checkChoice, refusalOf, answerOf}
 use Rattle.model.specs.Calls.{taskInputs, verdictCall, unfitOf, choiceInputs}
 use Rattle.model.proofs.CheckLaws.{first-refusal, next-check, valid-of, kept-of}
-use Rattle.guarantee.specs.ChoiceSafe.{choice-safe}
+use Rattle.guarantee.specs.ChoiceSafe.{Safe, choice-safe}
 use Rattle.guarantee.specs.Demand3.{demand3}
 
 -- where no check refuses, the first does not
@@ -56,19 +55,19 @@ verdict-answers s i kept v h =
     let c5 = passed (checkKept s (some (column kept))) _ (c4 .1) in
     (a .1, demand3 s (valid-of s (c1 .0)) (column kept) (kept-of s (column kept) (c5 .0)) i (known s i (c2 .0)))
 
--- a choice, with which no job of a task whose own releases are legal is late, in any trace
-pub record Safe (s : Tasks) : Type 0 where
+-- a choice that succeeds, and what it is worth
+pub record SafeChoice (s : Tasks) : Type 0 where
   pub kept : List ℕ
   pub worst : List ℤ
   pub is : choice s ≡ chosen kept worst
-  pub safe : (i : ℕ) → i < s .count → (l : List Release) → Trace s l → Legal s l i → OnTime s (column kept) i l
+  pub safe : Safe s kept
 
 refuses : (n : ℕ) → checkChoice (unfitOf (unfit n)) ≡ none → ⊥
 unfolding checkChoice unfitOf refuseAt
 refuses n h = let z : _≡_ {A = ℕ} 0 1 = cc in omega arith
 
 -- a choice that is not refused is safe
-pub choice-answers : (s : Tasks) (kept worst : List ℕ) → refusalOf (choiceInputs s kept worst) ≡ none → Safe s
+pub choice-answers : (s : Tasks) (kept worst : List ℕ) → refusalOf (choiceInputs s kept worst) ≡ none → SafeChoice s
 unfolding refusalOf
 choice-answers s kept worst h =
     let c1 = passed (checkTasks s) _ h in
@@ -80,6 +79,6 @@ choice-answers s kept worst h =
     let c7 = passed (checkChoice (unfitOf (choice s))) _ (c6 .1) in
     go (valid-of s (c1 .0)) (choice s) refl (c7 .0)
   where
-    go : Valid s → (c : Choice) → choice s ≡ c → checkChoice (unfitOf (choice s)) ≡ none → Safe s
+    go : Valid s → (c : Choice) → choice s ≡ c → checkChoice (unfitOf (choice s)) ≡ none → SafeChoice s
     go v (unfit n) e g = absurd (refuses n (rw e at g))
     go v (chosen ks ws) e g = record { kept = ks; worst = ws; is = e; safe = choice-safe s v ks ws e }

@@ -1,8 +1,10 @@
 -- Demand 3.
-pub mod TraceRun
+pub mod OnProcessor
+pub mod Plain
 pub mod LimitShare
 pub mod Fits
-pub mod ChoiceSafe
-pub mod Bounds
+pub mod Late
 pub mod Demand3
+pub mod Bounds
+pub mod ChoiceSafe
 pub mod CallLaws

@@ -1,4 +1,8 @@
--- Demand 3 on any processor, but for the list of a late verdict.
+-- Runs of a list on any processor: limit, share and "fits".
 pub mod Processor
+pub mod DemandLaws
 pub mod MachineClaims
 pub mod SamePlace
+pub mod JobLaws
+pub mod LimitShare
+pub mod Fits

@@ -26,9 +26,7 @@ ShareOn m s k i l =
 
 -- the walk of a verdict that is "fits": from each tick the demand of each q up to the last is met within w(q) ticks, R(q) ≤ D, and w(q) ≤ d_K(q + 1) for the last.
 -- R(q) ≤ D without integers, x being J − qP: w(q) + pickup + max(0, x − K) ≤ D + max(0, −x)
-pub record WalkOn (m : Machine) (r : Regular m) (s : Tasks) (k : ℕ → ℕ) (i : ℕ) : Type 0 where
-  pub last : ℕ
-  pub w : ℕ → ℕ
+pub record WalkOn (m : Machine) (r : Regular m) (s : Tasks) (k : ℕ → ℕ) (i last : ℕ) (w : ℕ → ℕ) : Type 0 where
   pub met : (q u : ℕ) → q ≤ last → (t : ℕ) × (1 ≤ t) × (t ≤ w q) × (demandOn m s k i q t ≤ supplyOn m u t)
   pub in-time
       : (q : ℕ) → q ≤ last → w q + r .pickup + (s .jitter i - (q * s .period i + k i)) ≤ s .deadline i + (q * s .period i - s .jitter i)
@@ -64,5 +62,5 @@ pub record MissedOn (m : Machine) (s : Tasks) (k : ℕ → ℕ) (i end : ℕ) : 
 pub record DemandOn (m : Machine) (r : Regular m) (s : Tasks) (k : ℕ → ℕ) (i : ℕ) : Type 0 where
   pub limit : (l : List Release) → Trace s l → LimitOn m s k i l
   pub share : (l : List Release) → Trace s l → ShareOn m s k i l
-  pub if-fits : WalkOn m r s k i → (l : List Release) → Trace s l → Legal s l i → MetOn m s k i l
+  pub if-fits : (last : ℕ) (w : ℕ → ℕ) → WalkOn m r s k i last w → (l : List Release) → Trace s l → Legal s l i → MetOn m s k i l
   pub if-late : (d : LateOn m r s k i) → MissedOn m s k i (d .from + d .w + s .jitter i + s .period i + d .q * s .period i)

@@ -1,5 +1,5 @@
 -- What the mathematics leaves open of a processor: pickup, load and supply.
-use Prim.Native.Nat.{ℕ, suc, _+_, _*_, _≤_}
+use Prim.Native.Nat.{ℕ, zero, suc, _+_, _*_, _≤_}
 use mathlib.Core.Path.{_≡_, refl}
 use native.Mathlib.Omega.{arith}
 use Rattle.model.specs.Series.{on, sum}
@@ -7,7 +7,6 @@ use Rattle.model.specs.Machine.{Machine, plain}
 use Rattle.model.specs.Tasks.{Tasks, load}
 use Rattle.model.specs.Arrival.{arrivals}
 use Rattle.model.specs.Demand.{aboveLoad, demand}
-use Rattle.model.proofs.SeriesLaws.{on-true}
 
 -- "pickup": the ticks from its ready tick to the first in which a job may run, the same for every job. More cost takes no less work, and some cost takes some
 pub record Regular (m : Machine) : Type 0 where
@@ -35,6 +34,15 @@ demandOn m s k i q t = suc q * loadOn m s i + aboveOn m s k i t
 -- document 01's processor: pickup 0, load E, every tick ours
 pub regular : Regular plain
 regular = record { pickup = 0; starts = λ ready. omega arith; rises = λ c d h. h; some-work = λ c h. h }
+
+pub pickup-plain : regular .pickup ≡ 0
+unfolding regular
+pickup-plain = refl
+
+pub supply-plain : (u t : ℕ) → supplyOn plain u t ≡ t
+unfolding supplyOn sum on
+supply-plain u zero = refl
+supply-plain u (suc t) = omega (arith, supply-plain u t)
 
 pub above-plain : (s : Tasks) (k : ℕ → ℕ) (i t : ℕ) → aboveOn plain s k i t ≡ aboveLoad s k i t
 unfolding aboveOn aboveLoad

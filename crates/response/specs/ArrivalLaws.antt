@@ -19,6 +19,17 @@ module _ (P K : ℕ) (h : 0 < P) where
   arrivals-gap k zero g = absurd (omega arith)
   arrivals-gap k (suc t) g = let u : suc k * P ≤ suc t + K + P - 1 = le-div-iff-mul-le {x = suc k} {y = suc t + K + P - 1} h .0 g in omega arith
 
+  -- arrivals in two windows in a row are no fewer than in both together
+  pub arrivals-add : (t u : ℕ) → arrivals P K (t + u) ≤ arrivals P K t + arrivals P K u
+  unfolding gap
+  arrivals-add t u = le-by (arrivals P K (t + u)) (arrivals P K t + arrivals P K u) wrong
+    where
+      over : (n : ℕ) → n ≤ gap P K (arrivals P K n)
+      over n = le-by n (gap P K (arrivals P K n)) (λ l. omega (arith, gap-arrivals (arrivals P K n) n l))
+
+      wrong : arrivals P K t + arrivals P K u < arrivals P K (t + u) → ⊥
+      wrong l = omega (arith, arrivals-gap (arrivals P K t + arrivals P K u) (t + u) l, over t, over u)
+
 -- more ticks, and more kept jitter, have more arrivals
 pub arrivals-mono : (P K J t u : ℕ) → 0 < P → K ≤ J → t ≤ u → arrivals P K t ≤ arrivals P J u
 unfolding gap

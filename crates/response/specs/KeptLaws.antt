@@ -3,12 +3,10 @@ use Prim.Native.Nat.{ℕ, suc, _≤_, _<_}
 use mathlib.Core.Path.{_≡_, refl}
 use mathlib.Core.Option.{Option, some, none}
 use native.Mathlib.Omega.{arith}
-use native.Mathlib.Nat.{mul-le-mul-left, lt-of-not-le, le-of-suc-le-suc}
+use native.Mathlib.Nat.{lt-of-not-le, le-of-suc-le-suc}
 use Rattle.model.specs.Tasks.{Tasks, load}
-use Rattle.model.specs.Arrival.{arrivals}
 use Rattle.model.specs.Demand.{aboveLoad, demand, window}
-use Rattle.model.proofs.SeriesLaws.{sum-le}
-use Rattle.response.specs.ArrivalLaws.{arrivals-mono}
+use Rattle.response.specs.LoadSums.{loads-rise}
 use Rattle.response.specs.WindowLaws.{Window, window-some, window-none}
 
 module _
@@ -17,9 +15,7 @@ module _
   -- the tasks above bring no more
   pub above-keeps : (t : ℕ) → aboveLoad s k i t ≤ aboveLoad s above i t
   unfolding aboveLoad
-  above-keeps t =
-      sum-le _ _ i
-      (λ j h. mul-le-mul-left (load s j) (arrivals-mono (s .period j) (k j) (above j) t t (periods j h) (kept j h) (omega arith)))
+  above-keeps t = loads-rise (load s) (s .period) k above i periods kept t t (omega arith)
 
   -- the demand is no larger
   pub demand-keeps : (q t : ℕ) → demand s k i q t ≤ demand s above i q t

@@ -1,5 +1,6 @@
 -- Laws of the response-time analysis.
 pub mod ArrivalLaws
+pub mod LoadSums
 pub mod BoundLaws
 pub mod WindowLaws
 pub mod KeptLaws

@@ -3,6 +3,7 @@ pub mod Windows
 pub mod RunLaws
 pub mod WorkLaws
 pub mod FinishLaws
+pub mod Facts
 pub mod PlaceLaws
 pub mod LoadLaws
 pub mod Limit

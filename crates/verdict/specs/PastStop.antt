@@ -4,42 +4,27 @@ use mathlib.Core.Path.{_≡_, sym, ap, _∙_}
 use mathlib.Core.Bool.{false}
 use mathlib.Core.Logic.{dite}
 use native.Mathlib.Omega.{arith}
-use native.Mathlib.Nat.{mul-le-mul-left}
 use native.Mathlib.Decide.{decLe}
 use borrow.Author.Tests.{le-ltb}
 use lib.IntN.{pos, subℕ}
 use lib.Signed.{ltZ}
 use Rattle.model.specs.Tasks.{Tasks, load}
-use Rattle.model.specs.Arrival.{arrivals}
 use Rattle.model.specs.Gap.{gap}
 use Rattle.model.specs.Demand.{aboveLoad, demand}
 use Rattle.model.specs.Bound.{bound}
 use Rattle.model.specs.Verdict.{boundOf}
-use Rattle.model.proofs.SeriesLaws.{le-by, sum-le, sum-add}
-use Rattle.shaper.specs.GapLaws.{gap-super}
-use Rattle.response.specs.ArrivalLaws.{gap-arrivals, arrivals-gap}
+use Rattle.model.proofs.SeriesLaws.{le-by}
+use Rattle.response.specs.LoadSums.{loads-add}
 use Rattle.response.specs.BoundLaws.{bound-up, bound-down}
 use Rattle.response.specs.WindowLaws.{Window}
 use Rattle.demand.specs.DemandLaws.{Periodic}
 use Rattle.verdict.specs.SignedLaws.{sub-ge, sub-lt}
 
--- no more arrive in t + u ticks than in t and in u
-pub arrivals-sub : (P K t u : ℕ) → 1 ≤ P → arrivals P K (t + u) ≤ arrivals P K t + arrivals P K u
-arrivals-sub P K t u h =
-    le-by (arrivals P K (t + u)) (arrivals P K t + arrivals P K u)
-    (λ a. omega (arith, arrivals-gap P K h (arrivals P K t + arrivals P K u) (t + u) a, gap-super P K (arrivals P K t) (arrivals P K u), reaches t, reaches u))
-  where
-    -- the gap of as many places as arrive in x ticks is not below x
-    reaches : (x : ℕ) → x ≤ gap P K (arrivals P K x)
-    reaches x = le-by x (gap P K (arrivals P K x)) (λ b. omega (arith, gap-arrivals P K h (arrivals P K x) x b))
-
 module _ (s : Tasks) (k : ℕ → ℕ) (i : ℕ) (p : Periodic s i) where
   -- the tasks above bring no more in t + u ticks than in t and in u
   pub above-sub : (t u : ℕ) → aboveLoad s k i (t + u) ≤ aboveLoad s k i t + aboveLoad s k i u
   unfolding aboveLoad
-  above-sub t u =
-      rw (sum-add (λ j. load s j * arrivals (s .period j) (k j) t) (λ j. load s j * arrivals (s .period j) (k j) u) (λ j. load s j * arrivals (s .period j) (k j) t + load s j * arrivals (s .period j) (k j) u) i (λ j l. omega arith))
-      (sum-le _ _ i (λ j l. omega (arith, mul-le-mul-left (load s j) (arrivals-sub (s .period j) (k j) t u (p j l)))))
+  above-sub = loads-add (load s) (s .period) k i p
 
   -- W(a + 1 + b) ≤ W(a) + W(b)
   pub window-sub : (a b v w t : ℕ) → Window s k i a v → Window s k i b w → Window s k i (suc a + b) t → t ≤ v + w

@@ -1,84 +1,88 @@
--- Where R(q) > D there is a list in whose run a job of the task is late.
+-- On any processor: where R(q) > D there is a list in whose run a job of the task is late.
 use Prim.Native.Nat.{ℕ, suc, _+_, _-_, _*_, _/_, _≤_, _<_}
 use mathlib.Core.Path.{_≡_}
-use mathlib.Core.Bool.{true}
-use mathlib.Core.Option.{some}
 use mathlib.Core.Logic.{dite}
 use native.Mathlib.Omega.{arith}
 use native.Mathlib.Decide.{decLe}
 use native.Mathlib.Nat.{lt-div-mul-add, div-mul-le-self}
-use Rattle.model.specs.Limits.{maxTime}
-use Rattle.model.specs.Tasks.{Tasks, Valid, InRange}
+use Rattle.model.specs.Machine.{Machine}
+use Rattle.model.specs.Tasks.{Tasks}
 use Rattle.model.specs.Gap.{gap}
-use Rattle.model.specs.Run.{responseAt}
-use Rattle.model.specs.Demand.{window}
-use Rattle.model.specs.Verdict.{isLate}
-use Rattle.model.specs.Claims.{Missed}
+use Rattle.shaper.specs.GapLaws.{gap-le}
 use Rattle.trace.specs.PositionLaws.{Held}
-use Rattle.response.specs.BoundLaws.{is-late}
-use Rattle.response.specs.WindowLaws.{Window, window-some}
-use Rattle.witness.specs.Scenario.{scenario, scenario-trace, scenario-legal, scenario-ticks}
-use Rattle.witness.specs.LateRun.{not-finished, last-release, last-job}
+use Rattle.machine.specs.Processor.{Regular}
+use Rattle.machine.specs.MachineClaims.{LateOn, MissedOn}
+use Rattle.witness.specs.Scenario.{scenario, scenario-trace, scenario-legal, scenario-ticks, last-job, last-release}
+use Rattle.witness.specs.LateRun.{not-finished}
 
--- m own jobs before the window, so that the release of own job m + q and the start of the window lie apart by what R(q) adds to W(q)
+-- n own jobs before the window, so that the release of own job n + q and the start of the window lie apart by what R(q) adds to W(q)
 pub record Lead (P J K q : ℕ) : Type 0 where
-  pub m : ℕ
-  pub small : m * P ≤ maxTime + maxTime
-  pub reached : gap P J (m + q) + (J - (q * P + K)) ≤ gap P K m + (q * P - J)
+  pub n : ℕ
+  pub small : n * P ≤ J + P
+  pub reached : gap P J (n + q) + (J - (q * P + K)) ≤ gap P K n + (q * P - J)
 
-lead : (P J K q : ℕ) → 1 ≤ P → P ≤ maxTime → J ≤ maxTime → K ≤ J → Lead P J K q
+lead : (P J K q : ℕ) → 1 ≤ P → K ≤ J → Lead P J K q
 unfolding gap
-lead P J K q p h j g = dite (decLe J (q * P + K)) none-before some-before
+lead P J K q p g = dite (decLe J (q * P + K)) none-before some-before
   where
     -- x ≤ K: the first own job is ready as the window begins
     none-before : J ≤ q * P + K → Lead P J K q
-    none-before a = record { m = 0; small = omega arith; reached = omega arith }
+    none-before a = record { n = 0; small = omega arith; reached = omega arith }
 
     -- x > K: so many before it that the last one's release is held back by x − K
     some-before : (J ≤ q * P + K → ⊥) → Lead P J K q
     some-before a =
         let low : J < J / P * P + P = lt-div-mul-add p in
         let high : J / P * P ≤ J = div-mul-le-self J P in
-        record { m = suc (J / P); small = omega arith; reached = omega arith }
+        record { n = suc (J / P); small = omega arith; reached = omega arith }
 
--- R(q) > D and W(q) = w: a list with every task's releases legal and ticks within the limit, in whose run a job of task i is late
-pub missed
-    : (s : Tasks)
-    → Valid s
+-- a late q has a list with every task's releases legal and no tick after the given one, in whose run a job of task i is not finished D ticks after its release.
+-- Periods and costs are at least 1 and the kept jitters at most J; no other limit of the task set is used
+pub missed-on
+    : (m : Machine) (r : Regular m) (s : Tasks)
+    → ((j : ℕ) → j < s .count → 1 ≤ s .period j)
+    → ((j : ℕ) → j < s .count → 1 ≤ s .cost j)
     → (k : ℕ → ℕ)
     → ((j : ℕ) → j < s .count → k j ≤ s .jitter j)
     → (i : ℕ)
     → i < s .count
-    → (q w : ℕ)
-    → window s k i q ≡ some w
-    → isLate s k i q w ≡ true
-    → Missed s k i
-unfolding responseAt
-missed s v k kept i hi q w e f =
-    go (lead (s .period i) (s .jitter i) (k i) q (r .period-low) (r .period-high) (r .jitter-high) (kept i hi)) (window-some s k i q w e)
+    → (d : LateOn m r s k i)
+    → MissedOn m s k i (d .from + d .w + s .jitter i + s .period i + d .q * s .period i)
+missed-on m r s periods costs k kept i hi d = record {
+  list = scenario s k i base first last (d .w);
+  trace = scenario-trace s k i base first last (d .w) costs hi;
+  legal = scenario-legal s k i base first last (d .w) kept;
+  ticks = scenario-ticks s k i base first last (d .w) (λ j g. periods j (omega arith)) _ (omega (arith, above-from)) (omega (arith, own-from, b .small));
+  job = h .at;
+  in-list = h .inside;
+  own-job = h .of-task;
+  not-done =
+      not-finished m r s k i base first (b .n) (d .q) (d .w) (d .from) periods costs kept hi above-from own-from (d .some-tick) (d .unmet) h _
+      (omega (arith, d .over, b .reached, last-release s k i base first last (d .w) h, own-from));
+}
   where
-    r : InRange (s .period i) (s .jitter i) (s .cost i) (s .deadline i)
-    r = v .in-range i hi
+    -- the own jobs before the window
+    b : Lead (s .period i) (s .jitter i) (k i) (d .q)
+    b = lead (s .period i) (s .jitter i) (k i) (d .q) (periods i hi) (kept i hi)
 
-    go : Lead (s .period i) (s .jitter i) (k i) q → Window s k i q w → Missed s k i
-    go d n = at (last-job s k i (d .m) q w v kept hi)
-      where
-        at : Held (scenario s k i (d .m) q w) i (d .m + q) → Missed s k i
-        at h = record {
-          list = scenario s k i (d .m) q w;
-          trace = scenario-trace s k i (d .m) q w v kept hi;
-          legal = scenario-legal s k i (d .m) q w v kept hi;
-          ticks = scenario-ticks s k i (d .m) q w v kept hi (d .small) (omega (arith, is-late s k i q w f, r .jitter-high)) (n .high);
-          job = h .at;
-          in-list = h .inside;
-          own-job = h .of-task;
-          is-late =
-              rw (h .of-task)
-              (omega (
-                arith,
-                is-late s k i q w f,
-                d .reached,
-                last-release s k i (d .m) q w v kept hi h,
-                not-finished s k i (d .m) q w v kept hi (n .low) (n .least) h,
-              ));
-        }
+    -- the first release of the tasks above: their first jobs may run as the window begins
+    base : ℕ
+    base = d .from - r .pickup
+
+    -- the first own release: own job n is ready with those
+    first : ℕ
+    first = base - gap (s .period i) (k i) (b .n)
+
+    -- the place of the last own job
+    last : ℕ
+    last = b .n + d .q
+
+    -- its position in the list
+    h : Held (scenario s k i base first last (d .w)) i last
+    h = last-job s k i base first last (d .w)
+
+    above-from : base + r .pickup ≡ d .from
+    above-from = omega (arith, d .room)
+
+    own-from : first + gap (s .period i) (k i) (b .n) + r .pickup ≡ d .from
+    own-from = omega (arith, d .room, b .small, gap-le (s .period i) (k i) (b .n))
