@@ -6,11 +6,10 @@ use mathlib.Core.Option.{Option, some, none}
 use mathlib.Core.List.{[], _∷_, _++_}
 use native.Mathlib.Omega.{arith}
 use Rattle.model.specs.Series.{table}
-use Rattle.model.specs.Run.{Jobs, leftAt, runs, endOf, finishOf}
-use Rattle.model.proofs.SeriesLaws.{le-by}
+use Rattle.model.specs.Run.{Jobs, leftAt, runs, finishOf}
 use Rattle.theory.specs.Windows.{AllOurs, Before}
-use Rattle.theory.specs.RunLaws.{Picked, runs-some, runs-none, runs-or, left-zero, left-same, left-other, finished-rests}
-use Rattle.theory.specs.FinishLaws.{LastTick, finish-is, all-done, finish-ran}
+use Rattle.theory.specs.RunLaws.{Picked, runs-some, runs-none, runs-or, left-zero, left-same, left-other}
+use Rattle.theory.specs.FinishLaws.{LastTick, finish-ran, finish-last}
 use Rattle.schedule.proofs.RunningLaws.{runs-is, runs-nothing}
 
 -- the same jobs in two guises, where every tick is ours
@@ -61,16 +60,10 @@ module _ (j k : Jobs) (a : Agree j k) where
   pub finish-agree : (p : ℕ) → p < j .count → 1 ≤ j .work p → finishOf j p ≡ finishOf k p
   finish-agree p h w = go (finish-ran j (a .all) p h w)
     where
-      inside : p < k .count
-      inside = omega (arith, a .count)
-
       go : (u : ℕ) × (finishOf j p ≡ suc u) × LastTick j p u → finishOf j p ≡ finishOf k p
       go (u, e, l) =
           let r : runs k u ≡ some p = runs-agree u (left-agree u) ∙ l .0 in
-          e ∙ sym (finish-is k p u (r, sym (left-agree (suc u) p h) ∙ l .1) (le-by (suc u) (endOf k) (λ b. over u b r)))
-        where
-          over : (u : ℕ) → endOf k < suc u → runs k u ≡ some p → ⊥
-          over u b r = finished-rests k u p (all-done k (a .same-all) p inside (omega (arith, a .work p h)) u (omega arith)) r
+          e ∙ sym (finish-last k (a .same-all) p (omega (arith, a .count)) (omega (arith, a .work p h)) u (r, sym (left-agree (suc u) p h) ∙ l .1))
 
 -- tables of functions that agree
 pub table-agree : (f g : ℕ → ℕ) (n : ℕ) → ((p : ℕ) → p < n → f p ≡ g p) → table f n ≡ table g n

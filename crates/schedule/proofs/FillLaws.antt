@@ -1,5 +1,5 @@
 -- The run over columns: from the functions' answers to the state of the next tick, and from the last state to the finish column.
-use Prim.Native.Nat.{ℕ, zero, suc, _+_, _-_, _*_, _≤_, _<_}
+use Prim.Native.Nat.{ℕ, zero, suc, _+_, _-_, _≤_, _<_}
 use mathlib.Core.Path.{_≡_, refl, sym, ap₂, _∙_}
 use mathlib.Core.Logic.{_⊎_, inl, inr}
 use mathlib.Core.Option.{some}
@@ -10,20 +10,14 @@ use lib.ListN.{length, getD, set, take, drop, take-append-drop}
 use lib.Seq.{take-suc}
 use lib.Dec.{leb, eqb}
 use borrow.Author.Tests.{leb-true, leb-false, eqb-true, eqb-false}
-use Rattle.model.specs.Series.{sum, table}
-use Rattle.model.specs.Run.{Jobs, leftAt, runs, endOf, finishOf}
-use Rattle.model.proofs.SeriesLaws.{le-by, most-le}
+use Rattle.model.specs.Series.{table}
+use Rattle.model.specs.Run.{Jobs, leftAt, runs, finishOf}
+use Rattle.model.proofs.SeriesLaws.{le-by}
 use Rattle.theory.specs.RunLaws.{left-zero}
-use Rattle.schedule.specs.Schedule.{jobsOf, nextOf, topReady, wakeOf, wakeAll, never, Holds, Runnable}
+use Rattle.schedule.specs.Schedule.{jobsOf, maxFinish, nextOf, topReady, wakeOf, wakeAll, never, Holds, Runnable}
 use Rattle.schedule.proofs.SearchedLaws.{Least, least-is, wake-in, wake-out, earliest-le, earliest-is}
-use Rattle.schedule.proofs.RunningLaws.{runs-nothing, start-soon, Ordered, May, not-over, head-le, head-start, runs-head, runs-idle, all-finished}
+use Rattle.schedule.proofs.RunningLaws.{runs-nothing, Ordered, May, start-soon, not-over, head-le, head-start, runs-head, runs-idle, all-finished}
 use Rattle.schedule.proofs.TickLaws.{Running, tick-idle, tick-run, tick-finish}
-
--- a sum of terms of at most a million
-sum-million : (f : ℕ → ℕ) (n : ℕ) → ((p : ℕ) → p < n → f p ≤ 1000000) → sum f n ≤ 1000000 * n
-unfolding sum
-sum-million f zero h = omega arith
-sum-million f (suc n) h = omega (arith, sum-million f n (λ p l. h p (omega arith)), h n (omega arith))
 
 -- the first n slots of a column are a table
 take-table : (f : ℕ → ℕ) (n : ℕ) (l : List ℕ) → n ≤ length l → ((p : ℕ) → p < n → getD l p 0 ≡ f p) → take n l ≡ table f n
@@ -38,17 +32,15 @@ pub record Top (j : Jobs) (tasks t : ℕ) (head left : List ℕ) (i : ℕ) : Typ
   pub inside : getD head i 0 < j .count
   pub picked : runs j t ≡ some (getD head i 0)
   pub some-left : 1 ≤ getD left (getD head i 0) 0
-  pub not-last : t < endOf j
+  pub not-last : t < maxFinish
 
 -- what holds at the beginning of tick t
 pub record Filling (n tasks : ℕ) (task cost ready held : List ℕ) (t wake : ℕ) (head left finish : List ℕ) : Type 0 where
   pub can : Runnable n tasks task cost ready held
-  pub soon : endOf (jobsOf n task cost ready) ≤ 3047000000
   pub state : Running (jobsOf n task cost ready) tasks t wake head left finish held
 
 module _ (n tasks : ℕ) (task cost ready held : List ℕ) (r : Runnable n tasks task cost ready held) where
   pub ordered : Ordered (jobsOf n task cost ready) tasks
-  unfolding endOf
   ordered =
       record {
         all = λ t. refl;
@@ -57,11 +49,11 @@ module _ (n tasks : ℕ) (task cost ready held : List ℕ) (r : Runnable n tasks
         known = r .known;
         some-work = r .cost-low;
         in-order = r .in-order;
-        soon = omega (arith, most-le (λ p. getD ready p 0) n 2023000000 (r .ready-high), sum-million (λ p. getD cost p 0) n (r .cost-high), r .few);
+        soon = r .finish-high;
       }
 
   filling : (t wake : ℕ) (head left finish : List ℕ) → Running (jobsOf n task cost ready) tasks t wake head left finish held → Filling n tasks task cost ready held t wake head left finish
-  filling t wake head left finish s = record { can = r; soon = ordered .soon; state = s }
+  filling t wake head left finish s = record { can = r; state = s }
 
   -- the state before the first tick
   pub fill-start : (head left : List ℕ)
@@ -108,7 +100,7 @@ module _ (n tasks : ℕ) (task cost ready held : List ℕ) (r : Runnable n tasks
     may-yes k e = (inside, omega (arith, leb-true (wakeOf ready n (getD head k 0)) t e, wake-in ready n (getD head k 0) inside))
       where
         inside : getD head k 0 < n
-        inside = le-by (suc (getD head k 0)) n (λ l. omega (arith, leb-true (wakeOf ready n (getD head k 0)) t e, wake-out ready n (getD head k 0) (omega arith), s .time, ordered .soon))
+        inside = le-by (suc (getD head k 0)) n (λ l. omega (arith, leb-true (wakeOf ready n (getD head k 0)) t e, wake-out ready n (getD head k 0) (omega arith), s .time))
 
     may-no : (k : ℕ) → leb (wakeOf ready n (getD head k 0)) t ≡ false → May (jobsOf n task cost ready) t head k → ⊥
     may-no k e m = omega (arith, leb-false (wakeOf ready n (getD head k 0)) t e, wake-in ready n (getD head k 0) (m .0))
@@ -158,8 +150,8 @@ module _ (n tasks : ℕ) (task cost ready held : List ℕ) (r : Runnable n tasks
             at : new ≡ getD ready (getD head k 0) 0
             at = x ∙ wake-in ready n (getD head k 0) inside
 
-            before-end : new ≤ endOf (jobsOf n task cost ready)
-            before-end = omega (arith, at, start-soon (jobsOf n task cost ready) (getD head k 0) inside)
+            before-end : new ≤ maxFinish
+            before-end = omega (arith, at, start-soon (jobsOf n task cost ready) tasks ordered (getD head k 0) inside)
 
             later : t < new
             later = le-by (suc t) new (λ a. rests k l (inside, omega (arith, at)))
@@ -224,7 +216,7 @@ module _ (n tasks : ℕ) (task cost ready held : List ℕ) (r : Runnable n tasks
         none-left : (k : ℕ) → k < tasks → n ≤ getD head k 0
         none-left k l =
             le-by n (getD head k 0)
-            (λ a. omega (arith, earliest-le (λ x. wakeOf ready n (getD head x 0)) tasks k l, wake-in ready n (getD head k 0) a, r .ready-high (getD head k 0) a))
+            (λ a. omega (arith, earliest-le (λ x. wakeOf ready n (getD head x 0)) tasks k l, wake-in ready n (getD head k 0) a, start-soon (jobsOf n task cost ready) tasks ordered (getD head k 0) a))
 
         each : (p : ℕ) → p < n → getD finish p 0 ≡ finishOf (jobsOf n task cost ready) p
         each p l = s .finish-is p l (all-finished (jobsOf n task cost ready) tasks ordered t head (s .heads) none-left p l)

@@ -1,11 +1,11 @@
--- Laws of the call: a list that passes its checks can be run, and its finish ticks are those of the definition.
+-- Laws of the call: a list that passes its checks can be run, its finish ticks are those of the definition, and how large its ticks are.
 use Prim.Native.Nat.{ℕ, _≤_, _<_, min}
 use mathlib.Core.Path.{_≡_, refl, sym, ap, _∙_}
 use mathlib.Core.Option.{none}
 use mathlib.Core.List.{List, _++_}
 use native.Mathlib.Omega.{arith}
 use lib.ListN.{length, getD, drop, length-append}
-use Rattle.model.specs.Limits.{maxTime}
+use Rattle.model.specs.Limits.{maxTime, maxTick}
 use Rattle.model.specs.Series.{table}
 use Rattle.model.specs.Tasks.{Tasks, Release, releaseAt}
 use Rattle.model.specs.Choice.{column}
@@ -15,11 +15,13 @@ use Rattle.model.specs.Calls.{releasesOf, columnAfter, runInputs}
 use Rattle.model.specs.Run.{jobs, finishOf, finishAt, finishList}
 use Rattle.releases.proofs.ReleaseLaws.{length-releases, release-at}
 use Rattle.model.proofs.TableLaws.{length-table}
+use Rattle.shaper.specs.ShaperLaws.{maxReady}
 use Rattle.trace.specs.TraceCalls.{callInputs, Shapable}
 use Rattle.trace.specs.ReadyAtLaws.{ready-rising}
 use Rattle.trace.proofs.CallLaws.{Callable, callable-of, listed-shapable, run-checks}
-use Rattle.trace.proofs.WalkLaws.{inside, task-is, ready-high, ready-slot}
-use Rattle.schedule.specs.Schedule.{jobsOf, Runnable}
+use Rattle.trace.proofs.WalkLaws.{inside, task-is, list-high, ready-high, ready-slot}
+use Rattle.machine.specs.FinishBound.{finish-bound}
+use Rattle.schedule.specs.Schedule.{jobsOf, maxFinish, Runnable}
 use Rattle.schedule.proofs.AgreeLaws.{Agree, finish-agree, table-agree}
 
 -- the ready column once the ready ticks are written
@@ -57,6 +59,40 @@ module _ (s : Tasks) (kept : List ℕ) (n : ℕ) (task tick cost ready finish : 
   unfolding readyList
   list-long = length-table _ _ ∙ length-releases n task tick cost
 
+  agree : Agree (jobsOf n task cost (readyWritten s kept n task tick cost ready)) (jobs s (column kept) (releasesOf n task tick cost))
+  agree =
+      record {
+        all = λ t. refl;
+        same-all = λ t. refl;
+        count = sym (length-releases n task tick cost);
+        task = λ p h. sym (task-is n task tick cost p h);
+        start = slot;
+        work = λ p h. sym (cost-is p h);
+      }
+
+  cost-low : (p : ℕ) → p < n → 1 ≤ getD cost p 0
+  cost-low p h = omega (arith, cost-is p h, callable .listed .trace .sound p (inside n task tick cost p h) .cost-low)
+
+  -- the finish of the jobs in columns is the definition's
+  same-finish
+      : (p : ℕ) → p < n
+      → finishOf (jobsOf n task cost (readyWritten s kept n task tick cost ready)) p ≡ finishAt s (column kept) (releasesOf n task tick cost) p
+  unfolding finishAt
+  same-finish p h = finish-agree _ _ agree p h (cost-low p h)
+
+  -- the checks bound every release tick, period and cost, and so every finish
+  finish-high : (p : ℕ) → p < n → finishAt s (column kept) (releasesOf n task tick cost) p ≤ maxFinish
+  finish-high p h =
+      omega (
+        arith,
+        finish-bound s (column kept) (releasesOf n task tick cost) (callable .listed .trace) maxTick maxTime (list-high s n task tick shapable cost) small p (inside n task tick cost p h),
+        length-releases n task tick cost,
+        callable .listed .few,
+      )
+    where
+      small : (i : ℕ) → i < s .count → (s .period i ≤ maxTime) × (s .cost i ≤ maxTime)
+      small i g = omega (arith, callable .listed .valid .in-range i g)
+
   pub runnable : Runnable n (s .count) task cost (readyWritten s kept n task tick cost ready) finish
   runnable =
       record {
@@ -67,21 +103,11 @@ module _ (s : Tasks) (kept : List ℕ) (n : ℕ) (task tick cost ready finish : 
         ready-long = omega (arith, length-append (readyList s (column kept) (releasesOf n task tick cost)) (drop n ready), list-long);
         finish-long = omega (arith, callable .slots-long);
         known = shapable .known;
-        cost-low = λ p h. omega (arith, cost-is p h, callable .listed .trace .sound p (inside n task tick cost p h) .cost-low);
-        cost-high = cost-high;
-        ready-high = λ p h. omega (arith, slot p h, ready-high s n task tick shapable cost (column kept) p h);
+        cost-low = cost-low;
+        finish-high = λ p h. omega (arith, same-finish p h, finish-high p h);
         in-order = in-order;
       }
     where
-      cost-high : (p : ℕ) → p < n → getD cost p 0 ≤ maxTime
-      cost-high p h =
-          omega (
-            arith,
-            cost-is p h,
-            callable .listed .trace .sound p (inside n task tick cost p h) .cost-high,
-            callable .listed .valid .in-range (releaseAt (releasesOf n task tick cost) p .task) (callable .listed .trace .sound p (inside n task tick cost p h) .known),
-          )
-
       in-order : (p q : ℕ)
           → p < q
           → q < n
@@ -97,23 +123,12 @@ module _ (s : Tasks) (kept : List ℕ) (n : ℕ) (task tick cost ready finish : 
                 (task-is n task tick cost q b),
           )
 
-  agree : Agree (jobsOf n task cost (readyWritten s kept n task tick cost ready)) (jobs s (column kept) (releasesOf n task tick cost))
-  agree =
-      record {
-        all = λ t. refl;
-        same-all = λ t. refl;
-        count = sym (length-releases n task tick cost);
-        task = λ p h. sym (task-is n task tick cost p h);
-        start = slot;
-        work = λ p h. sym (cost-is p h);
-      }
-
   -- the finish column
   pub finish-written : (o x : List ℕ)
       → o ≡ readyWritten s kept n task tick cost ready
       → x ≡ table (finishOf (jobsOf n task cost o)) n ++ drop n finish
       → x ≡ columnAfter (refusalOf (runInputs s kept n task tick cost ready finish)) (finishList s (column kept) (releasesOf n task tick cost)) finish
-  unfolding columnAfter finishList finishAt
+  unfolding columnAfter finishList
   finish-written o x g f =
       rw (← e .clear)
       (f
@@ -123,5 +138,17 @@ module _ (s : Tasks) (kept : List ℕ) (n : ℕ) (task tick cost ready finish : 
     where
       answer : table (finishOf (jobsOf n task cost (readyWritten s kept n task tick cost ready))) n ≡ finishList s (column kept) (releasesOf n task tick cost)
       answer =
-          table-agree _ (finishAt s (column kept) (releasesOf n task tick cost)) n (λ p h. finish-agree _ _ agree p h (runnable .cost-low p h))
+          table-agree _ (finishAt s (column kept) (releasesOf n task tick cost)) n same-finish
           ∙ ap (table (finishAt s (column kept) (releasesOf n task tick cost))) (sym (length-releases n task tick cost))
+
+-- where every check of a run passes, no ready tick of the list is over 2,023,000,000 and no finish over 2,024,000,000
+pub run-bounds
+    : (s : Tasks) (kept : List ℕ) (n : ℕ) (task tick cost ready finish : List ℕ)
+    → none ≡ refusalOf (runInputs s kept n task tick cost ready finish)
+    → (p : ℕ)
+    → p < length (releasesOf n task tick cost)
+    → (readyAt s (column kept) (releasesOf n task tick cost) p ≤ maxReady) × (finishAt s (column kept) (releasesOf n task tick cost) p ≤ maxFinish)
+run-bounds s kept n task tick cost ready finish e p h =
+    let c : Cleared s kept n task tick cost ready finish = record { clear = e } in
+    let l : p < n = omega (arith, length-releases n task tick cost) in
+    (ready-high s n task tick (shapable s kept n task tick cost ready finish c) cost (column kept) p l, finish-high s kept n task tick cost ready finish c p l)

@@ -9,11 +9,12 @@ use native.Mathlib.Nat.{eq-or-lt-of-le}
 use native.Mathlib.Numerals.{add-one}
 use lib.ListN.{length, getD}
 use Rattle.model.specs.Limits.{maxTasks, maxReleases}
-use Rattle.model.specs.Run.{Jobs, leftAt, runs, endOf}
-use Rattle.model.proofs.SeriesLaws.{le-by, most-ge}
+use Rattle.model.specs.Run.{Jobs, leftAt, runs, finishOf}
+use Rattle.model.proofs.SeriesLaws.{le-by}
 use Rattle.theory.specs.Windows.{AllOurs, Before}
 use Rattle.theory.specs.RunLaws.{none-some, Picked, runs-some, runs-none, left-same, left-other}
-use Rattle.theory.specs.FinishLaws.{all-done}
+use Rattle.theory.specs.FinishLaws.{finish-not, finish-late}
+use Rattle.schedule.specs.Schedule.{maxFinish}
 
 -- the job that runs in a tick
 module _ (j : Jobs) (t : ℕ) (all : AllOurs j) where
@@ -58,13 +59,7 @@ module _ (j : Jobs) (t : ℕ) (all : AllOurs j) where
   pub next-none : (q : ℕ) → runs j t ≡ none → leftAt j (t + 1) q ≡ leftAt j t q
   next-none q h = rw add-one (left-other j t q (λ g. none-some q (sym h ∙ g)))
 
--- no job starts after the tick by which all are finished
-pub start-soon : (j : Jobs) (p : ℕ) → p < j .count → j .start p ≤ endOf j
-unfolding endOf
-start-soon j p h = omega (arith, most-ge (j .start) (j .count) p h)
-
--- jobs of tasks 0, .., tasks - 1, each with some work, whose start ticks never fall along a task; all are finished before 32 bits run out:
--- the latest ready tick is 2,023,000,000 and 1,024 jobs take at most 1,000,000 ticks each
+-- jobs of tasks 0, .., tasks - 1, each with some work, whose start ticks never fall along a task; all are finished before 32 bits run out
 pub record Ordered (j : Jobs) (tasks : ℕ) : Type 0 where
   pub all : AllOurs j
   pub few : j .count ≤ maxReleases
@@ -72,7 +67,7 @@ pub record Ordered (j : Jobs) (tasks : ℕ) : Type 0 where
   pub known : (p : ℕ) → p < j .count → j .task p < tasks
   pub some-work : (p : ℕ) → p < j .count → 1 ≤ j .work p
   pub in-order : (p q : ℕ) → p < q → q < j .count → j .task p ≡ j .task q → j .start p ≤ j .start q
-  pub soon : endOf j ≤ 3047000000
+  pub soon : (p : ℕ) → p < j .count → finishOf j p ≤ maxFinish
 
 -- a column with the oldest unfinished job of each task at tick t: those before it are finished, and those after it have not run
 pub record Heads (j : Jobs) (tasks t : ℕ) (head : List ℕ) : Type 0 where
@@ -88,9 +83,13 @@ abbrev pub May : Jobs → ℕ → List ℕ → ℕ → Type 0
 May j t head i = (getD head i 0 < j .count) × (j .start (getD head i 0) ≤ t)
 
 module _ (j : Jobs) (tasks : ℕ) (o : Ordered j tasks) where
-  -- while a job is unfinished the last tick has not come
-  pub not-over : (t p : ℕ) → p < j .count → 0 < leftAt j t p → t < endOf j
-  not-over t p a b = le-by (suc t) (endOf j) (λ l. omega (arith, all-done j (o .all) p a (o .some-work p a) t (omega arith)))
+  -- each job starts before the largest finish tick
+  pub start-soon : (p : ℕ) → p < j .count → j .start p < maxFinish
+  start-soon p a = omega (arith, finish-late j (o .all) p a (o .some-work p a), o .soon p a)
+
+  -- while a job is unfinished that tick has not come
+  pub not-over : (t p : ℕ) → p < j .count → 0 < leftAt j t p → t < maxFinish
+  not-over t p a b = omega (arith, finish-not j (o .all) p a (o .some-work p a) t b, o .soon p a)
 
   module _ (t : ℕ) (head : List ℕ) (h : Heads j tasks t head) where
     -- the oldest unfinished job of a task is no later in the list than another unfinished one of the task

@@ -11,10 +11,10 @@ use lib.ListN.{length, getD, set, drop, length-set}
 use lib.Seq.{getD-set-same, getD-set-other, drop-set-lt}
 use lib.Dec.{eqb}
 use borrow.Author.Tests.{eqb-true, eqb-false}
-use Rattle.model.specs.Run.{Jobs, leftAt, runs, endOf, finishOf}
+use Rattle.model.specs.Run.{Jobs, leftAt, runs, finishOf}
 use Rattle.model.proofs.SeriesLaws.{le-by}
-use Rattle.theory.specs.FinishLaws.{finish-is}
-use Rattle.schedule.specs.Schedule.{firstFrom}
+use Rattle.theory.specs.FinishLaws.{finish-last}
+use Rattle.schedule.specs.Schedule.{maxFinish, firstFrom}
 use Rattle.schedule.proofs.SearchedLaws.{Least, least-is}
 use Rattle.schedule.proofs.RunningLaws.{next-same, next-other, next-none, Ordered, Heads, not-over}
 
@@ -37,16 +37,16 @@ pub record Running (j : Jobs) (tasks t wake : ℕ) (head left finish held : List
   pub finish-is : (p : ℕ) → p < j .count → leftAt j t p ≡ 0 → getD finish p 0 ≡ finishOf j p
   pub past : drop (j .count) finish ≡ drop (j .count) held
   pub asleep : (p : ℕ) → p < j .count → t < wake → j .start p < wake → leftAt j t p ≡ 0
-  pub wake-soon : wake ≤ endOf j
-  pub time : t ≤ endOf j
+  pub wake-soon : wake ≤ maxFinish
+  pub time : t ≤ maxFinish
 
 module _ (j : Jobs) (tasks : ℕ) (o : Ordered j tasks) (t wake : ℕ) (head left finish held : List ℕ) (s : Running j tasks t wake head left finish held) where
   -- a tick in which no job runs; no unfinished job may run before the new wake
   pub tick-idle : (new : ℕ)
       → runs j t ≡ none
       → ((p : ℕ) → p < j .count → j .start p < new → leftAt j t p ≡ 0)
-      → new ≤ endOf j
-      → t < endOf j
+      → new ≤ maxFinish
+      → t < maxFinish
       → Running j tasks (t + 1) new head left finish held
   tick-idle new h a b d =
       record {
@@ -80,7 +80,7 @@ module _ (j : Jobs) (tasks : ℕ) (o : Ordered j tasks) (t wake : ℕ) (head lef
     ran : suc (leftAt j (t + 1) p) ≡ getD left p 0
     ran = next-same j t (o .all) p h ∙ sym (s .left-is p inside)
 
-    unfinished-yet : t < endOf j
+    unfinished-yet : t < maxFinish
     unfinished-yet = not-over j tasks o t p inside (omega (arith, ran, s .left-is p inside))
 
     other : (q : ℕ) → (q ≡ p → ⊥) → leftAt j (t + 1) q ≡ leftAt j t q
@@ -221,5 +221,5 @@ module _ (j : Jobs) (tasks : ℕ) (o : Ordered j tasks) (t wake : ℕ) (head lef
             rw b
             (getD-set-same finish p (t + 1) 0 (omega (arith, s .finish-long, s .enough))
             ∙ add-one t
-            ∙ sym (finish-is j p t (h, rw add-one at done) unfinished-yet))
+            ∙ sym (finish-last j (o .all) p inside (o .some-work p inside) t (h, rw add-one at done)))
         written q l x (inr n) = getD-set-other finish p q (t + 1) 0 n ∙ s .finish-is q l (sym (other q n) ∙ x)

@@ -6,11 +6,10 @@ use mathlib.Core.Option.{Option, some, none}
 use mathlib.Core.List.{List}
 use lib.ListN.{length, getD}
 use lib.Dec.{leb, ltb, eqb}
-use Rattle.model.specs.Limits.{maxTasks, maxTime, maxReleases}
+use Rattle.model.specs.Limits.{maxTasks, maxReleases}
 use Rattle.model.specs.Search.{first}
 use Rattle.model.specs.Machine.{plain}
-use Rattle.model.specs.Run.{Jobs}
-use Rattle.shaper.specs.ShaperLaws.{maxReady}
+use Rattle.model.specs.Run.{Jobs, finishOf}
 
 -- the jobs of n releases, given in columns with their ready ticks
 abbrev pub jobsOf : ℕ → List ℕ → List ℕ → List ℕ → Jobs
@@ -21,6 +20,10 @@ jobsOf n task cost ready = record {
   work = λ p. plain .work (getD cost p 0);
   ours = λ t. true;
 }
+
+-- the largest finish tick of a list that passes the checks of a run: the largest release tick, and 1,000,000 ticks for each of 1,024 releases
+abbrev pub maxFinish : ℕ
+maxFinish = 2024000000
 
 -- the first of from, .., n - 1 at which the test holds, and n where there is none
 unfoldable pub orElse : ℕ → Option ℕ → ℕ
@@ -60,7 +63,7 @@ pub record Holds (f : ℕ → ℕ) (n k : ℕ) (l : List ℕ) : Type 0 where
   pub long : length l ≡ k
   pub each : (p : ℕ) → p < n → getD l p 0 ≡ f p
 
--- columns of n releases that can be run: tasks, costs and ready ticks within their limits, and ready ticks that never fall along a task
+-- columns of n releases that can be run: tasks and finish ticks within their limits, costs of at least 1, and ready ticks that never fall along a task
 pub record Runnable (n tasks : ℕ) (task cost ready finish : List ℕ) : Type 0 where
   pub few : n ≤ maxReleases
   pub few-tasks : tasks ≤ maxTasks
@@ -70,6 +73,5 @@ pub record Runnable (n tasks : ℕ) (task cost ready finish : List ℕ) : Type 0
   pub finish-long : n ≤ length finish
   pub known : (p : ℕ) → p < n → getD task p 0 < tasks
   pub cost-low : (p : ℕ) → p < n → 1 ≤ getD cost p 0
-  pub cost-high : (p : ℕ) → p < n → getD cost p 0 ≤ maxTime
-  pub ready-high : (p : ℕ) → p < n → getD ready p 0 ≤ maxReady
+  pub finish-high : (p : ℕ) → p < n → finishOf (jobsOf n task cost ready) p ≤ maxFinish
   pub in-order : (p q : ℕ) → p < q → q < n → getD task p 0 ≡ getD task q 0 → getD ready p 0 ≤ getD ready q 0

@@ -1,22 +1,34 @@
 -- Laws of finish: where every tick is ours, each job finishes, and it is finished from its finish on and not before.
-use Prim.Native.Nat.{ℕ, zero, suc, _+_, _-_, _≤_, _<_}
+use Prim.Native.Nat.{ℕ, zero, suc, _+_, _≤_, _<_}
 use mathlib.Core.Path.{_≡_, refl, sym, ap}
-use mathlib.Core.Bool.{Bool, true, false}
+use mathlib.Core.Bool.{Bool, true, false, not}
 use mathlib.Core.Option.{Option, some, none}
 use mathlib.Core.Logic.{_⊎_, inl, inr}
 use native.Mathlib.Nat.{eq-zero-or-pos}
 use native.Mathlib.Omega.{arith}
-use borrow.Author.Tests.{eq-eqb, eqb-true}
+use borrow.Author.Tests.{eq-eqb, eqb-true, le-ltb}
+use lib.Dec.{ltb}
 use Rattle.model.specs.Series.{on, sum, most}
 use Rattle.model.specs.Run.{Jobs, leftAt, runs, isJob, runsIn, endOf, finishOf}
-use Rattle.model.proofs.SeriesLaws.{le-by, le-or-lt, clash, on-true, on-nil, on-le, sum-le, sum-ge, most-ge, most-le}
-use Rattle.theory.specs.Windows.{AllOurs, supply, came}
+use Rattle.model.proofs.SeriesLaws.{le-by, le-or-lt, clash, on-true, on-nil, on-le, sum-add, sum-ge, most-ge, most-le}
+use Rattle.theory.specs.Windows.{AllOurs, supply, came, rest}
 use Rattle.theory.specs.RunLaws.{runs-some, left-zero, left-ran, left-later, finished-rests}
-use Rattle.theory.specs.WorkLaws.{supply-all, finished, Quiet, busy, Latest, latest}
+use Rattle.theory.specs.WorkLaws.{supply-all, busy, Latest, latest, latest-done}
 
 -- all jobs
-abbrev every : ℕ → Bool
+abbrev pub every : ℕ → Bool
 every p = true
+
+-- a term under a test and under its opposite
+on-not : (b : Bool) (x : ℕ) → on b x + on (not b) x ≡ x
+unfolding on
+on-not true x = omega arith
+on-not false x = omega arith
+
+-- the work that has come and the rest are all work
+all-work : (j : Jobs) (t : ℕ) → came j every t + rest j t ≡ sum (j .work) (j .count)
+unfolding came rest
+all-work j t = sum-add _ _ _ (j .count) (λ q l. on-not (ltb (j .start q) t) (j .work q))
 
 module _ (j : Jobs) (p : ℕ) where
   -- a tick in which the job runs and from which on it is finished
@@ -55,7 +67,7 @@ module _ (j : Jobs) (p : ℕ) where
       go (some q) e = ap some (sym (eqb-true p q e))
 
   -- the finish, where the last tick is known
-  pub finish-is : (u : ℕ) → LastTick u → u < endOf j → finishOf j p ≡ suc u
+  finish-is : (u : ℕ) → LastTick u → u < endOf j → finishOf j p ≡ suc u
   unfolding finishOf
   finish-is u k l = omega (arith, low, high)
     where
@@ -70,36 +82,25 @@ module _ (j : Jobs) (p : ℕ) where
       high = most-le _ (endOf j) (suc u) (λ t a. small t (le-or-lt t u))
 
 module _ (j : Jobs) (all : AllOurs j) (p : ℕ) (hp : p < j .count) (h1 : 1 ≤ j .work p) where
-  -- the work that has come is at most all work
-  came-le : (t : ℕ) → came j every t ≤ sum (j .work) (j .count)
-  unfolding came
-  came-le t = sum-le _ _ (j .count) (λ q l. on-le _ (j .work q))
+  -- from the last tick up to its start at which nothing is behind, the work that starts later is time enough for a job to finish
+  pub rest-done : (k : Latest j every (j .start p)) → leftAt j (k .tick + rest j (k .tick)) p ≡ 0
+  unfolding rest
+  rest-done k = latest-done j every p hp refl k (rest j (k .tick)) (busy j every (λ a b e f. refl) (k .tick) (rest j (k .tick)) (k .quiet) long enough)
+    where
+      long : 0 < rest j (k .tick)
+      long =
+          let e : on (not (ltb (j .start p) (k .tick))) (j .work p) ≡ j .work p = rw (le-ltb (j .start p) (k .tick) (k .before)) (on-true true (j .work p) refl) in
+          omega (arith, sum-ge (λ q. on (not (ltb (j .start q) (k .tick))) (j .work q)) (j .count) p hp)
+
+      enough : came j every (k .tick + rest j (k .tick)) ≤ came j every (k .tick) + supply j (k .tick) (rest j (k .tick))
+      enough = omega (arith, all-work j (k .tick), all-work j (k .tick + rest j (k .tick)), supply-all j (k .tick) all (rest j (k .tick)))
 
   -- every job finishes
   pub all-done : (t : ℕ) → endOf j ≤ t → leftAt j t p ≡ 0
   unfolding endOf
-  all-done t h = go (latest j every top)
-    where
-      top : ℕ
-      top = most (j .start) (j .count)
-
-      work : ℕ
-      work = sum (j .work) (j .count)
-
-      go : Latest j every (most (j .start) (j .count)) → leftAt j t p ≡ 0
-      go k = done (busy j every (λ a b e f. refl) (k .tick) (top - k .tick + work) (k .quiet) long enough)
-        where
-          long : 0 < top - k .tick + work
-          long = omega (arith, sum-ge (j .work) (j .count) p hp)
-
-          enough : came j every (k .tick + (top - k .tick + work)) ≤ came j every (k .tick) + supply j (k .tick) (top - k .tick + work)
-          enough = omega (arith, came-le (k .tick + (top - k .tick + work)), supply-all j (k .tick) all (top - k .tick + work))
-
-          done : Quiet j every (k .tick) (top - k .tick + work) → leftAt j t p ≡ 0
-          done (r, a, b, z) = left-later j r t p (omega (arith, k .before)) (finished j every r p z hp refl (omega (arith, most-ge (j .start) (j .count) p hp, late)))
-            where
-              late : top < r
-              late = le-by (suc top) r (λ l. k .last r a (omega arith) z)
+  all-done t h =
+      let k : Latest j every (j .start p) = latest j every (j .start p) in
+      left-later j (k .tick + rest j (k .tick)) t p (omega (arith, k .before, most-ge (j .start) (j .count) p hp, all-work j (k .tick))) (rest-done k)
 
   -- the last tick it ran, plus 1
   pub finish-ran : (u : ℕ) × (finishOf j p ≡ suc u) × LastTick j p u
@@ -114,6 +115,14 @@ module _ (j : Jobs) (all : AllOurs j) (p : ℕ) (hp : p < j .count) (h1 : 1 ≤ 
   -- from its finish on a job has no work left
   pub finish-done : (t : ℕ) → finishOf j p ≤ t → leftAt j t p ≡ 0
   finish-done t h = left-later j (suc (finish-ran .0)) t p (omega (arith, finish-ran .1)) (finish-ran .2 .1)
+
+  -- a job with work left has not finished
+  pub finish-not : (t : ℕ) → 0 < leftAt j t p → t < finishOf j p
+  finish-not t h = le-by (suc t) (finishOf j p) (λ l. omega (arith, finish-done t (omega arith)))
+
+  -- the finish is the last tick, plus 1
+  pub finish-last : (u : ℕ) → LastTick j p u → finishOf j p ≡ suc u
+  finish-last u k = omega (arith, finish-by (suc u) (k .1), le-by (suc u) (finishOf j p) (λ l. last-not j p u u k (omega arith) (finish-done u (omega arith))))
 
   -- a job starts before it finishes
   pub finish-late : j .start p < finishOf j p

@@ -12,7 +12,7 @@ use Rattle.model.specs.Run.{Jobs, leftAt}
 use Rattle.model.proofs.SeriesLaws.{le-by, le-or-lt, clash, and-left, and-right, and-both}
 use Rattle.theory.specs.Windows.{place, supply, Spaced, Bounded, win, upto}
 use Rattle.theory.specs.RunLaws.{left-later}
-use Rattle.theory.specs.WorkLaws.{finished, Quiet, busy, Latest, latest}
+use Rattle.theory.specs.WorkLaws.{Quiet, busy, Latest, latest, latest-done}
 use Rattle.theory.specs.PlaceLaws.{first-of, place-mono}
 use Rattle.theory.specs.LoadLaws.{came-win, win-above}
 use Rattle.theory.specs.UptoLaws.{own-to, ownTo, upto-own, upto-down, win-upto, win-queue}
@@ -38,14 +38,15 @@ pub record Done (j : Jobs) (i last : ℕ) (w : ℕ → ℕ) (p : ℕ) : Type 0 w
   pub done : leftAt j (from + w q) p ≡ 0
 
 -- the first job of task i that starts at s or later
-record Lead (j : Jobs) (i s n : ℕ) : Type 0 where
-  job : ℕ
-  job-le : job ≤ n
-  own : j .task job ≡ i
-  not-before : s ≤ j .start job
-  first : (p : ℕ) → j .task p ≡ i → s ≤ j .start p → job ≤ p
+pub record Lead (j : Jobs) (i s n : ℕ) : Type 0 where
+  pub job : ℕ
+  pub job-le : job ≤ n
+  pub own : j .task job ≡ i
+  pub not-before : s ≤ j .start job
+  pub first : (p : ℕ) → j .task p ≡ i → s ≤ j .start p → job ≤ p
 
-lead-of : (j : Jobs) (i s n : ℕ) → j .task n ≡ i → s ≤ j .start n → Lead j i s n
+-- there is one where job n of the task is such a job
+pub lead-of : (j : Jobs) (i s n : ℕ) → j .task n ≡ i → s ≤ j .start n → Lead j i s n
 lead-of j i s n e l = go (first-of from (suc n))
   where
     from : ℕ → Bool
@@ -73,7 +74,7 @@ module _ (j : Jobs) (i n : ℕ) (hn : n < j .count) (own : j .task n ≡ i) (k :
   in-set = upto-own j i n n (omega arith) ∙ own-to j i n n own (omega arith)
 
   by-end : (t : ℕ) → Quiet j (upto j i n) (k .tick) t → leftAt j (k .tick + t) n ≡ 0
-  by-end t (r, a, b, z) = left-later j r (k .tick + t) n b (finished j (upto j i n) r n z hn in-set (le-by (suc (j .start n)) r (λ x. k .last r a (omega arith) z)))
+  by-end t q = latest-done j (upto j i n) n hn in-set k t q
 
   -- no quiet tick up to the start of n
   no-end : (t : ℕ) → k .tick + t ≤ j .start n → Quiet j (upto j i n) (k .tick) t → ⊥

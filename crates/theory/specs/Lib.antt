@@ -10,3 +10,4 @@ pub mod Limit
 pub mod UptoLaws
 pub mod Fits
 pub mod Late
+pub mod EndLaws

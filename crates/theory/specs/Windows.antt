@@ -65,6 +65,10 @@ came j u t = sum (λ p. on (u p && ltb (j .start p) t) (j .work p)) (j .count)
 unfoldable pub back : Jobs → (ℕ → Bool) → ℕ → ℕ
 back j u t = sum (λ p. on (u p && ltb (j .start p) t) (leftAt j t p)) (j .count)
 
+-- the work of all jobs that start at tick t or later
+unfoldable pub rest : Jobs → ℕ → ℕ
+rest j t = sum (λ p. on (not (ltb (j .start p) t)) (j .work p)) (j .count)
+
 -- a job of a set runs
 abbrev pub ofSet : (ℕ → Bool) → Option ℕ → Bool
 ofSet u none = false

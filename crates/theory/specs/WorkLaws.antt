@@ -12,7 +12,7 @@ use Rattle.model.specs.Series.{on, sum}
 use Rattle.model.specs.Run.{Jobs, leftAt, runs}
 use Rattle.model.proofs.SeriesLaws.{below-suc, le-by, clash, and-left, and-right, on-true, on-false, on-nil, on-le, and-both, sum-eq, sum-add, sum-nil, sum-zero, sum-bump}
 use Rattle.theory.specs.Windows.{supply, AllOurs, doneBy, came, back, ofSet, ran, Down}
-use Rattle.theory.specs.RunLaws.{none-some, Picked, runs-some, runs-none, runs-off, left-same, left-other, left-step, left-le, left-early}
+use Rattle.theory.specs.RunLaws.{none-some, Picked, runs-some, runs-none, runs-off, left-same, left-other, left-step, left-le, left-later, left-early}
 
 one-zero : _≡_ {A = ℕ} 1 0 → ⊥
 one-zero e = omega arith
@@ -189,3 +189,7 @@ latest j u (suc r) = go (eq-zero-or-pos (back j u (suc r))) (latest j u r)
         old : (x : ℕ) → k .tick < x → back j u x ≡ 0 → (x < suc r) ⊎ (x ≡ suc r) → ⊥
         old x a h (inl l) = k .last x a (omega arith) h
         old x a h (inr e) = omega (arith, rw e at h)
+
+-- where another such tick follows the last one up to the start of a job of the set, it is after that start, and the job is finished there
+pub latest-done : (j : Jobs) (u : ℕ → Bool) (p : ℕ) → p < j .count → u p ≡ true → (k : Latest j u (j .start p)) (t : ℕ) → Quiet j u (k .tick) t → leftAt j (k .tick + t) p ≡ 0
+latest-done j u p h e k t (r, a, b, z) = left-later j r (k .tick + t) p b (finished j u r p z h e (le-by (suc (j .start p)) r (λ l. k .last r a (omega arith) z)))

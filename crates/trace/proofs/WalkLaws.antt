@@ -50,7 +50,8 @@ module _ (s : Tasks) (n : ℕ) (task tick : List ℕ) (w : Shapable s n task tic
   list-few : length (releasesOf n task tick cost) ≤ maxReleases
   list-few = omega (arith, length-releases n task tick cost, w .few)
 
-  list-high : (q : ℕ) → q < length (releasesOf n task tick cost) → releaseAt (releasesOf n task tick cost) q .tick ≤ maxTick
+  -- no release tick passes the limit
+  pub list-high : (q : ℕ) → q < length (releasesOf n task tick cost) → releaseAt (releasesOf n task tick cost) q .tick ≤ maxTick
   list-high q g = let e : q < n = omega (arith, length-releases n task tick cost) in rw (release-at n task tick cost q e) (w .tick-high q e)
 
   -- no ready tick passes 2,023,000,000

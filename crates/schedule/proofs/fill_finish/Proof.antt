@@ -1,10 +1,9 @@
--- At the beginning of tick t the columns hold the state of the run. A tick passes while some job is unfinished, so it is before the run's end.
+-- At the beginning of tick t the columns hold the state of the run. A tick passes while some job is unfinished, so it is before the largest finish tick.
 use Prim.Native.Nat.{_-_}
 use mathlib.Core.Path.{refl, sym, _∙_}
 use native.Mathlib.Omega.{arith}
 use denote.Ref.{now}
-use Rattle.model.specs.Run.{endOf}
-use Rattle.schedule.specs.Schedule.{jobsOf}
+use Rattle.schedule.specs.Schedule.{jobsOf, maxFinish}
 use Rattle.schedule.proofs.FillLaws.{Filling, Top, fill-start, fill-sleep, fill-idle, fill-top, fill-run, fill-done, fill-end}
 use Rattle.schedule.proofs.fill_finish.Statement.{statement}
 use Rattle.schedule.proofs.fill_finish.Tie as tie
@@ -13,7 +12,7 @@ abbrev Inv-loop : tie.InvT-loop
 Inv-loop task cost ready n tasks finish₀ left₀ head₀ wake₀ next₀ finish left head wake next = Filling n tasks task cost ready finish₀ next wake head left finish
 
 abbrev μ-loop : tie.MeasureT-loop
-μ-loop task cost ready n tasks finish₀ left₀ head₀ wake₀ next₀ finish left head wake next = endOf (jobsOf n task cost ready) - next
+μ-loop task cost ready n tasks finish₀ left₀ head₀ wake₀ next₀ finish left head wake next = maxFinish - next
 
 whole-work-requires : tie.Need-whole-work-requires Inv-loop μ-loop
 whole-work-requires c κs = omega arith
