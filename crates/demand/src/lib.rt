@@ -105,15 +105,9 @@ pub fn check_call(s: TaskSet, task: usize, kept: &[u32]) -> Checked
     ensures { λ r. ⌜ refusalIn r ≡ refusalOf (taskInputs (viewOf s) task (now (kept .entry))) ⌝ }
 {
     let whole = taskset::check(s);
-    match whole {
-        Checked::Refused { number, place } => {
-            return Checked::Refused {
-                number: number,
-                place: place,
-            };
-        }
-        Checked::Fine => {}
-    }
+    let Checked::Fine = whole else {
+        return whole;
+    };
     let count = s.count;
     if count <= task {
         return Checked::Refused {

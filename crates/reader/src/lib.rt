@@ -159,12 +159,9 @@ fn check_job(s: TaskSet, releases: usize, at: usize, before: u32, j: Job) -> Che
         };
     }
     let k = releases::check_release(s, at, before, j.task, j.tick, j.cost);
-    if let Checked::Refused { number, place } = k {
-        return Checked::Refused {
-            number: number,
-            place: place,
-        };
-    }
+    let Checked::Fine = k else {
+        return k;
+    };
     if 1024 <= releases {
         return Checked::Refused {
             number: 10,
@@ -232,9 +229,7 @@ fn scan(f: &[u8]) -> Scanned
     loop {
         let r = record_at(f, at);
         match r {
-            Found::Broken { number } => {
-                return refused(number, at);
-            }
+            Found::Broken { number } => return refused(number, at),
             Found::OfTask { task } => {
                 let n = tasks.count;
                 let k = check_task(n, jobs.count, at, task);
@@ -244,7 +239,6 @@ fn scan(f: &[u8]) -> Scanned
                 tasks.tasks[n] = task;
                 tasks.count = n + 1;
                 at += 17;
-                continue;
             }
             Found::OfRelease { job } => {
                 let n = jobs.count;
@@ -256,7 +250,6 @@ fn scan(f: &[u8]) -> Scanned
                 jobs.count = n + 1;
                 before = job.tick;
                 at += 10;
-                continue;
             }
             Found::End => {
                 if tasks.count == 0 {

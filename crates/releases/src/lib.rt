@@ -68,12 +68,9 @@ pub fn check_releases(s: TaskSet, count: usize, task: &[u32], tick: &[u32], cost
     while i < count {
         let next = tick[i];
         let k = check_release(s, i, before, task[i], next, cost[i]);
-        if let Checked::Refused { number, place } = k {
-            return Checked::Refused {
-                number: number,
-                place: place,
-            };
-        }
+        let Checked::Fine = k else {
+            return k;
+        };
         before = next;
         i += 1;
     }
@@ -123,25 +120,16 @@ pub fn check_list(s: TaskSet, count: usize, task: &[u32], tick: &[u32], cost: &[
     ensures { λ r. ⌜ refusalIn r ≡ refusalOf (listInputs (viewOf s) count (now (task .entry)) (now (tick .entry)) (now (cost .entry))) ⌝ }
 {
     let sheet = taskset::check(s);
-    if let Checked::Refused { number, place } = sheet {
-        return Checked::Refused {
-            number: number,
-            place: place,
-        };
-    }
+    let Checked::Fine = sheet else {
+        return sheet;
+    };
     let few = check_count(count);
-    if let Checked::Refused { number, place } = few {
-        return Checked::Refused {
-            number: number,
-            place: place,
-        };
-    }
+    let Checked::Fine = few else {
+        return few;
+    };
     let long = check_columns(count, task, tick, cost);
-    if let Checked::Refused { number, place } = long {
-        return Checked::Refused {
-            number: number,
-            place: place,
-        };
-    }
+    let Checked::Fine = long else {
+        return long;
+    };
     check_releases(s, count, task, tick, cost)
 }

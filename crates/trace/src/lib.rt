@@ -157,12 +157,9 @@ pub fn check_slots(
         };
     }
     let columns = releases::check_columns(count, task, tick, cost);
-    if let Checked::Refused { number, place } = columns {
-        return Checked::Refused {
-            number: number,
-            place: place,
-        };
-    }
+    let Checked::Fine = columns else {
+        return columns;
+    };
     if slots < count {
         return Checked::Refused {
             number: 13,
@@ -186,34 +183,22 @@ pub fn check_call(
     ensures { λ r. ⌜ refusalIn r ≡ refusalOf (callInputs (viewOf s) (now (kept .entry)) count (now (task .entry)) (now (tick .entry)) (now (cost .entry)) slots) ⌝ }
 {
     let sheet = taskset::check(s);
-    if let Checked::Refused { number, place } = sheet {
-        return Checked::Refused {
-            number: number,
-            place: place,
-        };
-    }
+    let Checked::Fine = sheet else {
+        return sheet;
+    };
     let few = releases::check_count(count);
-    if let Checked::Refused { number, place } = few {
-        return Checked::Refused {
-            number: number,
-            place: place,
-        };
-    }
+    let Checked::Fine = few else {
+        return few;
+    };
     let tasks = s.count;
     let long = check_slots(tasks, kept, count, task, tick, cost, slots);
-    if let Checked::Refused { number, place } = long {
-        return Checked::Refused {
-            number: number,
-            place: place,
-        };
-    }
+    let Checked::Fine = long else {
+        return long;
+    };
     let keeps = taskset::check_kept(s, kept);
-    if let Checked::Refused { number, place } = keeps {
-        return Checked::Refused {
-            number: number,
-            place: place,
-        };
-    }
+    let Checked::Fine = keeps else {
+        return keeps;
+    };
     releases::check_releases(s, count, task, tick, cost)
 }
 
@@ -231,12 +216,9 @@ pub fn ready_ticks(
     ensures ticks { λ r. ⌜ now (ready .exit) ≡ columnAfter (refusalOf (readyInputs (viewOf s) (now (kept .entry)) count (now (task .entry)) (now (tick .entry)) (now (cost .entry)) (now (ready .entry)))) (readyList (viewOf s) (column (now (kept .entry))) (releasesOf count (now (task .entry)) (now (tick .entry)) (now (cost .entry)))) (now (ready .entry)) ⌝ }
 {
     let checked = check_call(s, kept, count, task, tick, cost, ready.len());
-    if let Checked::Refused { number, place } = checked {
-        return Checked::Refused {
-            number: number,
-            place: place,
-        };
-    }
+    let Checked::Fine = checked else {
+        return checked;
+    };
     fill_ready(s, kept, count, task, tick, ready);
     Checked::Fine
 }

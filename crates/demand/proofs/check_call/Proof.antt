@@ -15,14 +15,14 @@ fine c = sym (c .before .before .check .ensures) ∙ ap refusalIn (c .enum-told 
 check-requires : tie.Need-check-requires
 check-requires c κs = search needs
 
-enum-known-whole : tie.Need-enum-known-whole
-enum-known-whole c = search needs
-
-returns : tie.Need-returns
-returns c = call-sheet _ _ (c .before .before .before .before .before .args .kept .now) _ (sym (c .before .before .before .check .ensures) ∙ ap refusalIn (c .before .whole .given .1))
-
 enum-told : tie.Need-enum-told
 enum-told c = search needs
+
+enum-told-2 : tie.Need-enum-told-2
+enum-told-2 c = search needs
+
+returns : tie.Need-returns
+returns c = rw (c .enum-told2 .given .1) (call-sheet _ _ (c .before .before .before .before .args .kept .now) _ (sym (c .before .before .check .ensures) ∙ ap refusalIn (c .enum-told2 .given .1)))
 
 returns-2 : tie.Need-returns-2
 returns-2 c = call-task _ _ (c .before .before .before .before .before .args .kept .now) (fine (c .before)) (c .if1 .taken)
@@ -41,9 +41,9 @@ check-call-spec =
     tie.close
     (tie.spec
     check-requires
-    enum-known-whole
-    returns
     enum-told
+    enum-told-2
+    returns
     returns-2
     returns-3
     check-kept-requires

@@ -14,15 +14,15 @@ returns c = faulty _ 5 _ (list-early _ _ _ _ (omega arith))
 check-release-requires : tie.Need-check-release-requires
 check-release-requires c κs = search needs
 
-enum-known-k : tie.Need-enum-known-k
-enum-known-k c = search needs
+enum-told : tie.Need-enum-told
+enum-told c = search needs
+
+enum-told-2 : tie.Need-enum-told-2
+enum-told-2 c = search needs
 
 returns-2 : tie.Need-returns-2
 returns-2 c =
-    list-refused _ _ _ _ _ _ (omega arith) (sym (ap refusalIn (c .before .k .given .1)) ∙ c .before .before .before .check-release .ensures)
-
-enum-told : tie.Need-enum-told
-enum-told c = search needs
+    rw (c .enum-told2 .given .1) (list-refused _ _ _ _ _ _ (omega arith) (sym (ap refusalIn (c .enum-told2 .given .1)) ∙ c .before .before .check-release .ensures))
 
 returns-3 : tie.Need-returns-3
 returns-3 c =
@@ -37,4 +37,4 @@ returns-4 c =
 pub check-job-spec : {M : Type 1} → statement M
 check-job-spec =
     tie.close
-    (tie.spec returns check-release-requires enum-known-k returns-2 enum-told returns-3 returns-4)
+    (tie.spec returns check-release-requires enum-told enum-told-2 returns-2 returns-3 returns-4)

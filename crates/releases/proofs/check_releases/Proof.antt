@@ -38,17 +38,16 @@ shared-slice-read-check-release-2 c = omega arith
 check-release-requires : tie.Need-check-release-requires Inv-loop μ-loop
 check-release-requires c κs = omega arith
 
-enum-known-k : tie.Need-enum-known-k Inv-loop μ-loop
-enum-known-k c = search needs
+enum-told : tie.Need-enum-told Inv-loop μ-loop
+enum-told c = search needs
+
+enum-told-2 : tie.Need-enum-told-2 Inv-loop μ-loop
+enum-told-2 c = search needs
 
 returns : tie.Need-returns Inv-loop μ-loop
 returns c =
-    let at = c .before .before .before .before .before .before .before .before in
-    checking-fault _ _ _ _ _ _ _ _ (at .loop .inv) (c .before .before .before .before .before .before .before .loop-test .taken)
-    (sym (ap refusalIn (c .before .k .given .1)) ∙ c .before .before .before .check-release .ensures)
-
-enum-told : tie.Need-enum-told Inv-loop μ-loop
-enum-told c = search needs
+    rw (c .enum-told2 .given .1) (checking-fault _ _ _ _ _ _ _ _ (c .before .before .before .before .before .before .before .loop .inv) (c .before .before .before .before .before .before .loop-test .taken)
+    (sym (ap refusalIn (c .enum-told2 .given .1)) ∙ c .before .before .check-release .ensures))
 
 add-i : tie.Need-add-i Inv-loop μ-loop
 add-i c = omega arith
@@ -79,9 +78,9 @@ check-releases-spec =
     mul-check-release-2
     shared-slice-read-check-release-2
     check-release-requires
-    enum-known-k
-    returns
     enum-told
+    enum-told-2
+    returns
     add-i
     loop-less
     loop-again

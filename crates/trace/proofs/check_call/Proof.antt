@@ -19,17 +19,17 @@ use Rattle.trace.proofs.check_call.Tie as tie
 sheet-fine : (c : tie.After-enum-told) → none ≡ checkTasks (viewOf (c .before .before .before .before .before .before .before .args .s))
 sheet-fine c = sym (ap refusalIn (c .enum-told .given .1)) ∙ c .before .before .check .ensures
 
-count-fine : (c : tie.After-enum-told2) → none ≡ checkCount (some (c .before .before .before .before .before .before .before .before .before .before .args .count))
-count-fine c = sym (ap refusalIn (c .enum-told2 .given .1)) ∙ c .before .before .check-count .ensures
+count-fine : (c : tie.After-enum-told3) → none ≡ checkCount (some (c .before .before .before .before .before .before .before .before .before .before .args .count))
+count-fine c = sym (ap refusalIn (c .enum-told3 .given .1)) ∙ c .before .before .check-count .ensures
 
 abbrev lentAt : tie.Start → List Lent
 lentAt c = slotsLent (c .args .s .count) (c .args .kept .now) (c .args .count) (c .args .task .now) (c .args .tick .now) (c .args .cost .now) (c .args .slots)
 
-slots-fine : (c : tie.After-enum-told3) → none ≡ checkSlots (lentAt (c .before .before .before .before .before .before .before .before .before .before .before .before .before))
-slots-fine c = sym (ap refusalIn (c .enum-told3 .given .1)) ∙ c .before .before .check-slots .ensures
+slots-fine : (c : tie.After-enum-told5) → none ≡ checkSlots (lentAt (c .before .before .before .before .before .before .before .before .before .before .before .before .before))
+slots-fine c = sym (ap refusalIn (c .enum-told5 .given .1)) ∙ c .before .before .check-slots .ensures
 
-kept-fine : (c : tie.After-enum-told4) → none ≡ checkKept (viewOf (c .before .before .before .before .before .before .before .before .before .before .before .before .before .before .before .before .args .s)) (some (column (c .before .before .before .before .before .before .before .before .before .before .before .before .before .before .before .before .args .kept .now)))
-kept-fine c = sym (ap refusalIn (c .enum-told4 .given .1)) ∙ c .before .before .check-kept .ensures
+kept-fine : (c : tie.After-enum-told7) → none ≡ checkKept (viewOf (c .before .before .before .before .before .before .before .before .before .before .before .before .before .before .before .before .args .s)) (some (column (c .before .before .before .before .before .before .before .before .before .before .before .before .before .before .before .before .args .kept .now)))
+kept-fine c = sym (ap refusalIn (c .enum-told7 .given .1)) ∙ c .before .before .check-kept .ensures
 
 long : (c : tie.Start) → none ≡ checkSlots (lentAt c) → LongEnough (c .args .s .count) (c .args .kept .now) (c .args .count) (c .args .task .now) (c .args .tick .now) (c .args .cost .now) (c .args .slots)
 long c e = long-enough _ _ _ _ _ _ _ e
@@ -40,55 +40,55 @@ few-tasks c = valid-of _ (sym (sheet-fine c)) .few-tasks
 check-requires : tie.Need-check-requires
 check-requires c κs = search needs
 
-enum-known-sheet : tie.Need-enum-known-sheet
-enum-known-sheet c = search needs
-
-returns : tie.Need-returns
-returns c = refused-tasks _ _ (sym (ap refusalIn (c .before .sheet .given .1)) ∙ c .before .before .before .check .ensures)
-
 enum-told : tie.Need-enum-told
 enum-told c = search needs
-
-check-count-requires : tie.Need-check-count-requires
-check-count-requires c κs = search needs
-
-enum-known-few : tie.Need-enum-known-few
-enum-known-few c = search needs
-
-returns-2 : tie.Need-returns-2
-returns-2 c =
-    refused-count _ _ (sheet-fine (c .before .before .before .before)) (no-single _) (sym (ap refusalIn (c .before .few .given .1)) ∙ c .before .before .before .check-count .ensures)
 
 enum-told-2 : tie.Need-enum-told-2
 enum-told-2 c = search needs
 
-check-slots-requires : tie.Need-check-slots-requires
-check-slots-requires c κs = search needs
+returns : tie.Need-returns
+returns c = rw (c .enum-told2 .given .1) (refused-tasks _ _ (sym (ap refusalIn (c .enum-told2 .given .1)) ∙ c .before .before .check .ensures))
 
-enum-known-long : tie.Need-enum-known-long
-enum-known-long c = search needs
-
-returns-3 : tie.Need-returns-3
-returns-3 c =
-    refused-slots _ _ (sheet-fine (c .before .before .before .before .before .before .before)) (no-single _) (count-fine (c .before .before .before .before))
-    (sym (ap refusalIn (c .before .long .given .1)) ∙ c .before .before .before .check-slots .ensures)
+check-count-requires : tie.Need-check-count-requires
+check-count-requires c κs = search needs
 
 enum-told-3 : tie.Need-enum-told-3
 enum-told-3 c = search needs
 
+enum-told-4 : tie.Need-enum-told-4
+enum-told-4 c = search needs
+
+returns-2 : tie.Need-returns-2
+returns-2 c =
+    rw (c .enum-told4 .given .1) (refused-count _ _ (sheet-fine (c .before .before .before)) (no-single _) (sym (ap refusalIn (c .enum-told4 .given .1)) ∙ c .before .before .check-count .ensures))
+
+check-slots-requires : tie.Need-check-slots-requires
+check-slots-requires c κs = search needs
+
+enum-told-5 : tie.Need-enum-told-5
+enum-told-5 c = search needs
+
+enum-told-6 : tie.Need-enum-told-6
+enum-told-6 c = search needs
+
+returns-3 : tie.Need-returns-3
+returns-3 c =
+    rw (c .enum-told6 .given .1) (refused-slots _ _ (sheet-fine (c .before .before .before .before .before .before)) (no-single _) (count-fine (c .before .before .before))
+    (sym (ap refusalIn (c .enum-told6 .given .1)) ∙ c .before .before .check-slots .ensures))
+
 check-kept-requires : tie.Need-check-kept-requires
 check-kept-requires c κs = (few-tasks (c .before .before .before .before .before .before), long (c .before .before .before .before .before .before .before .before .before .before .before .before .before) (slots-fine c) .kept-long)
 
-enum-known-keeps : tie.Need-enum-known-keeps
-enum-known-keeps c = search needs
+enum-told-7 : tie.Need-enum-told-7
+enum-told-7 c = search needs
+
+enum-told-8 : tie.Need-enum-told-8
+enum-told-8 c = search needs
 
 returns-4 : tie.Need-returns-4
 returns-4 c =
-    refused-kept _ _ (sheet-fine (c .before .before .before .before .before .before .before .before .before .before)) (no-single _) (count-fine (c .before .before .before .before .before .before .before)) (slots-fine (c .before .before .before .before))
-    (sym (ap refusalIn (c .before .keeps .given .1)) ∙ c .before .before .before .check-kept .ensures)
-
-enum-told-4 : tie.Need-enum-told-4
-enum-told-4 c = search needs
+    rw (c .enum-told8 .given .1) (refused-kept _ _ (sheet-fine (c .before .before .before .before .before .before .before .before .before)) (no-single _) (count-fine (c .before .before .before .before .before .before)) (slots-fine (c .before .before .before))
+    (sym (ap refusalIn (c .enum-told8 .given .1)) ∙ c .before .before .check-kept .ensures))
 
 check-releases-requires : tie.Need-check-releases-requires
 check-releases-requires c κs =
@@ -104,20 +104,20 @@ check-call-spec =
     tie.close
     (tie.spec
     check-requires
-    enum-known-sheet
-    returns
     enum-told
-    check-count-requires
-    enum-known-few
-    returns-2
     enum-told-2
-    check-slots-requires
-    enum-known-long
-    returns-3
+    returns
+    check-count-requires
     enum-told-3
-    check-kept-requires
-    enum-known-keeps
-    returns-4
     enum-told-4
+    returns-2
+    check-slots-requires
+    enum-told-5
+    enum-told-6
+    returns-3
+    check-kept-requires
+    enum-told-7
+    enum-told-8
+    returns-4
     check-releases-requires
     returns-5)

@@ -12,17 +12,17 @@ returns c = let a = c .before .before .before .before .before .args in lent-kept
 check-columns-requires : tie.Need-check-columns-requires
 check-columns-requires c κs = search needs
 
-enum-known-columns : tie.Need-enum-known-columns
-enum-known-columns c = search needs
+enum-told : tie.Need-enum-told
+enum-told c = search needs
+
+enum-told-2 : tie.Need-enum-told-2
+enum-told-2 c = search needs
 
 returns-2 : tie.Need-returns-2
 returns-2 c =
-    let a = c .before .before .before .before .before .before .before .before .before .args in
-    lent-columns (a .tasks) (a .kept .now) (a .count) (a .task .now) (a .tick .now) (a .cost .now) (a .slots)
-    (c .before .before .before .before .if1 .left) _ (sym (ap refusalIn (c .before .columns .given .1)) ∙ c .before .before .before .check-columns .ensures)
-
-enum-told : tie.Need-enum-told
-enum-told c = search needs
+    let a = c .before .before .before .before .before .before .before .before .args in
+    rw (c .enum-told2 .given .1) (lent-columns (a .tasks) (a .kept .now) (a .count) (a .task .now) (a .tick .now) (a .cost .now) (a .slots)
+    (c .before .before .before .if1 .left) _ (sym (ap refusalIn (c .enum-told2 .given .1)) ∙ c .before .before .check-columns .ensures))
 
 returns-3 : tie.Need-returns-3
 returns-3 c =
@@ -42,8 +42,8 @@ check-slots-spec =
     (tie.spec
     returns
     check-columns-requires
-    enum-known-columns
-    returns-2
     enum-told
+    enum-told-2
+    returns-2
     returns-3
     returns-4)

@@ -19,15 +19,15 @@ call-fine c = sym (ap refusalIn (c .enum-told .given .1)) ∙ c .before .before 
 check-call-requires : tie.Need-check-call-requires
 check-call-requires c κs = search needs
 
-enum-known-checked : tie.Need-enum-known-checked
-enum-known-checked c = search needs
+enum-told : tie.Need-enum-told
+enum-told c = search needs
+
+enum-told-2 : tie.Need-enum-told-2
+enum-told-2 c = search needs
 
 returns : tie.Need-returns
 returns c =
-    let e = sym (ap refusalIn (c .before .checked .given .1)) ∙ c .before .before .before .check-call .ensures in (e, column-kept _ _ _ _ e)
-
-enum-told : tie.Need-enum-told
-enum-told c = search needs
+    let e = sym (ap refusalIn (c .enum-told2 .given .1)) ∙ c .before .before .check-call .ensures in rw (c .enum-told2 .given .1) (e, column-kept _ _ _ _ e)
 
 fill-ready-requires : tie.Need-fill-ready-requires
 fill-ready-requires c κs =
@@ -46,9 +46,9 @@ ready-ticks-spec =
     tie.close
     (tie.spec
     check-call-requires
-    enum-known-checked
-    returns
     enum-told
+    enum-told-2
+    returns
     fill-ready-requires
     same-length
     returns-2)
