@@ -1,19 +1,16 @@
 -- From columns and structs to lists: what the programs hand from call to call.
-use Prim.Native.Nat.{ℕ, zero, suc, _+_, _-_, _≤_, _<_}
+use Prim.Native.Nat.{ℕ, zero, suc, _-_, _≤_, _<_}
 use mathlib.Core.Path.{_≡_, refl, sym, ap, ap₂, _∙_}
 use mathlib.Core.Option.{none}
-use mathlib.Core.List.{List, [], _∷_, _++_, map}
+use mathlib.Core.List.{List, [], _∷_, _++_}
 use native.Mathlib.Omega.{arith}
-use borrow.Author.Tests.{le-ltb}
-use lib.ListN.{length, getD, replicate, length-map, List·getD-append, List·getD-map}
-use lib.Seq.{ext-getD}
-use Rattle.model.proofs.TableLaws.{length-table, getD-table}
+use lib.ListN.{length, getD, replicate, List·getD-append}
+use Rattle.model.proofs.CheckLaws.{slots-next, slots-none}
 use Rattle.model.specs.Limits.{maxTasks, maxReleases}
-use Rattle.model.specs.Tasks.{Tasks, Release, noRelease, releaseAt}
+use Rattle.model.specs.Tasks.{Tasks}
 use Rattle.model.specs.Refusal.{Answer, refused, answered}
 use Rattle.model.specs.Checks.{checkSlots}
-use Rattle.model.specs.Series.{table}
-use Rattle.model.specs.Calls.{lends, releasesOf}
+use Rattle.model.specs.Calls.{lends}
 use Rattle.taskset.specs.declared.Task.{Task}
 use Rattle.taskset.specs.TaskSet.{noTask, viewOf}
 use Rattle.fileformat.specs.File.{File, sheetOf, decode}
@@ -43,8 +40,7 @@ view-set l = λ t. record {
 
 -- three columns with room
 slots-pass : (n : ℕ) (a b c : List ℕ) → n ≤ length a → n ≤ length b → n ≤ length c → checkSlots (lends n a ∷ lends n b ∷ lends n c ∷ []) ≡ none
-unfolding checkSlots
-slots-pass n a b c ha hb hc = rw (checkSlots, le-ltb (length a) n ha, le-ltb (length b) n hb, le-ltb (length c) n hc)
+slots-pass n a b c ha hb hc = slots-next (lends n a) _ ha ∙ slots-next (lends n b) _ hb ∙ slots-next (lends n c) [] hc ∙ sym slots-none
 
 -- with columns of 1,024 slots a read answers as the file says
 pub read-roomy : (f a b c : List ℕ) → maxReleases ≤ length a → maxReleases ≤ length b → maxReleases ≤ length c → readCall f a b c ≡ decode f
@@ -82,31 +78,3 @@ run-text-same n a b c d ra rb rc rd ha hb hc hd =
     ap (λ (t : List ℕ). runHeader ++ t)
     (lines-same (runLine (a ++ ra) (b ++ rb) (c ++ rc) (d ++ rd)) (runLine a b c d) n
     (λ p l. rw (List·getD-append a ra 0 p (omega arith), List·getD-append b rb 0 p (omega arith), List·getD-append c rc 0 p (omega arith), List·getD-append d rd 0 p (omega arith))))
-
--- the columns of a list of releases give the list
-module _ (l : List Release) (ra rb rc : List ℕ) where
-  abbrev built : ℕ → Release
-  built p = record {
-    task = getD (map (λ (r : Release). r .task) l ++ ra) p 0;
-    tick = getD (map (λ (r : Release). r .tick) l ++ rb) p 0;
-    cost = getD (map (λ (r : Release). r .cost) l ++ rc) p 0;
-  }
-
-  column-at : (g : Release → ℕ) (rest : List ℕ) → g noRelease ≡ 0 → (p : ℕ) → p < length l → getD (map g l ++ rest) p 0 ≡ g (releaseAt l p)
-  column-at g rest e p h =
-      List·getD-append (map g l) rest 0 p (omega (arith, length-map l g))
-      ∙ ap (getD (map g l) p) (sym e) ∙ List·getD-map g l p noRelease
-
-  built-at : (p : ℕ) → p < length l → built p ≡ releaseAt l p
-  built-at p h = λ t. record {
-    task = column-at (λ r. r .task) ra refl p h t;
-    tick = column-at (λ r. r .tick) rb refl p h t;
-    cost = column-at (λ r. r .cost) rc refl p h t;
-  }
-
-  pub releases-back
-      : releasesOf (length l) (map (λ (r : Release). r .task) l ++ ra) (map (λ (r : Release). r .tick) l ++ rb) (map (λ (r : Release). r .cost) l ++ rc) ≡ l
-  unfolding releasesOf
-  releases-back =
-      ext-getD noRelease (table built (length l)) l (length-table built (length l))
-      (λ p h. let g : p < length l = omega (arith, length-table built (length l)) in getD-table built noRelease (length l) p g ∙ built-at p g)

@@ -1,5 +1,5 @@
 -- The text of a run, and the text of a file that was read.
-use Prim.Native.Nat.{ℕ, suc, _+_, _*_, _≤_}
+use Prim.Native.Nat.{ℕ, suc, _*_, _≤_}
 use mathlib.Core.Path.{_≡_, refl, sym, ap, ap₂, _∙_}
 use mathlib.Core.Option.{none}
 use mathlib.Core.List.{List, [], _++_, append-nil}
@@ -20,6 +20,7 @@ use Rattle.taskset.specs.TaskSet.{viewOf, refusalIn}
 use Rattle.fileformat.specs.File.{File, sheetOf, decode, ValidFile}
 use Rattle.fileformat.specs.FileCalls.{readCall, readCount, readSheet, readColumn}
 use Rattle.fileformat.proofs.RoundTrips.{decode-valid}
+use Rattle.fileformat.proofs.CallLaws.{releases-of-columns}
 use Rattle.reader.specs.declared.ReadOutcome.{ReadOutcome}
 use Rattle.reader.specs.declared.ReadOutcome.the-variants.{Read, Refused as Halted}
 use Rattle.reader.specs.Reader.{outcomeIn}
@@ -27,7 +28,7 @@ use Rattle.model.proofs.TableLaws.{length-table}
 use Rattle.report.specs.Report.{runText, refusalText}
 use Rattle.answers.specs.Answers.{tasksOf, ticksOf, costsOf, chosenText, chooseText, listText, replayText}
 use Rattle.answers.specs.AnswerLaws.{decode-place}
-use Rattle.answers.specs.ColumnLaws.{view-set, read-roomy, run-text-same, releases-back}
+use Rattle.answers.specs.ColumnLaws.{view-set, read-roomy, run-text-same}
 use Rattle.answers.specs.CallLaws.{run-accepted}
 use Rattle.answers.specs.RunLaws.{Listed, Kept, keptText}
 
@@ -42,9 +43,7 @@ finish-long s k x = length-table (finishAt s k x) (length x)
 module _ (s : Tasks) (kept : List ℕ) (n : ℕ) (task tick cost ready finish : List ℕ) (hr : n ≤ length ready) (hf : n ≤ length finish)
     (l : Listed s n task tick cost) (k : Kept s kept) where
   accepted : refusalOf (runInputs s kept n task tick cost ready finish) ≡ none
-  accepted =
-      run-accepted s kept n task tick cost ready finish (sym (l .sheet)) (k .long) (l .few) (l .task-long) (l .tick-long) (l .cost-long) hr hf
-      (sym (k .within)) (sym (l .list))
+  accepted = sym (run-accepted s kept n task tick cost ready finish l k hr hf)
 
   -- such a run is not refused
   pub never-refused : (r : Checked) (m p : ℕ) → r ≡ Refused m p → refusalIn r ≡ refusalOf (runInputs s kept n task tick cost ready finish) → ⊥
@@ -125,12 +124,12 @@ module _ (f a b c : List ℕ) (ha : maxReleases ≤ length a) (hb : maxReleases 
           (omega (arith, length-map x (λ (r : Release). r .tick))) (omega (arith, lr)) (omega (arith, lf))
 
       long : listText s (length x) (tasksOf x ++ ra) (ticksOf x ++ rb) (costsOf x ++ rc) (chosen ks ws) ≡ runText (length x) (tasksOf x) (ticksOf x) rs fs
-      long = rw (releases-back x ra rb rc) (same ra rb)
+      long = rw (releases-of-columns x ra rb rc) (same ra rb)
 
       back : releasesOf (length x) (tasksOf x) (ticksOf x) (costsOf x) ≡ x
       back =
           ap₂ (λ (u v : List ℕ). releasesOf (length x) u v (costsOf x)) (sym (append-nil (tasksOf x))) (sym (append-nil (ticksOf x)))
-          ∙ ap (releasesOf (length x) (tasksOf x ++ []) (ticksOf x ++ [])) (sym (append-nil (costsOf x))) ∙ releases-back x [] [] []
+          ∙ ap (releasesOf (length x) (tasksOf x ++ []) (ticksOf x ++ [])) (sym (append-nil (costsOf x))) ∙ releases-of-columns x [] [] []
 
       short : listText s (length x) (tasksOf x) (ticksOf x) (costsOf x) (chosen ks ws) ≡ runText (length x) (tasksOf x) (ticksOf x) rs fs
       short = rw back
@@ -155,7 +154,7 @@ module _ (f a b c : List ℕ) (ha : maxReleases ≤ length a) (hb : maxReleases 
       build x g en ev ap′ aq ar =
           let v : ValidFile x = decode-valid f x g in
           let back : releasesOf n p q r ≡ x .releases =
-          rw (en, ap′, aq, ar) (releases-back (x .releases) (drop (length (tasksOf (x .releases))) a) (drop (length (ticksOf (x .releases))) b) (drop (length (costsOf (x .releases))) c)) in
+          rw (en, ap′, aq, ar) (releases-of-columns (x .releases) (drop (length (tasksOf (x .releases))) a) (drop (length (ticksOf (x .releases))) b) (drop (length (costsOf (x .releases))) c)) in
           let ok : none ≡ checkTasks (viewOf t) = rw ev (sym (v .tasks)) in
           record {
             sheet = ok;

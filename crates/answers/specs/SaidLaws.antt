@@ -8,10 +8,10 @@ use lib.ListN.{length, getD, drop, replicate, length-map, length-append}
 use lib.Seq.{getD-drop}
 use lib.IntN.{natAbs}
 use Rattle.model.specs.Tasks.{Tasks}
-use Rattle.model.specs.Refusal.{refused}
 use Rattle.model.specs.Checks.{checkTasks, refusalOf}
 use Rattle.model.specs.Choice.{column, choice}
 use Rattle.model.specs.Calls.{columnAfter, choiceInputs, keptColumn, worstColumn}
+use Rattle.model.proofs.CheckLaws.{Chosen}
 use Rattle.taskset.specs.declared.Checked.{Checked}
 use Rattle.taskset.specs.declared.Checked.the-variants.{Fine, Refused}
 use Rattle.taskset.specs.TaskSet.{refusalIn}
@@ -19,7 +19,7 @@ use Rattle.response.specs.ChoiceLaws.{choice-length, chosen-to}
 use Rattle.report.specs.Report.{choiceText, refusalText}
 use Rattle.answers.specs.Answers.{chosenText, listText}
 use Rattle.answers.specs.ColumnLaws.{choice-text-same}
-use Rattle.answers.specs.CallLaws.{Unfit, Chosen, choice-refused, choice-fine, keeps-pass}
+use Rattle.answers.specs.CallLaws.{Unfit, choice-refused, choice-fine, keeps-pass}
 use Rattle.answers.specs.RunLaws.{Kept, keptText}
 
 -- a column of 0s, as far as it goes
@@ -53,7 +53,7 @@ module _ (s : Tasks) (kept worst : List ℕ) (ok : none ≡ checkTasks s) (hk : 
   pub refusing : (r : Checked) (n p : ℕ) → r ≡ Refused n p → refusalIn r ≡ refusalOf (choiceInputs s kept worst) → Refusing n p
   unfolding chosenText listText
   refusing r n p e h =
-      let u : Unfit s kept worst (sym ok) hk hw n p = choice-refused s kept worst (sym ok) hk hw n p (sym (ap refusalIn e) ∙ h) in
+      let u : Unfit s n p = choice-refused s kept worst ok hk hw n p (sym (ap refusalIn e) ∙ h) in
       record {
         small = u .small;
         text = rw (u .number, u .is);
@@ -69,9 +69,9 @@ module _ (s : Tasks) (kept worst : List ℕ) (ok : none ≡ checkTasks s) (hk : 
         : k ≡ columnAfter (refusalOf (choiceInputs s kept worst)) (keptColumn (choice s)) kept
         → w ≡ columnAfter (refusalOf (choiceInputs s kept worst)) (worstColumn (choice s)) worst → choiceText s k w ≡ chosenText s (choice s)
     unfolding chosenText columnAfter keptColumn worstColumn
-    chosen-said ek ew = go (choice-fine s kept worst (sym ok) hk hw fine)
+    chosen-said ek ew = go (choice-fine s kept worst fine)
       where
-        go : Chosen s kept worst (sym ok) hk hw → choiceText s k w ≡ chosenText s (choice s)
+        go : Chosen (choice s) → choiceText s k w ≡ chosenText s (choice s)
         go c =
             let ks : List ℕ = c .keeps in
             let ws : List ℕ = map natAbs (c .worsts) in
@@ -90,9 +90,9 @@ module _ (s : Tasks) (kept worst : List ℕ) (ok : none ≡ checkTasks s) (hk : 
         : Zeros (drop (length (keptColumn (choice s))) kept)
         → k ≡ columnAfter (refusalOf (choiceInputs s kept worst)) (keptColumn (choice s)) kept → Keeping
     unfolding listText keptText columnAfter keptColumn
-    keeping z ek = go (choice-fine s kept worst (sym ok) hk hw fine)
+    keeping z ek = go (choice-fine s kept worst fine)
       where
-        go : Chosen s kept worst (sym ok) hk hw → Keeping
+        go : Chosen (choice s) → Keeping
         go c =
             let ks : List ℕ = c .keeps in
             let ak : k ≡ ks ++ drop (length ks) kept = rw (← fine, c .is) at ek in
@@ -101,7 +101,7 @@ module _ (s : Tasks) (kept worst : List ℕ) (ok : none ≡ checkTasks s) (hk : 
             record {
               kept-ok = record {
                 long = omega (arith, ap length ak, length-append ks (drop (length ks) kept), choice-length s ks (c .worsts) (c .is));
-                within = rw same (sym (rw (same-column ks (drop (length ks) kept) zs) at (keeps-pass s ks (c .worsts) (drop (length ks) kept) (c .is))));
+                within = rw same (rw (same-column ks (drop (length ks) kept) zs) at (keeps-pass s ks (c .worsts) (drop (length ks) kept) (c .is)));
               };
               list-text = λ m a b d. rw (same, c .is);
             }

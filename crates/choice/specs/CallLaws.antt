@@ -2,25 +2,25 @@
 use Prim.Native.Nat.{ℕ, _≤_, _<_}
 use mathlib.Core.Path.{_≡_, sym, ap, _∙_}
 use mathlib.Core.Option.{Option, some, none}
-use mathlib.Core.List.{List, [], _∷_, _++_, map, map-map, map-id}
+use mathlib.Core.List.{List, [], _++_, map, map-map, map-id}
 use native.Mathlib.Omega.{arith}
-use borrow.Author.Tests.{lt-ltb, le-ltb, le-leb, lt-leb}
+use borrow.Author.Tests.{le-leb, lt-leb}
 use lib.ListN.{length, take, drop, length-take}
 use lib.IntN.{pos, natAbs}
 use Rattle.model.specs.Limits.{maxTasks}
 use Rattle.model.specs.Tasks.{Tasks}
 use Rattle.model.specs.Choice.{unfit, chosen, choice}
-use Rattle.model.specs.Refusal.{Refusal, refuse, firstOf}
-use Rattle.model.specs.Checks.{refuseAt, checkTasks, checkTask, checkCount, checkSlots, checkKept, checkReleases, checkChoice, refusalOf}
+use Rattle.model.specs.Refusal.{Refusal, refuse}
+use Rattle.model.specs.Checks.{checkTasks, checkChoice, refusalOf}
 use Rattle.model.specs.Calls.{lends, columnAfter, unfitOf, choiceInputs, keptColumn, worstColumn}
-use Rattle.model.proofs.CheckLaws.{first-refusal, next-check}
+use Rattle.model.proofs.CheckLaws.{slots-short, slots-next, slots-none, unfit-refused, chosen-passes}
+use Rattle.model.proofs.OrderLaws.{no-single, no-count, no-kept, no-releases, refused-tasks, refused-slots, unfit-decides, column-kept, column-written}
 use Rattle.choice.specs.declared.Choices.{Choices}
 use Rattle.choice.specs.Choices.{choiceIn, ChoicesAre}
 
 -- an answer of n numbers that is written in front of what the slots past it held
 written : (n : ℕ) (o : Option Refusal) (a answer held : List ℕ) → none ≡ o → a ≡ answer → length a ≡ n → a ++ drop n held ≡ columnAfter o answer held
-unfolding columnAfter
-written n o a answer held h e l = rw (← h, ← e, l)
+written n o a answer held h e l = column-written o n a held h l ∙ ap (λ x. columnAfter o x held) e
 
 -- integers made of natural numbers
 naturals : (l : List ℕ) → map natAbs (map pos l) ≡ l
@@ -35,51 +35,36 @@ module _ (s : Tasks) (kept worst : List ℕ) where
       × (w ≡ columnAfter (refusalOf (choiceInputs s kept worst)) (worstColumn (choice s)) worst))
 
   -- a refusal leaves both columns
-  pub refuses : (r : Refusal) → some r ≡ refusalOf (choiceInputs s kept worst) → Answers (some r) kept worst
-  unfolding columnAfter
-  refuses r h = (h, (rw (← h), rw (← h)))
-
-  -- the checks after the sheet's
-  abbrev later : List (Option Refusal)
-  later =
-      checkTask s none
-      ∷ checkCount none
-      ∷ checkSlots (lends (s .count) kept ∷ lends (s .count) worst ∷ [])
-      ∷ checkKept s none
-      ∷ checkReleases s 0 0 []
-      ∷ checkChoice (unfitOf (choice s))
-      ∷ []
+  refuses : (r : Refusal) → some r ≡ refusalOf (choiceInputs s kept worst) → Answers (some r) kept worst
+  refuses r h = (h, (column-kept _ r _ kept h, column-kept _ r _ worst h))
 
   -- 5, 4, 6
   pub refuses-sheet : (r : Refusal) → some r ≡ checkTasks s → Answers (some r) kept worst
-  unfolding refusalOf
-  refuses-sheet r h = refuses r (first-refusal (checkTasks s) later r (sym h))
-
-  after-sheet : none ≡ checkTasks s → refusalOf (choiceInputs s kept worst) ≡ firstOf later
-  unfolding refusalOf
-  after-sheet h = next-check (checkTasks s) later (sym h)
+  refuses-sheet r h = refuses r (refused-tasks _ r h)
 
   -- 13
   pub refuses-kept : none ≡ checkTasks s → length kept < s .count → Answers (refuse 13 (s .count)) kept worst
-  unfolding checkTask checkCount checkSlots firstOf
-  refuses-kept h l = refuses _ (sym (after-sheet h ∙ rw (firstOf, checkSlots, lt-ltb (length kept) (s .count) l)))
+  refuses-kept h l = refuses _ (refused-slots _ _ h (no-single s) no-count (slots-short (lends (s .count) kept) _ l))
 
   pub refuses-worst : none ≡ checkTasks s → s .count ≤ length kept → length worst < s .count → Answers (refuse 13 (s .count)) kept worst
-  unfolding checkTask checkCount checkSlots firstOf
   refuses-worst h g l =
-      refuses _ (sym (after-sheet h ∙ rw (firstOf, checkSlots, le-ltb (length kept) (s .count) g, checkSlots, lt-ltb (length worst) (s .count) l)))
+      refuses _
+      (refused-slots _ _ h (no-single s) no-count
+      (slots-short (lends (s .count) worst) [] l ∙ sym (slots-next (lends (s .count) kept) _ g)))
 
   module _ (h : none ≡ checkTasks s) (g : s .count ≤ length kept) (l : s .count ≤ length worst) where
-    only-choice : refusalOf (choiceInputs s kept worst) ≡ firstOf (checkChoice (unfitOf (choice s)) ∷ [])
-    unfolding checkTask checkCount checkSlots checkKept checkReleases firstOf
-    only-choice = after-sheet h ∙ rw (firstOf, checkSlots, le-ltb (length kept) (s .count) g, checkSlots, le-ltb (length worst) (s .count) l)
+    -- with a sheet that passes and columns with room, the choice decides
+    pub choice-decides : checkChoice (unfitOf (choice s)) ≡ refusalOf (choiceInputs s kept worst)
+    choice-decides =
+        unfit-decides _ h (no-single s) no-count
+        (slots-none ∙ sym (slots-next (lends (s .count) kept) _ g ∙ slots-next (lends (s .count) worst) [] l))
+        (no-kept s) (no-releases s)
 
     -- 15
     pub refuses-unfit : (r : Choices) → ChoicesAre s r → r .fitted < s .count → Answers (refuse 15 (r .fitted)) kept worst
-    unfolding checkChoice refuseAt unfitOf firstOf
     refuses-unfit r c b =
         let e : unfit (r .fitted) ≡ choice s = sym (rw (choiceIn, lt-leb (s .count) (r .fitted) b)) ∙ c .is in
-        refuses _ (sym (only-choice ∙ rw (← e)))
+        refuses _ (unfit-refused (choice s) (r .fitted) (sym e) ∙ choice-decides)
 
     -- the choice
     pub answers : (r : Choices) (k w : List ℕ)
@@ -89,7 +74,7 @@ module _ (s : Tasks) (kept worst : List ℕ) where
         → k ≡ take (s .count) (r .keep) ++ drop (s .count) kept
         → w ≡ take (s .count) (r .worst) ++ drop (s .count) worst
         → Answers none k w
-    unfolding checkChoice refuseAt unfitOf firstOf keptColumn worstColumn
+    unfolding keptColumn worstColumn
     answers r k w c b few ek ew = (
       passed,
       (
@@ -102,7 +87,7 @@ module _ (s : Tasks) (kept worst : List ℕ) where
         e = sym (rw (choiceIn, le-leb (s .count) (r .fitted) b)) ∙ c .is
 
         passed : none ≡ refusalOf (choiceInputs s kept worst)
-        passed = sym (only-choice ∙ rw (← e))
+        passed = chosen-passes (choice s) _ _ (sym e) ∙ choice-decides
 
         long : (a : List ℕ) → length a ≡ maxTasks → length (take (s .count) a) ≡ s .count
         long a f = simp length-take (omega arith)

@@ -11,9 +11,9 @@ use Rattle.model.specs.Tasks.{Release, noRelease}
 use Rattle.model.specs.Refusal.{answered}
 use Rattle.model.specs.Checks.{checkReleases, refusalOf}
 use Rattle.model.specs.Calls.{releasesOf, listInputs}
-use Rattle.model.proofs.CheckLaws.{valid-of, valid-passes}
-use Rattle.releases.proofs.OrderLaws.{accepted-of, accepts, no-single, no-kept, no-unfit}
-use Rattle.releases.proofs.ReleaseLaws.{count-few, count-of, slots-next, slots-none, length-releases, release-at}
+use Rattle.model.proofs.CheckLaws.{valid-of, valid-passes, count-few, count-of, slots-next, slots-none}
+use Rattle.model.proofs.OrderLaws.{accepted-of, accepts, no-single, no-kept, no-unfit}
+use Rattle.releases.proofs.ReleaseLaws.{length-releases, release-at}
 use Rattle.taskset.specs.declared.Task.{Task}
 use Rattle.taskset.specs.declared.TaskSet.{TaskSet}
 use Rattle.taskset.specs.TaskSet.{noTask, viewOf}

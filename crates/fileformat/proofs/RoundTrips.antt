@@ -1,17 +1,17 @@
 -- The two round trips, and that what is read is within document 01's limits.
 use Prim.Native.Nat.{ℕ, zero, suc, _+_, _*_, _≤_, _<_}
 use mathlib.Core.Path.{_≡_, refl, sym, ap, ap₂, _∙_}
-use mathlib.Core.Option.{Option, some, none}
+use mathlib.Core.Option.{none}
 use mathlib.Core.List.{List, [], _∷_, _++_, map, append-assoc, append-nil, map-append}
 use native.Mathlib.Omega.{arith}
 use lib.ListN.{length, getD, drop, length-append}
 use lib.Seq.{drop-at, getD-drop, append-snoc}
 use Rattle.model.specs.Limits.{maxTasks, maxReleases}
-use Rattle.model.specs.Tasks.{Tasks, Release, Valid}
+use Rattle.model.specs.Tasks.{Release, Valid}
 use Rattle.model.specs.Refusal.{Refusal, refused, answered}
 use Rattle.model.specs.Checks.{releaseFault, checkReleases}
 use Rattle.model.proofs.CheckLaws.{in-range-yes, valid-of, valid-passes}
-use Rattle.releases.proofs.ReleaseLaws.{Passed, passed-of, releases-next, releases-fault, faulty}
+use Rattle.model.proofs.TraceLaws.{Passed, passed-of, releases-next, passes-cons}
 use Rattle.taskset.specs.declared.Task.{Task}
 use Rattle.taskset.specs.TaskSet.{noTask}
 use Rattle.fileformat.specs.Numbers.{Bytes}
@@ -184,14 +184,6 @@ reads-release r n ts rs before at m v h l =
     (release-read r m (passed-fits ts before r v (passed-of (sheetOf ts) before r h))) (readTo ts (rs ++ (r ∷ [])) (r .tick))
     (release-taken (readTo ts rs before) r (list-fine (sheetOf ts) _ _ r (v .some-task) h l))
     ∙ ap (readFrom n (readTo ts (rs ++ (r ∷ [])) (r .tick)) (at + 10)) (drop-release r m)
-
--- the first release of a list that passes its check has no fault, and the rest passes
-passes-cons : (s : Tasks) (before p : ℕ) (r : Release) (l : List Release) → checkReleases s before p (r ∷ l) ≡ none → (releaseFault s before r ≡ none) × (checkReleases s (r .tick) (suc p) l ≡ none)
-passes-cons s before p r l h = go (releaseFault s before r) refl
-  where
-    go : (o : Option ℕ) → releaseFault s before r ≡ o → (releaseFault s before r ≡ none) × (checkReleases s (r .tick) (suc p) l ≡ none)
-    go none e = (e, sym (releases-next s before p r l e) ∙ h)
-    go (some k) e = let w = releases-fault s before p r l _ (faulty p k _ e) ∙ h in let z : _≡_ {A = ℕ} 0 1 = cc in absurd (omega arith)
 
 reads-releases : (l : List Release) (n : ℕ) (ts : List Task) (rs : List Release) (before p at : ℕ) (m : List ℕ) (x : File) → Valid (sheetOf ts) → checkReleases (sheetOf ts) before p l ≡ none → length rs + length l ≤ maxReleases → ((b k : ℕ) → readFrom n (readTo ts (rs ++ l) b) k m ≡ answered x) → readFrom (length l + n) (readTo ts rs before) at (releasePart l ++ m) ≡ answered x
 unfolding joined recordBytes

@@ -12,7 +12,7 @@ use lib.Seq.{getD-take, length-take-le}
 use Rattle.model.specs.Limits.{maxTasks, maxReleases}
 use Rattle.model.specs.Tasks.{Tasks, Release, Valid}
 use Rattle.model.specs.Checks.{releaseFault, checkReleases}
-use Rattle.releases.proofs.ReleaseLaws.{fault-task, releases-next, releases-fault, faulty}
+use Rattle.model.proofs.TraceLaws.{fault-task, releases-next, releases-fault}
 use Rattle.taskset.specs.declared.TaskSet.{TaskSet}
 use Rattle.taskset.specs.TaskSet.{noTask, viewOf}
 use Rattle.fileformat.specs.File.{sheetOf, listFault}
@@ -53,8 +53,7 @@ releases-agree s s′ before p (r ∷ l) a = go (releaseFault s before r) refl (
     go none e ih =
         releases-next s before p r l e ∙ ih ∙ sym (releases-next s′ before p r l (sym (fault-agrees s s′ before r a) ∙ e))
     go (some n) e ih =
-        sym (releases-fault s before p r l _ (faulty p n _ e))
-        ∙ releases-fault s′ before p r l _ (faulty p n _ (sym (fault-agrees s s′ before r a) ∙ e))
+        sym (releases-fault s before p r l n e) ∙ releases-fault s′ before p r l n (sym (fault-agrees s s′ before r a) ∙ e)
 
 -- a release record is checked against the count and the release's own fault
 abbrev faults : ℕ → ℕ → Option ℕ → Option ℕ

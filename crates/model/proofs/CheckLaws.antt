@@ -1,29 +1,22 @@
--- Laws of the checks: which refusal comes first, and what holds where there is none.
+-- Laws of each check by itself: what it refuses, and what holds where it passes.
 use Prim.Native.Nat.{ℕ, _≤_, _<_}
 use mathlib.Core.Path.{_≡_, refl, sym, _∙_, ap}
 use mathlib.Core.Bool.{Bool, true, false, _&&_, not, and-eq-true-iff}
 use mathlib.Core.Option.{Option, some, none}
-use mathlib.Core.List.{List, [], _∷_}
+use mathlib.Core.List.{List, [], _∷_, _++_}
 use native.Mathlib.Omega.{arith}
 use native.Mathlib.Nat.{lt-of-not-le, le-of-suc-le-suc}
-use borrow.Author.Tests.{le-leb, leb-true, ne-eqb, lt-ltb, le-ltb, ltb-false, not-false}
+use borrow.Author.Tests.{le-leb, lt-leb, leb-true, leb-false, ne-eqb, lt-ltb, le-ltb, ltb-true, ltb-false, not-false}
 use lib.Dec.{leb, ltb}
-use Rattle.model.specs.Limits.{maxTasks, maxTime}
+use lib.IntN.{ℤ}
+use Rattle.model.specs.Limits.{maxTasks, maxTime, maxReleases}
 use Rattle.model.specs.Search.{first}
 use Rattle.model.specs.Tasks.{Tasks, InRange, Valid}
+use Rattle.model.specs.Choice.{Choice, unfit, chosen}
 use Rattle.model.specs.Refusal.{Refusal, refuse, firstOf}
-use Rattle.model.specs.Checks.{inRange, refuseAt, refuseIf, checkRanges, checkTasks, checkKept}
+use Rattle.model.specs.Checks.{Lent, inRange, refuseAt, refuseIf, checkRanges, checkTasks, checkTask, checkCount, checkSlots, checkKept, checkChoice}
+use Rattle.model.specs.Calls.{unfitOf}
 use Rattle.model.proofs.SearchLaws.{first-none, first-nothing}
-
--- a check that refuses decides
-pub first-refusal : (c : Option Refusal) (l : List (Option Refusal)) (r : Refusal) → c ≡ some r → some r ≡ firstOf (c ∷ l)
-unfolding firstOf
-first-refusal c l r h = rw (firstOf, h)
-
--- a check that passes leaves the next to decide
-pub next-check : (c : Option Refusal) (l : List (Option Refusal)) → c ≡ none → firstOf (c ∷ l) ≡ firstOf l
-unfolding firstOf
-next-check c l h = rw (firstOf, h)
 
 is-false : (b : Bool) → (b ≡ true → ⊥) → b ≡ false
 is-false true h = absurd (h refl)
@@ -139,3 +132,108 @@ kept-of s k h i l = ltb-false _ _ (first-nothing (over s k) (s .count) 0 nothing
         go : (o : Option ℕ) → first (over s k) (s .count) 0 ≡ o → o ≡ none
         go none e = refl
         go (some j) e = let e′ = refuses-kept s k j e ∙ h in let z : _≡_ {A = ℕ} 0 1 = cc in absurd (omega arith)
+
+-- and kept jitters in 0..J pass
+pub kept-passes : (s : Tasks) (k : ℕ → ℕ) → ((i : ℕ) → i < s .count → k i ≤ s .jitter i) → none ≡ checkKept s (some k)
+kept-passes s k h = passes-kept s k (first-none (over s k) (s .count) 0 (λ i l g. le-ltb (s .jitter i) (k i) (h i (omega arith))))
+
+-- a test that passes does not hold
+not-refused : (b : Bool) (n p : ℕ) → none ≡ refuseIf b n p → b ≡ false
+unfolding refuseIf
+not-refused true n p h = let z : _≡_ {A = ℕ} 0 1 = cc in absurd (omega arith)
+not-refused false n p h = refl
+
+-- 14: no such task
+module _ (s : Tasks) (i : ℕ) where
+  pub task-unknown : s .count ≤ i → refuse 14 i ≡ checkTask s (some i)
+  unfolding checkTask refuseIf
+  task-unknown h = rw (checkTask, le-leb (s .count) i h)
+
+  pub task-known : i < s .count → none ≡ checkTask s (some i)
+  unfolding checkTask refuseIf
+  task-known h = rw (checkTask, lt-leb (s .count) i h)
+
+  -- a task number that passes is one of the sheet
+  pub task-of : none ≡ checkTask s (some i) → i < s .count
+  unfolding checkTask
+  task-of h = leb-false _ _ (not-refused _ _ _ h)
+
+-- 10: over 1,024 releases
+module _ (n : ℕ) where
+  pub count-many : maxReleases < n → refuse 10 maxReleases ≡ checkCount (some n)
+  unfolding checkCount refuseIf
+  count-many h = rw (checkCount, lt-ltb maxReleases n h)
+
+  pub count-few : n ≤ maxReleases → none ≡ checkCount (some n)
+  unfolding checkCount refuseIf
+  count-few h = rw (checkCount, le-ltb maxReleases n h)
+
+  -- a count that passes
+  pub count-of : none ≡ checkCount (some n) → n ≤ maxReleases
+  unfolding checkCount
+  count-of h = ltb-false _ _ (not-refused _ _ _ h)
+
+-- 13: the first slice that is too short
+module _ (c : Lent) (l : List Lent) where
+  pub slots-short : c .slots < c .needed → refuse 13 (c .needed) ≡ checkSlots (c ∷ l)
+  unfolding checkSlots
+  slots-short h = rw (checkSlots, lt-ltb _ _ h)
+
+  pub slots-next : c .needed ≤ c .slots → checkSlots (c ∷ l) ≡ checkSlots l
+  unfolding checkSlots
+  slots-next h = rw (checkSlots, le-ltb (c .slots) (c .needed) h)
+
+  -- a slice that passes is long enough, and the next ones pass
+  pub slot-of : none ≡ checkSlots (c ∷ l) → (c .needed ≤ c .slots) × (none ≡ checkSlots l)
+  slot-of e = go (ltb (c .slots) (c .needed)) refl
+    where
+      go : (b : Bool) → ltb (c .slots) (c .needed) ≡ b → (c .needed ≤ c .slots) × (none ≡ checkSlots l)
+      go true h = let e′ = e ∙ sym (slots-short (ltb-true _ _ h)) in let z : _≡_ {A = ℕ} 0 1 = cc in absurd (omega arith)
+      go false h = (ltb-false _ _ h, e ∙ slots-next (ltb-false _ _ h))
+
+pub slots-none : none ≡ checkSlots []
+unfolding checkSlots
+slots-none = refl
+
+-- slices in a row: the first that is too short decides ..
+pub slots-first : (l r : List Lent) (q : Refusal) → some q ≡ checkSlots l → some q ≡ checkSlots (l ++ r)
+unfolding checkSlots
+slots-first [] r q e = let z : _≡_ {A = ℕ} 0 1 = cc in absurd (omega arith)
+slots-first (c ∷ l) r q e = go (ltb (c .slots) (c .needed)) refl (slots-first l r q)
+  where
+    go : (b : Bool) → ltb (c .slots) (c .needed) ≡ b → (some q ≡ checkSlots l → some q ≡ checkSlots (l ++ r)) → some q ≡ checkSlots ((c ∷ l) ++ r)
+    go true h f = e ∙ sym (slots-short c l (ltb-true _ _ h)) ∙ slots-short c (l ++ r) (ltb-true _ _ h)
+    go false h f = f (e ∙ slots-next c l (ltb-false _ _ h)) ∙ sym (slots-next c (l ++ r) (ltb-false _ _ h))
+
+-- .. and those that are long enough leave the others to decide
+pub slots-rest : (l r : List Lent) → none ≡ checkSlots l → checkSlots (l ++ r) ≡ checkSlots r
+slots-rest [] r e = refl
+slots-rest (c ∷ l) r e = let a = slot-of c l e in slots-next c (l ++ r) (a .0) ∙ slots-rest l r (a .1)
+
+-- 15: the first task that fits at no K
+pub unfit-refused : (c : Choice) (i : ℕ) → c ≡ unfit i → refuse 15 i ≡ checkChoice (unfitOf c)
+unfolding checkChoice refuseAt unfitOf
+unfit-refused c i e = rw e
+
+pub chosen-passes : (c : Choice) (ks : List ℕ) (ws : List ℤ) → c ≡ chosen ks ws → none ≡ checkChoice (unfitOf c)
+unfolding checkChoice refuseAt unfitOf
+chosen-passes c ks ws e = rw e
+
+-- what a refusal of the choice says
+pub unfit-of : (c : Choice) (n p : ℕ) → refuse n p ≡ checkChoice (unfitOf c) → (n ≡ 15) × (c ≡ unfit p)
+unfolding checkChoice refuseAt unfitOf
+unfit-of (unfit i) n p e =
+    let same : _≡_ {A = Refusal} (record { number = n; place = p }) (record { number = 15; place = i }) = cc in
+    (ap (λ (x : Refusal). x .number) same, ap unfit (sym (ap (λ (x : Refusal). x .place) same)))
+unfit-of (chosen ks ws) n p e = let z : _≡_ {A = ℕ} 0 1 = cc in absurd (omega arith)
+
+-- a choice that passes: its kept jitters and its largest R
+pub record Chosen (c : Choice) : Type 0 where
+  pub keeps : List ℕ
+  pub worsts : List ℤ
+  pub is : c ≡ chosen keeps worsts
+
+pub chosen-of : (c : Choice) → none ≡ checkChoice (unfitOf c) → Chosen c
+unfolding checkChoice refuseAt unfitOf
+chosen-of (unfit i) e = let z : _≡_ {A = ℕ} 0 1 = cc in absurd (omega arith)
+chosen-of (chosen ks ws) e = record { keeps = ks; worsts = ws; is = refl }

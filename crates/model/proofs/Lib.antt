@@ -3,5 +3,7 @@ pub mod SearchLaws
 pub mod SeriesLaws
 pub mod TableLaws
 pub mod CheckLaws
+pub mod OrderLaws
+pub mod TraceLaws
 pub mod Sums
 pub mod Traps

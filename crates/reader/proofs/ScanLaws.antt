@@ -1,7 +1,7 @@
 -- Laws of the scan: what holds where the scan stands, and what each record does.
 use Prim.Native.Nat.{ℕ, suc, _+_, _*_, _-_, _≤_, _<_}
 use mathlib.Core.Path.{_≡_, refl, sym, ap, ap₂, _∙_}
-use mathlib.Core.Option.{Option, some, none}
+use mathlib.Core.Option.{some, none}
 use mathlib.Core.List.{List, [], _∷_, _++_, map, map-append}
 use native.Mathlib.Omega.{arith}
 use native.Mathlib.Numerals.{add-one}
@@ -16,7 +16,7 @@ use Rattle.taskset.specs.declared.TaskSet.{TaskSet}
 use Rattle.taskset.specs.declared.Checked.the-variants.{Fine}
 use Rattle.taskset.specs.TaskSet.{noTask, viewOf}
 use Rattle.releases.specs.Releases.{faultAt}
-use Rattle.releases.proofs.ReleaseLaws.{faultless-of}
+use Rattle.releases.proofs.ReleaseLaws.{faulty, fault-of, faultless-of}
 use Rattle.fileformat.specs.Records.{Record, broken, taskRecord, releaseRecord, endRecord, recordOf, sizeOf}
 use Rattle.fileformat.specs.File.{State, stop, sheetOf, taskFault, listFault, advance, afterEnd, readFrom, decode}
 use Rattle.fileformat.specs.FileCalls.{tasksIn, setOf, readSheet}
@@ -30,12 +30,9 @@ use Rattle.reader.specs.Reader.{releaseOf, releasesIn, answerWith, ScanS
 
 -- the fault of a release decides its record's
 pub list-refused : (s : Tasks) (n before p : ℕ) (r : Release) (q : Refusal) → 1 ≤ s .count → some q ≡ faultAt p (releaseFault s before r) → some q ≡ faultAt p (listFault s n before r)
-unfolding faultAt
-list-refused s n before p r q l e = go (releaseFault s before r) refl
-  where
-    go : (o : Option ℕ) → releaseFault s before r ≡ o → some q ≡ faultAt p (listFault s n before r)
-    go none h = let w : some q ≡ none = e ∙ ap (faultAt p) h in let z : _≡_ {A = ℕ} 0 1 = cc in absurd (omega arith)
-    go (some k) h = e ∙ ap (faultAt p) (h ∙ sym (list-fault s n before r k l h))
+list-refused s n before p r q l e =
+    let w = fault-of p _ q e in
+    ap some (w .1) ∙ faulty p (q .number) _ (list-fault s n before r (q .number) l (w .0))
 
 -- what is read so far, from the structs that hold it
 abbrev pub stateOf : TaskSet → Jobs → ℕ → State
@@ -51,14 +48,6 @@ pub record Scanning (f : List ℕ) (s : TaskSet) (l : Jobs) (before at : ℕ) : 
   pub tasks-long : length (s .tasks) ≡ maxTasks
   pub jobs-long : length (l .jobs) ≡ maxReleases
   pub padded : drop (s .count) (s .tasks) ≡ replicate (maxTasks - s .count) noTask
-
--- the fault at a place, as the number that stops the reading
-fault-number : (p : ℕ) (o : Option ℕ) (q : Refusal) → some q ≡ faultAt p o → (o ≡ some (q .number)) × (q ≡ record { number = q .number; place = p })
-unfolding faultAt
-fault-number p none q e = let z : _≡_ {A = ℕ} 0 1 = cc in absurd (omega arith)
-fault-number p (some n) q e =
-    let w : q ≡ record { number = n; place = p } = cc in
-    (ap some (sym (ap (λ x. x .number) w)), w ∙ ap (λ x. record { number = x; place = p }) (sym (ap (λ x. x .number) w)))
 
 module _ (f : List ℕ) (s : TaskSet) (l : Jobs) (before at : ℕ) (i : Scanning f s l before at) where
   in-array : s .count ≤ length (s .tasks)
@@ -92,7 +81,7 @@ module _ (f : List ℕ) (s : TaskSet) (l : Jobs) (before at : ℕ) (i : Scanning
 
   pub scan-task-stops : (t : Task) (q : Refusal) → taskRecord t ≡ recordOf (drop at f) → some q ≡ faultAt at (taskFault (s .count) (l .count) t) → refused q ≡ decode f
   scan-task-stops t q e a =
-      let w = fault-number at _ q a in
+      let w = fault-of at _ q a in
       ap refused (w .1) ∙ stopped (taskRecord t) (q .number) e (task-stops (stateOf s l before) t (q .number) (sym (task-fault-here t) ∙ w .0))
 
   list-fault-here : (r : Release) → listFault (viewOf s) (l .count) before r ≡ listFault (sheetOf (tasksIn s)) (length (releasesIn l)) before r
@@ -102,7 +91,7 @@ module _ (f : List ℕ) (s : TaskSet) (l : Jobs) (before at : ℕ) (i : Scanning
 
   pub scan-job-stops : (j : Job) (q : Refusal) → releaseRecord (releaseOf j) ≡ recordOf (drop at f) → some q ≡ faultAt at (listFault (viewOf s) (l .count) before (releaseOf j)) → refused q ≡ decode f
   scan-job-stops j q e a =
-      let w = fault-number at _ q a in
+      let w = fault-of at _ q a in
       ap refused (w .1) ∙ stopped (releaseRecord (releaseOf j)) (q .number) e (release-stops (stateOf s l before) (releaseOf j) (q .number) (sym (list-fault-here (releaseOf j)) ∙ w .0))
 
   pub scan-end-stops : endRecord ≡ recordOf (drop at f) → s .count ≡ 0 → refused (record { number = 5; place = at }) ≡ decode f

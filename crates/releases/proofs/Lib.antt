@@ -1,3 +1,2 @@
--- Laws of the order of checks, and of the checks of a list of releases.
-pub mod OrderLaws
+-- Laws of the check of a list of releases.
 pub mod ReleaseLaws

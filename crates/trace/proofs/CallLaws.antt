@@ -1,5 +1,5 @@
 -- Laws of the checks of a call with kept jitters and a list: what a call that passes them says, and calls that write two columns.
-use Prim.Native.Nat.{ℕ, _+_, _≤_, _<_, min}
+use Prim.Native.Nat.{ℕ, _≤_, _<_, min}
 use mathlib.Core.Path.{_≡_, refl, sym, ap, _∙_}
 use mathlib.Core.Bool.{Bool, true, false}
 use mathlib.Core.Option.{Option, some, none}
@@ -15,11 +15,13 @@ use Rattle.model.specs.Legality.{firstClose}
 use Rattle.model.specs.Refusal.{Refusal, refuse, Answer, refused, answered}
 use Rattle.model.specs.Checks.{Lent, checkSlots, refusalOf}
 use Rattle.model.specs.Calls.{lends, releasesOf, listInputs, runInputs, traceCall, columnAfter}
-use Rattle.model.proofs.CheckLaws.{valid-of, kept-of}
-use Rattle.releases.proofs.OrderLaws.{accepted-of, answers, refuses}
-use Rattle.releases.proofs.ReleaseLaws.{Columns, Listed, slots-short, slots-next, slots-none, slot-of, count-of, trace-of, ticks-of, length-releases, release-at}
+use Rattle.model.proofs.CheckLaws.{kept-of, slots-short, slots-next, slots-none, slot-of, slots-first, slots-rest}
+use Rattle.model.proofs.OrderLaws.{accepted-of, answers, refuses, column-written}
 use Rattle.model.proofs.TableLaws.{length-table}
+use Rattle.releases.proofs.ReleaseLaws.{Columns, Listed, listed-by, length-releases, release-at}
 use Rattle.trace.specs.TraceCalls.{slotsLent, callInputs, Shapable}
+-- what a lent column holds after a refusal
+pub use Rattle.model.proofs.OrderLaws.{column-kept}
 
 -- a list that passes its check can be shaped
 pub listed-shapable : (s : Tasks) (n : ℕ) (task tick cost : List ℕ) → Listed s n task tick cost → Shapable s n task tick
@@ -34,20 +36,6 @@ listed-shapable s n task tick cost a =
           rw (ap (λ x. x .task) (release-at n task tick cost p h)) at (a .trace .sound p (omega (arith, length-releases n task tick cost)) .known);
       tick-high = a .tick-high;
     }
-
--- slices in a row: the first that is too short decides
-pub slots-first : (l r : List Lent) (q : Refusal) → some q ≡ checkSlots l → some q ≡ checkSlots (l ++ r)
-unfolding checkSlots
-slots-first [] r q e = let z : _≡_ {A = ℕ} 0 1 = cc in absurd (omega arith)
-slots-first (c ∷ l) r q e = go (ltb (c .slots) (c .needed)) refl (slots-first l r q)
-  where
-    go : (b : Bool) → ltb (c .slots) (c .needed) ≡ b → (some q ≡ checkSlots l → some q ≡ checkSlots (l ++ r)) → some q ≡ checkSlots ((c ∷ l) ++ r)
-    go true h f = e ∙ sym (slots-short c l (ltb-true _ _ h)) ∙ slots-short c (l ++ r) (ltb-true _ _ h)
-    go false h f = f (e ∙ slots-next c l (ltb-false _ _ h)) ∙ sym (slots-next c (l ++ r) (ltb-false _ _ h))
-
-pub slots-rest : (l r : List Lent) → none ≡ checkSlots l → checkSlots (l ++ r) ≡ checkSlots r
-slots-rest [] r e = refl
-slots-rest (c ∷ l) r e = let a = slot-of c l e in slots-next c (l ++ r) (a .0) ∙ slots-rest l r (a .1)
 
 -- the slices of a call with kept jitters and a list, c tasks, n releases and m slots written
 module _ (c : ℕ) (kept : List ℕ) (n : ℕ) (task tick cost : List ℕ) (m : ℕ) where
@@ -124,15 +112,7 @@ callable-of s kept n task tick cost m e =
     let a = accepted-of _ e in
     let f = long-enough (s .count) kept n task tick cost m (a .lent) in
     record {
-      listed = record {
-        valid = valid-of s (sym (a .tasks));
-        few = count-of n (a .count);
-        columns = f .columns;
-        trace = trace-of s _ (sym (a .releases));
-        tick-high = λ p h.
-            rw (release-at n task tick cost p h) at
-            (ticks-of s (releasesOf n task tick cost) (sym (a .releases)) p (omega (arith, length-releases n task tick cost)));
-      };
+      listed = listed-by s n task tick cost (a .tasks) (a .count) (f .columns) (a .releases);
       kept-long = f .kept-long;
       slots-long = f .slots-long;
       within = kept-of s (column kept) (sym (a .kept));
@@ -152,17 +132,11 @@ module _ (s : Tasks) (n : ℕ) (task tick cost : List ℕ) where
   unfolding traceCall
   trace-answered a e f = f ∙ answers _ _ e
 
--- what a lent column holds after a refusal ..
-pub column-kept : (r : Option Refusal) (q : Refusal) (a o : List ℕ) → some q ≡ r → o ≡ columnAfter r a o
-unfolding columnAfter
-column-kept r q a o e = rw (← e)
-
--- .. and after the ready ticks of n releases were written
+-- a lent column after the ready ticks of n releases were written
 pub ready-written
     : (r : Option Refusal) (s : Tasks) (k : ℕ → ℕ) (n : ℕ) (task tick cost o x : List ℕ)
     → none ≡ r
     → x ≡ readyList s k (releasesOf n task tick cost) ++ drop n o
     → x ≡ columnAfter r (readyList s k (releasesOf n task tick cost)) o
-unfolding columnAfter readyList
-ready-written r s k n task tick cost o x e f =
-    rw (← e) (f ∙ ap (λ (i : ℕ). readyList s k (releasesOf n task tick cost) ++ drop i o) (sym (length-table _ _ ∙ length-releases n task tick cost)))
+unfolding readyList
+ready-written r s k n task tick cost o x e f = f ∙ column-written r n _ o e (length-table _ _ ∙ length-releases n task tick cost)

@@ -1,22 +1,19 @@
 -- Laws of a write: which refusal comes first, and what stands in the lent bytes afterwards.
 use Prim.Native.Nat.{ℕ, _+_, _*_, _≤_, _<_}
 use mathlib.Core.Path.{_≡_, refl, sym, ap, ap₂, _∙_}
-use mathlib.Core.Bool.{Bool, true, false}
-use mathlib.Core.Option.{some, none}
+use mathlib.Core.Option.{none}
 use mathlib.Core.List.{List, [], _∷_, _++_, append-assoc}
 use native.Mathlib.Omega.{arith}
-use borrow.Author.Tests.{ltb-true, ltb-false}
-use lib.Dec.{ltb}
 use lib.ListN.{length, drop, set, length-append}
-use Rattle.model.specs.Refusal.{Refusal, refuse}
+use Rattle.model.specs.Refusal.{refuse}
 use Rattle.model.specs.Checks.{Lent, Inputs, checkSlots, refusalOf, answerOf}
-use Rattle.model.specs.Calls.{releasesOf, columnAfter}
+use Rattle.model.specs.Calls.{releasesOf}
 use Rattle.taskset.specs.declared.TaskSet.{TaskSet}
 use Rattle.taskset.specs.TaskSet.{viewOf}
 use Rattle.model.specs.Limits.{maxTasks, maxReleases}
-use Rattle.model.proofs.CheckLaws.{valid-of}
-use Rattle.releases.proofs.OrderLaws.{accepted-of, answers, refuses}
-use Rattle.releases.proofs.ReleaseLaws.{Columns, count-of, slots-short, slots-next, slots-none, slot-of, length-releases}
+use Rattle.model.proofs.CheckLaws.{valid-of, count-of, slots-short, slots-next, slots-none, slot-of}
+use Rattle.model.proofs.OrderLaws.{accepted-of, answers, refuses, column-kept, column-written}
+use Rattle.releases.proofs.ReleaseLaws.{Columns, length-releases}
 use Rattle.fileformat.specs.File.{encode}
 use Rattle.fileformat.specs.FileCalls.{tasksIn, bytesNeeded, writeInputs, fileOf}
 use Rattle.fileformat.proofs.SheetLaws.{length-tasks}
@@ -24,23 +21,6 @@ use Rattle.fileformat.proofs.RoundTrips.{taskPart, releasePart, encode-parts, l
 use Rattle.writer.specs.declared.WriteAnswer.the-variants.{Written, Refused}
 use Rattle.writer.specs.Writer.{stored, WriteSays}
 use Rattle.writer.proofs.StoreLaws.{stored-at, stored-one, stored-all}
-
--- a slice that is too short decides, whatever follows it
-pub slots-decide : (a b : List Lent) (q : Refusal) → some q ≡ checkSlots a → some q ≡ checkSlots (a ++ b)
-unfolding checkSlots
-slots-decide [] b q e = let z : _≡_ {A = ℕ} 0 1 = cc in absurd (omega arith)
-slots-decide (c ∷ a) b q e = go (ltb (c .slots) (c .needed)) refl (slots-decide a b q)
-  where
-    go : (t : Bool) → ltb (c .slots) (c .needed) ≡ t → (some q ≡ checkSlots a → some q ≡ checkSlots (a ++ b)) → some q ≡ checkSlots (c ∷ (a ++ b))
-    go true h ih = e ∙ sym (slots-short c a (ltb-true _ _ h)) ∙ slots-short c (a ++ b) (ltb-true _ _ h)
-    go false h ih = ih (e ∙ slots-next c a (ltb-false _ _ h)) ∙ sym (slots-next c (a ++ b) (ltb-false _ _ h))
-
--- slices that are long enough leave those that follow to decide
-pub slots-pass : (a b : List Lent) → none ≡ checkSlots a → checkSlots b ≡ checkSlots (a ++ b)
-slots-pass [] b e = refl
-slots-pass (c ∷ a) b e =
-    let g = slot-of c a e in
-    slots-pass a b (g .1) ∙ sym (slots-next c (a ++ b) (g .0))
 
 -- the bytes that a write needs
 abbrev pub bytesLent : ℕ → ℕ → ℕ → Lent
@@ -83,9 +63,7 @@ module _ (s : TaskSet) (n : ℕ) (task tick cost out : List ℕ) where
 
   -- a refusal changes no byte
   pub write-refused : (k p : ℕ) → refuse k p ≡ refusalOf inputs → WriteSays s n task tick cost out (Refused k p) out
-  unfolding columnAfter
-  write-refused k p e =
-      record { answer = refuses inputs _ _ e; bytes = ap (λ o. columnAfter o (encode (fileOf s n task tick cost)) out) e }
+  write-refused k p e = record { answer = refuses inputs _ _ e; bytes = column-kept _ _ _ out e }
 
   module _ (h : s .count ≤ length (s .tasks)) where
     long : length (encode (fileOf s n task tick cost)) ≡ 17 * s .count + 10 * n + 1
@@ -108,9 +86,8 @@ module _ (s : TaskSet) (n : ℕ) (task tick cost out : List ℕ) where
 
     -- the whole file is written
     pub write-done : (o₁ o₂ : List ℕ) → none ≡ refusalOf inputs → o₁ ≡ stored out 0 (taskPart (tasksIn s)) → o₂ ≡ stored o₁ (17 * s .count) (releasePart (releasesOf n task tick cost)) → 17 * s .count + 10 * n < length out → WriteSays s n task tick cost out (Written (17 * s .count + 10 * n + 1)) (set o₂ (17 * s .count + 10 * n) 3)
-    unfolding columnAfter
     write-done o₁ o₂ e e₁ e₂ g =
         record {
           answer = answers inputs (17 * s .count + 10 * n + 1) e ∙ ap (answerOf inputs) (sym long);
-          bytes = filled o₁ o₂ e₁ e₂ g ∙ ap (λ o. columnAfter o (encode (fileOf s n task tick cost)) out) e;
+          bytes = filled o₁ o₂ e₁ e₂ g ∙ column-written _ _ _ out e refl;
         }

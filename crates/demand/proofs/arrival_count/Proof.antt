@@ -6,8 +6,9 @@ use native.Mathlib.Omega.{arith}
 use Rattle.model.specs.Refusal.{answered}
 use Rattle.model.specs.Checks.{refusalOf}
 use Rattle.model.specs.Calls.{taskInputs, arrivalCall}
+use Rattle.model.proofs.OrderLaws.{answers, refuses}
 use Rattle.taskset.specs.TaskSet.{viewOf, refusalIn}
-use Rattle.demand.specs.CallLaws.{Passed, passed-of, answers-refusal, answers-value}
+use Rattle.demand.specs.CallLaws.{Passed, passed-of}
 use Rattle.demand.proofs.arrival_count.Statement.{statement}
 use Rattle.demand.proofs.arrival_count.Tie as tie
 
@@ -43,11 +44,11 @@ arrivals-requires c κs = passed (c .before .before) .valid .in-range _ (passed 
 
 returns : tie.Need-returns
 unfolding arrivalCall
-returns c = answers-refusal (taskInputs (viewOf (c .before .before .before .before .before .args .t1)) (c .before .before .before .before .before .args .task) (c .before .before .before .before .before .args .kept .now)) _ _ (sym (ap refusalIn (c .before .checked .given .1)) ∙ c .before .before .before .check-call .ensures)
+returns c = refuses (taskInputs (viewOf (c .before .before .before .before .before .args .t1)) (c .before .before .before .before .before .args .task) (c .before .before .before .before .before .args .kept .now)) _ _ (sym (ap refusalIn (c .before .checked .given .1)) ∙ c .before .before .before .check-call .ensures)
 
 returns-2 : tie.Need-returns-2
 unfolding arrivalCall
-returns-2 c = ap answered (c .arrivals .ensures) ∙ answers-value (taskInputs (viewOf (c .before .before .before .before .before .before .before .args .t1)) (c .before .before .before .before .before .before .before .args .task) (c .before .before .before .before .before .before .before .args .kept .now)) _ (fine (c .before .before .before))
+returns-2 c = ap answered (c .arrivals .ensures) ∙ answers (taskInputs (viewOf (c .before .before .before .before .before .before .before .args .t1)) (c .before .before .before .before .before .before .before .args .task) (c .before .before .before .before .before .before .before .args .kept .now)) _ (fine (c .before .before .before))
 
 pub arrival-count-spec : {M : Type 1} → statement M
 arrival-count-spec =

@@ -1,7 +1,7 @@
 -- A column that is long enough is passed; the first that is not decides.
 use mathlib.Core.Path.{sym, _∙_}
 use native.Mathlib.Omega.{arith}
-use Rattle.releases.proofs.ReleaseLaws.{slots-short, slots-next, slots-none}
+use Rattle.model.proofs.CheckLaws.{slots-short, slots-next, slots-none}
 use Rattle.releases.proofs.check_columns.Statement.{statement}
 use Rattle.releases.proofs.check_columns.Tie as tie
 

@@ -1,5 +1,5 @@
 use native.Mathlib.Omega.{arith}
-use Rattle.releases.proofs.ReleaseLaws.{count-many, count-few}
+use Rattle.model.proofs.CheckLaws.{count-many, count-few}
 use Rattle.releases.proofs.check_count.Statement.{statement}
 use Rattle.releases.proofs.check_count.Tie as tie
 

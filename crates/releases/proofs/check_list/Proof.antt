@@ -6,7 +6,7 @@ use Rattle.model.specs.Checks.{Lent, checkTasks, checkCount, checkSlots}
 use Rattle.model.proofs.CheckLaws.{valid-of}
 use Rattle.taskset.specs.TaskSet.{viewOf, refusalIn}
 use Rattle.model.specs.Calls.{lends}
-use Rattle.releases.proofs.OrderLaws.{no-single, no-kept, no-unfit, refused-tasks, refused-count, refused-slots, releases-decide}
+use Rattle.model.proofs.OrderLaws.{no-single, no-kept, no-unfit, refused-tasks, refused-count, refused-slots, releases-decide}
 use Rattle.releases.proofs.ReleaseLaws.{Columns, columns-of}
 use borrow.Author.Needs.{needs}
 use Rattle.releases.proofs.check_list.Statement.{statement}

@@ -8,7 +8,7 @@ use Rattle.model.specs.Choice.{column}
 use Rattle.model.specs.Checks.{Lent, checkTasks, checkCount, checkSlots, checkKept}
 use Rattle.model.proofs.CheckLaws.{valid-of}
 use Rattle.taskset.specs.TaskSet.{viewOf, refusalIn}
-use Rattle.releases.proofs.OrderLaws.{no-single, no-unfit, refused-tasks, refused-count, refused-slots, refused-kept, releases-decide}
+use Rattle.model.proofs.OrderLaws.{no-single, no-unfit, refused-tasks, refused-count, refused-slots, refused-kept, releases-decide}
 use Rattle.trace.specs.TraceCalls.{slotsLent}
 use Rattle.trace.proofs.CallLaws.{LongEnough, long-enough}
 use borrow.Author.Needs.{needs}

@@ -6,8 +6,9 @@ use native.Mathlib.Omega.{arith}
 use Rattle.model.specs.Refusal.{answered}
 use Rattle.model.specs.Checks.{refusalOf}
 use Rattle.model.specs.Calls.{taskInputs, verdictCall}
+use Rattle.model.proofs.OrderLaws.{answers, refuses}
 use Rattle.taskset.specs.TaskSet.{viewOf, refusalIn}
-use Rattle.demand.specs.CallLaws.{Passed, passed-of, answers-refusal, answers-value}
+use Rattle.demand.specs.CallLaws.{Passed, passed-of}
 use Rattle.verdict.specs.WalkableLaws.{walkable, judged}
 use Rattle.verdict.proofs.verdict.Statement.{statement}
 use Rattle.verdict.proofs.verdict.Tie as tie
@@ -47,14 +48,14 @@ walk-requires c κs = walkable _ _ _ _ _ (passed (c .before .before .before .bef
 
 returns : tie.Need-returns
 unfolding verdictCall
-returns c = answers-refusal (taskInputs (viewOf (c .before .before .before .before .before .args .t1)) (c .before .before .before .before .before .args .task) (c .before .before .before .before .before .args .kept .now)) _ _ (sym (ap refusalIn (c .before .checked .given .1)) ∙ c .before .before .before .check-call .ensures)
+returns c = refuses (taskInputs (viewOf (c .before .before .before .before .before .args .t1)) (c .before .before .before .before .before .args .task) (c .before .before .before .before .before .args .kept .now)) _ _ (sym (ap refusalIn (c .before .checked .given .1)) ∙ c .before .before .before .check-call .ensures)
 
 returns-2 : tie.Need-returns-2
 unfolding verdictCall
 returns-2 c =
     c .walk .ensures
     ∙ ap answered (judged _ _ _ _ _ (passed (c .before .before .before .before .before .before .before)) (c .before .before .before .before .before .before .columns-of .ensures))
-    ∙ answers-value (taskInputs (viewOf (c .before .before .before .before .before .before .before .before .before .before .before .args .t1)) (c .before .before .before .before .before .before .before .before .before .before .before .args .task) (c .before .before .before .before .before .before .before .before .before .before .before .args .kept .now)) _ (fine (c .before .before .before .before .before .before .before))
+    ∙ answers (taskInputs (viewOf (c .before .before .before .before .before .before .before .before .before .before .before .args .t1)) (c .before .before .before .before .before .before .before .before .before .before .before .args .task) (c .before .before .before .before .before .before .before .before .before .before .before .args .kept .now)) _ (fine (c .before .before .before .before .before .before .before))
 
 pub verdict-spec : {M : Type 1} → statement M
 verdict-spec =

@@ -7,11 +7,11 @@ use native.Mathlib.Omega.{arith}
 use borrow.Author.Needs.{needs}
 use Rattle.model.specs.Checks.{Lent, checkTasks, checkCount, checkSlots}
 use Rattle.model.specs.Calls.{lends}
-use Rattle.model.proofs.CheckLaws.{valid-of}
+use Rattle.model.proofs.CheckLaws.{valid-of, count-of, slots-first, slots-rest}
+use Rattle.model.proofs.OrderLaws.{no-single, no-kept, no-unfit, refused-tasks, refused-count, refused-slots, releases-decide}
 use Rattle.taskset.specs.TaskSet.{viewOf, refusalIn}
-use Rattle.releases.proofs.OrderLaws.{no-single, no-kept, no-unfit, refused-tasks, refused-count, refused-slots, releases-decide}
-use Rattle.releases.proofs.ReleaseLaws.{Columns, columns-of, count-of}
-use Rattle.writer.proofs.WriteLaws.{bytesLent, slots-decide, slots-pass, bytes-short, bytes-long}
+use Rattle.releases.proofs.ReleaseLaws.{Columns, columns-of}
+use Rattle.writer.proofs.WriteLaws.{bytesLent, bytes-short, bytes-long}
 use Rattle.writer.proofs.check_write.Statement.{statement}
 use Rattle.writer.proofs.check_write.Tie as tie
 
@@ -74,7 +74,7 @@ enum-known-long c = search needs
 returns-3 : tie.Need-returns-3
 returns-3 c =
     refused-slots _ _ (sheet-fine (c .before .before .before .before .before .before .before)) (no-single _) (count-fine (c .before .before .before .before))
-    (slots-decide (columnsAt (c .before .before .before .before .before .before .before .before .before .before .before .before .before)) (bytesAt (c .before .before .before .before .before .before .before .before .before .before .before .before .before)) _ (sym (ap refusalIn (c .before .long .given .1)) ∙ c .before .before .before .check-columns .ensures))
+    (slots-first (columnsAt (c .before .before .before .before .before .before .before .before .before .before .before .before .before)) (bytesAt (c .before .before .before .before .before .before .before .before .before .before .before .before .before)) _ (sym (ap refusalIn (c .before .long .given .1)) ∙ c .before .before .before .check-columns .ensures))
 
 enum-told-3 : tie.Need-enum-told-3
 enum-told-3 c = search needs
@@ -95,7 +95,7 @@ returns-4 : tie.Need-returns-4
 returns-4 c =
     refused-slots _ _ (sheet-fine (c .before .before .before .before .before .before .before .before)) (no-single _) (count-fine (c .before .before .before .before .before))
     (bytes-short (c .before .before .before .before .before .before .before .before .before .before .before .before .before .before .args .s .count) (c .before .before .before .before .before .before .before .before .before .before .before .before .before .before .args .count) (c .before .before .before .before .before .before .before .before .before .before .before .before .before .before .args .room) (omega arith)
-    ∙ slots-pass (columnsAt (c .before .before .before .before .before .before .before .before .before .before .before .before .before .before)) (bytesAt (c .before .before .before .before .before .before .before .before .before .before .before .before .before .before)) (columns-fine (c .before .before)))
+    ∙ sym (slots-rest (columnsAt (c .before .before .before .before .before .before .before .before .before .before .before .before .before .before)) (bytesAt (c .before .before .before .before .before .before .before .before .before .before .before .before .before .before)) (columns-fine (c .before .before))))
 
 check-releases-requires : tie.Need-check-releases-requires
 check-releases-requires c κs = (few-tasks (c .before), columns-long (c .before) .task-long, columns-long (c .before) .tick-long, columns-long (c .before) .cost-long)
@@ -105,7 +105,7 @@ returns-5 c =
     c .check-releases .ensures
     ∙ releases-decide _ (sheet-fine (c .before .before .before .before .before .before .before .before .before)) (no-single _) (count-fine (c .before .before .before .before .before .before))
     (bytes-long (c .before .before .before .before .before .before .before .before .before .before .before .before .before .before .before .args .s .count) (c .before .before .before .before .before .before .before .before .before .before .before .before .before .before .before .args .count) (c .before .before .before .before .before .before .before .before .before .before .before .before .before .before .before .args .room) (omega arith)
-    ∙ slots-pass (columnsAt (c .before .before .before .before .before .before .before .before .before .before .before .before .before .before .before)) (bytesAt (c .before .before .before .before .before .before .before .before .before .before .before .before .before .before .before)) (columns-fine (c .before .before .before)))
+    ∙ sym (slots-rest (columnsAt (c .before .before .before .before .before .before .before .before .before .before .before .before .before .before .before)) (bytesAt (c .before .before .before .before .before .before .before .before .before .before .before .before .before .before .before)) (columns-fine (c .before .before .before))))
     (no-kept _) no-unfit
 
 pub check-write-spec : {M : Type 1} → statement M
