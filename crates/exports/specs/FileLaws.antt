@@ -14,6 +14,8 @@ use Rattle.taskset.specs.declared.TaskSet.{TaskSet}
 use Rattle.taskset.specs.TaskSet.{noTask}
 use Rattle.fileformat.specs.File.{File}
 use Rattle.fileformat.specs.FileCalls.{setOf, readCall, readCount, readSheet, readColumn}
+use Rattle.writer.specs.Writer.{stored}
+use Rattle.writer.proofs.StoreLaws.{stored-at}
 use Rattle.exports.specs.Interface.{refusalCode, codeIn, wordsAfter, asWords, withWords}
 use Rattle.exports.specs.Files.{taskNumbers, numbersOf, fileWords, sheetNumbers, readAnswer, ReadEnds}
 
@@ -26,16 +28,6 @@ pub length-numbers : (a : List Task) → length (numbersOf a) ≡ 4 * length a
 unfolding numbersOf
 length-numbers [] = refl
 length-numbers (t ∷ a) = let e = length-numbers a in omega (arith, e)
-
--- a run of stores after another
-sets-more : (l a b : List ℕ) (i : ℕ) → sets l i (a ++ b) ≡ sets (sets l i a) (i + length a) b
-sets-more l [] b i = let e : i + 0 ≡ i = omega arith in rw e refl
-sets-more l (x ∷ a) b i =
-    let e : suc i + length a ≡ i + suc (length a) = omega arith in
-    sets-more l′ a b (suc i) ∙ ap (λ (k : ℕ). sets (sets l′ (suc i) a) k b) e
-  where
-    l′ : List ℕ
-    l′ = sets l i (x ∷ [])
 
 -- four stores, one after the other
 pub four-set : (l : List ℕ) (at a b c d : ℕ) → set (set (set (set l at a) (at + 1) b) (at + 2) c) (at + 3) d ≡ sets l at (a ∷ b ∷ c ∷ d ∷ [])
@@ -62,12 +54,11 @@ pub put-next
     → i < 32
     → now′ ≡ sets now (4 * i) (taskNumbers (getD tasks i noTask))
     → Put held tasks now′ (i + 1)
-unfolding numbersOf
+unfolding numbersOf stored
 put-next held tasks now now′ i f h e =
     let t = getD tasks i noTask in
     let front = numbersOf (take i tasks) in
     let n : length front ≡ 4 * i = length-numbers (take i tasks) ∙ ap (λ (k : ℕ). 4 * k) (length-take-le i tasks (omega (arith, f .many))) in
-    let n′ : 0 + length front ≡ 4 * i = omega (arith, n) in
     let more : numbersOf (take (i + 1) tasks) ≡ front ++ taskNumbers t =
     rw (add-one, take-suc tasks i noTask (omega (arith, f .many))) (numbers-append (take i tasks) (t ∷ [])) in
     record {
@@ -75,7 +66,7 @@ put-next held tasks now now′ i f h e =
       within = omega arith;
       room = f .room;
       long = ap length e ∙ length-sets now (4 * i) (taskNumbers t) ∙ f .long;
-      whole = e ∙ ap (λ (l : List ℕ). sets l (4 * i) (taskNumbers t)) (f .whole) ∙ sym (ap (sets held 0) more ∙ sets-more held front (taskNumbers t) 0 ∙ ap (λ (k : ℕ). sets (sets held 0 front) k (taskNumbers t)) n′);
+      whole = e ∙ ap (λ (l : List ℕ). sets l (4 * i) (taskNumbers t)) (f .whole) ∙ stored-at held front (taskNumbers t) 0 (4 * i) (omega (arith, n)) ∙ sym (ap (sets held 0) more);
     }
 
 pub put-all : (held : List ℕ) (tasks : List Task) (now : List ℕ) (i : ℕ) → Put held tasks now i → 32 ≤ i → now ≡ numbersOf tasks ++ drop (length (numbersOf tasks)) held

@@ -176,12 +176,9 @@ pub fn run(
 {
     let slots = shorter(ready.len(), finish.len());
     let checked = trace::check_call(s, kept, count, task, tick, cost, slots);
-    if let Checked::Refused { number, place } = checked {
-        return Checked::Refused {
-            number: number,
-            place: place,
-        };
-    }
+    let Checked::Fine = checked else {
+        return checked;
+    };
     trace::fill_ready(s, kept, count, task, tick, ready);
     let tasks = s.count;
     fill_finish(task, cost, ready, count, tasks, finish);

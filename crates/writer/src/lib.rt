@@ -108,26 +108,17 @@ fn check_write(
     ensures { λ r. ⌜ refusalIn r ≡ refusalOf (writeInputs (viewOf s) count (now (task .entry)) (now (tick .entry)) (now (cost .entry)) room) ⌝ }
 {
     let sheet = taskset::check(s);
-    if let Checked::Refused { number, place } = sheet {
-        return Checked::Refused {
-            number: number,
-            place: place,
-        };
-    }
+    let Checked::Fine = sheet else {
+        return sheet;
+    };
     let few = releases::check_count(count);
-    if let Checked::Refused { number, place } = few {
-        return Checked::Refused {
-            number: number,
-            place: place,
-        };
-    }
+    let Checked::Fine = few else {
+        return few;
+    };
     let long = releases::check_columns(count, task, tick, cost);
-    if let Checked::Refused { number, place } = long {
-        return Checked::Refused {
-            number: number,
-            place: place,
-        };
-    }
+    let Checked::Fine = long else {
+        return long;
+    };
     let end = 17 * s.count + 10 * count;
     if room <= end {
         return Checked::Refused {

@@ -34,16 +34,16 @@ shorter-requires c κs = search needs
 check-call-requires : tie.Need-check-call-requires
 check-call-requires c κs = search needs
 
-enum-known-checked : tie.Need-enum-known-checked
-enum-known-checked c = search needs
+enum-told : tie.Need-enum-told
+enum-told c = search needs
+
+enum-told-2 : tie.Need-enum-told-2
+enum-told-2 c = search needs
 
 returns : tie.Need-returns
 returns c =
-    let e = sym (ap refusalIn (c .before .checked .given .1)) ∙ checks (c .before .before .before) in
-    (e, (column-kept _ _ _ _ e, column-kept _ _ _ _ e))
-
-enum-told : tie.Need-enum-told
-enum-told c = search needs
+    let e = sym (ap refusalIn (c .enum-told2 .given .1)) ∙ checks (c .before .before) in
+    rw (c .enum-told2 .given .1) (e, (column-kept _ _ _ _ e, column-kept _ _ _ _ e))
 
 fill-ready-requires : tie.Need-fill-ready-requires
 fill-ready-requires c κs =
@@ -74,9 +74,9 @@ run-spec =
     (tie.spec
     shorter-requires
     check-call-requires
-    enum-known-checked
-    returns
     enum-told
+    enum-told-2
+    returns
     fill-ready-requires
     fill-finish-requires
     same-length

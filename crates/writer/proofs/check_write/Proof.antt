@@ -25,11 +25,11 @@ bytesAt c = bytesLent (c .args .s .count) (c .args .count) (c .args .room) ∷ [
 sheet-fine : (c : tie.After-enum-told) → none ≡ checkTasks (viewOf (c .before .before .before .before .before .before .args .s))
 sheet-fine c = sym (ap refusalIn (c .enum-told .given .1)) ∙ c .before .before .check .ensures
 
-count-fine : (c : tie.After-enum-told2) → none ≡ checkCount (some (c .before .before .before .before .before .before .before .before .before .args .count))
-count-fine c = sym (ap refusalIn (c .enum-told2 .given .1)) ∙ c .before .before .check-count .ensures
+count-fine : (c : tie.After-enum-told3) → none ≡ checkCount (some (c .before .before .before .before .before .before .before .before .before .args .count))
+count-fine c = sym (ap refusalIn (c .enum-told3 .given .1)) ∙ c .before .before .check-count .ensures
 
-columns-fine : (c : tie.After-enum-told3) → none ≡ checkSlots (columnsAt (c .before .before .before .before .before .before .before .before .before .before .before .before))
-columns-fine c = sym (ap refusalIn (c .enum-told3 .given .1)) ∙ c .before .before .check-columns .ensures
+columns-fine : (c : tie.After-enum-told5) → none ≡ checkSlots (columnsAt (c .before .before .before .before .before .before .before .before .before .before .before .before))
+columns-fine c = sym (ap refusalIn (c .enum-told5 .given .1)) ∙ c .before .before .check-columns .ensures
 
 few-tasks : (c : tie.After-struct-known) → c .before .before .before .before .before .before .before .before .before .before .before .before .before .args .s .count ≤ 32
 few-tasks c = valid-of _ (sym (sheet-fine (c .before .before .before .before .before .before .before))) .few-tasks
@@ -43,41 +43,44 @@ columns-long c = columns-of _ _ _ _ (columns-fine (c .before))
 check-requires : tie.Need-check-requires
 check-requires c κs = search needs
 
-enum-known-sheet : tie.Need-enum-known-sheet
-enum-known-sheet c = search needs
-
-returns : tie.Need-returns
-returns c = refused-tasks _ _ (sym (ap refusalIn (c .before .sheet .given .1)) ∙ c .before .before .before .check .ensures)
-
 enum-told : tie.Need-enum-told
 enum-told c = search needs
-
-check-count-requires : tie.Need-check-count-requires
-check-count-requires c κs = search needs
-
-enum-known-few : tie.Need-enum-known-few
-enum-known-few c = search needs
-
-returns-2 : tie.Need-returns-2
-returns-2 c =
-    refused-count _ _ (sheet-fine (c .before .before .before .before)) (no-single _) (sym (ap refusalIn (c .before .few .given .1)) ∙ c .before .before .before .check-count .ensures)
 
 enum-told-2 : tie.Need-enum-told-2
 enum-told-2 c = search needs
 
-check-columns-requires : tie.Need-check-columns-requires
-check-columns-requires c κs = search needs
+returns : tie.Need-returns
+returns c = rw (c .enum-told2 .given .1) (refused-tasks _ _ (sym (ap refusalIn (c .enum-told2 .given .1)) ∙ c .before .before .check .ensures))
 
-enum-known-long : tie.Need-enum-known-long
-enum-known-long c = search needs
-
-returns-3 : tie.Need-returns-3
-returns-3 c =
-    refused-slots _ _ (sheet-fine (c .before .before .before .before .before .before .before)) (no-single _) (count-fine (c .before .before .before .before))
-    (slots-first (columnsAt (c .before .before .before .before .before .before .before .before .before .before .before .before .before)) (bytesAt (c .before .before .before .before .before .before .before .before .before .before .before .before .before)) _ (sym (ap refusalIn (c .before .long .given .1)) ∙ c .before .before .before .check-columns .ensures))
+check-count-requires : tie.Need-check-count-requires
+check-count-requires c κs = search needs
 
 enum-told-3 : tie.Need-enum-told-3
 enum-told-3 c = search needs
+
+enum-told-4 : tie.Need-enum-told-4
+enum-told-4 c = search needs
+
+returns-2 : tie.Need-returns-2
+returns-2 c =
+    rw (c .enum-told4 .given .1) (refused-count _ _ (sheet-fine (c .before .before .before)) (no-single _)
+    (sym (ap refusalIn (c .enum-told4 .given .1)) ∙ c .before .before .check-count .ensures))
+
+check-columns-requires : tie.Need-check-columns-requires
+check-columns-requires c κs = search needs
+
+enum-told-5 : tie.Need-enum-told-5
+enum-told-5 c = search needs
+
+enum-told-6 : tie.Need-enum-told-6
+enum-told-6 c = search needs
+
+returns-3 : tie.Need-returns-3
+returns-3 c =
+    let p = c .before .before .before in
+    let start = p .before .before .before .before .before .before .before .before .before in
+    rw (c .enum-told6 .given .1) (refused-slots _ _ (sheet-fine (p .before .before .before)) (no-single _) (count-fine p)
+    (slots-first (columnsAt start) (bytesAt start) _ (sym (ap refusalIn (c .enum-told6 .given .1)) ∙ c .before .before .check-columns .ensures)))
 
 mul-end : tie.Need-mul-end
 mul-end c = omega (arith, few-tasks c, few-releases c)
@@ -88,8 +91,8 @@ mul-end-2 c = omega (arith, few-tasks c, few-releases c)
 add-end : tie.Need-add-end
 add-end c = omega (arith, few-tasks c, few-releases c)
 
-add-t20 : tie.Need-add-t20
-add-t20 c = omega (arith, few-tasks (c .before), few-releases (c .before))
+add-t14 : tie.Need-add-t14
+add-t14 c = omega (arith, few-tasks (c .before), few-releases (c .before))
 
 returns-4 : tie.Need-returns-4
 returns-4 c =
@@ -113,21 +116,21 @@ check-write-spec =
     tie.close
     (tie.spec
     check-requires
-    enum-known-sheet
-    returns
     enum-told
-    check-count-requires
-    enum-known-few
-    returns-2
     enum-told-2
-    check-columns-requires
-    enum-known-long
-    returns-3
+    returns
+    check-count-requires
     enum-told-3
+    enum-told-4
+    returns-2
+    check-columns-requires
+    enum-told-5
+    enum-told-6
+    returns-3
     mul-end
     mul-end-2
     add-end
-    add-t20
+    add-t14
     returns-4
     check-releases-requires
     returns-5)
