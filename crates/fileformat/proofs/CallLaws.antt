@@ -2,15 +2,16 @@
 use Prim.Native.Nat.{ℕ, _-_, _≤_, _<_}
 use mathlib.Core.Path.{_≡_, refl, sym, ap, ap₂, _∙_}
 use mathlib.Core.Option.{none}
-use mathlib.Core.List.{List, _++_, map}
+use mathlib.Core.List.{List, [], _∷_, _++_, map}
 use native.Mathlib.Omega.{arith}
 use lib.ListN.{length, getD, replicate, length-map, length-append, List·getD-append, List·getD-map}
 use lib.Seq.{take-at, ext-getD}
 use Rattle.model.specs.Limits.{maxTasks}
-use Rattle.model.specs.Tasks.{Release, noRelease}
+use Rattle.model.specs.Tasks.{Release, noRelease, Valid}
 use Rattle.model.specs.Refusal.{answered}
 use Rattle.model.specs.Checks.{checkReleases, refusalOf}
 use Rattle.model.specs.Calls.{releasesOf, listInputs}
+use Rattle.model.proofs.SeriesLaws.{le-by}
 use Rattle.model.proofs.CheckLaws.{valid-of, valid-passes, count-few, count-of, slots-next, slots-none}
 use Rattle.model.proofs.OrderLaws.{accepted-of, accepts, no-single, no-kept, no-unfit}
 use Rattle.releases.proofs.ReleaseLaws.{length-releases, release-at}
@@ -23,14 +24,26 @@ use Rattle.fileformat.specs.FileCalls.{tasksIn, setOf, writeInputs, file
 use Rattle.fileformat.proofs.SheetLaws.{Agree, same-sheet, valid-agrees, releases-agree}
 use Rattle.fileformat.proofs.RoundTrips.{decode-encode, encode-decode, decode-valid}
 
+-- past the last entry there is no task
+past : (l : List Task) → getD l (length l) noTask ≡ noTask
+past [] = refl
+past (t ∷ l) = past l
+
+-- a set that passes its check has an entry for each task of its count
+covers : (s : TaskSet) → Valid (viewOf s) → s .count ≤ length (s .tasks)
+covers s v =
+    le-by (s .count) (length (s .tasks))
+    (λ l. omega (arith, v .in-range (length (s .tasks)) l .period-low, ap (λ (t : Task). t .period) (past (s .tasks))))
+
 -- a write that is not refused writes a valid file, which is read again
-module _ (s : TaskSet) (n : ℕ) (task tick cost : List ℕ) (room : ℕ) (h : s .count ≤ length (s .tasks)) (e : none ≡ refusalOf (writeInputs (viewOf s) n task tick cost room)) where
+module _ (s : TaskSet) (n : ℕ) (task tick cost : List ℕ) (room : ℕ) (e : none ≡ refusalOf (writeInputs (viewOf s) n task tick cost room)) where
   pub written-valid : ValidFile (fileOf s n task tick cost)
   written-valid =
       let a = accepted-of _ e in
+      let v : Valid (viewOf s) = valid-of (viewOf s) (sym (a .tasks)) in
       record {
-        tasks = sym (valid-passes _ (valid-agrees _ _ (same-sheet s h) (valid-of (viewOf s) (sym (a .tasks)))));
-        releases = sym (a .releases ∙ releases-agree _ _ 0 0 _ (same-sheet s h));
+        tasks = sym (valid-passes _ (valid-agrees _ _ (same-sheet s (covers s v)) v));
+        releases = sym (a .releases ∙ releases-agree _ _ 0 0 _ (same-sheet s (covers s v)));
         few = omega (arith, count-of n (a .count), length-releases n task tick cost);
       }
 

@@ -35,7 +35,7 @@ module _ (s : Tasks) (v : Valid s) (k : ℕ → ℕ) (kept : (j : ℕ) → j < s
     (l : List Release) (tr : Trace s l) where
   -- a task runs at most E × σ(t) of the t ticks from u on
   pub limit-bound : (u t : ℕ) → Finished s k l (isTask i) u → used s k l (isTask i) u t ≤ load s i * arrivals (s .period i) (k i) t
-  limit-bound u t f = demand3 s v k kept i h .limit l tr u t f
+  limit-bound u t f = omega (arith, demand3 s v k kept i h .limit l tr u t f)
 
   -- the tasks above leave over n − Σ E_j σ_j(n) of the t ticks from u on, for every n ≤ t
   pub share-bound : (u t n : ℕ) → n ≤ t → Finished s k l (isAbove i) u → n - aboveLoad s k i n ≤ leftOver s k l (isAbove i) u t
@@ -60,5 +60,5 @@ module _ (s : Tasks) (v : Valid s) (k : ℕ → ℕ) (kept : (j : ℕ) → j < s
         places = c .places;
         from = c .from;
         from-le = c .from-le;
-        finished = finished-by s k l tr p g (c .from + windowOf s k i (c .q)) (c .done);
+        finished = omega (arith, finished-by s k l tr p g (c .from + windowOf s k i (c .q)) (c .done));
       }

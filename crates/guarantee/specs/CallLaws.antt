@@ -7,15 +7,17 @@ use lib.ListN.{length}
 use lib.IntN.{ℤ}
 use Rattle.model.specs.Limits.{maxTick}
 use Rattle.model.specs.Tasks.{Tasks, Release, releaseAt, Valid}
+use Rattle.model.specs.Legality.{firstClose}
 use Rattle.model.specs.Verdict.{Verdict, verdict}
 use Rattle.model.specs.Choice.{column, chosen, choice}
-use Rattle.model.specs.Claims.{Trace, Demand3}
+use Rattle.model.specs.Claims.{Trace, Missed, Demand3}
 use Rattle.model.specs.Refusal.{answered}
 use Rattle.model.specs.Checks.{refusalOf}
 use Rattle.model.specs.Calls.{releasesOf, taskInputs, verdictCall, choiceInputs, runInputs}
 use Rattle.model.proofs.CheckLaws.{valid-of, kept-of, task-of, chosen-of}
 use Rattle.model.proofs.OrderLaws.{accepted-of, answered-of}
 use Rattle.model.proofs.TraceLaws.{trace-of, ticks-of}
+use Rattle.trace.proofs.LegalCheck.{trace-check}
 use Rattle.guarantee.specs.ChoiceSafe.{Safe, choice-safe}
 use Rattle.guarantee.specs.Demand3.{demand3}
 
@@ -27,6 +29,10 @@ verdict-answers s i kept v h =
     let d = answered-of (taskInputs s i kept) (verdict s (column kept) i) v h in
     let a = accepted-of _ (d .0) in
     (d .1, demand3 s (valid-of s (sym (a .tasks))) (column kept) (kept-of s (column kept) (sym (a .kept))) i (task-of s i (a .single)))
+
+-- the list that a "late" verdict promises passes the trace check
+pub missed-legal : (s : Tasks) (k : ℕ → ℕ) (i : ℕ) (d : Missed s k i) → firstClose s (d .list) ≡ none
+missed-legal s k i d = trace-check s (d .list) (d .trace) (d .legal)
 
 -- a choice that succeeds, and what it is worth
 pub record SafeChoice (s : Tasks) : Type 0 where

@@ -36,7 +36,8 @@ module _ (s : Tasks) (k : ℕ → ℕ) (l : List Release) (tr : Trace s l) (T X 
   -- every finish is at most T and X for each release
   pub finish-bound : (p : ℕ) → p < length l → finishAt s k l p ≤ T + X * length l
   unfolding finishAt
-  finish-bound p h = finish-high (jobs s k l) T X (λ t. refl) cost-le (start-high (jobs s k l) T X ready-bound) p h (tr .sound p h .cost-low)
+  finish-bound p h =
+      omega (arith, finish-high (jobs s k l) T X (λ t. refl) cost-le (start-high (jobs s k l) T X ready-bound) p h (tr .sound p h .cost-low))
     where
       cost-le : (q : ℕ) → q < length l → releaseAt l q .cost ≤ X
       cost-le q g = omega (arith, tr .sound q g .cost-high, small (releaseAt l q .task) (tr .sound q g .known) .1)

@@ -5,5 +5,6 @@ pub mod BoundLaws
 pub mod WindowLaws
 pub mod KeptLaws
 pub mod VerdictLaws
+pub mod WorstLaws
 pub mod SameKept
 pub mod ChoiceLaws

@@ -143,6 +143,7 @@ module _ (s : Tasks) (k : ℕ → ℕ) (i : ℕ) where
 
   -- "fits": no q up to the end of the walk is late
   pub fits-says : (r : ℤ) (n : ℕ) → verdict s k i ≡ fits r n → Walked s k i
+  unfolding gap
   fits-says r n h = go (first (stops s k i) (suc horizonTick) 0) refl
     where
       go : (o : Option ℕ) → first (stops s k i) (suc horizonTick) 0 ≡ o → Walked s k i
@@ -154,8 +155,23 @@ module _ (s : Tasks) (k : ℕ → ℕ) (i : ℕ) where
           found f p = record {
             last = q;
             passed = λ m a. ⊎-elim (λ g. rw g p) (λ g. goes-on m (f .before m (omega arith) g)) (eq-or-lt-of-le a);
-            ends = λ w g. let e′ : some (p .w) ≡ some w = sym (p .is) ∙ g in let u : p .w ≡ w = cc in rw u at (stop-last q p (f .holds));
+            ends = λ w g. let e′ : some (p .w) ≡ some w = sym (p .is) ∙ g in let u : p .w ≡ w = cc in omega (arith, stop-last q p (f .holds));
           }
+
+  -- and its worst value is the largest R up to that end
+  pub fits-peak : (r : ℤ) (n : ℕ) → verdict s k i ≡ fits r n → (q : ℕ) × (peak (boundAt s k i) q .value ≡ r)
+  fits-peak r n h = go (first (stops s k i) (suc horizonTick) 0) refl
+    where
+      go : (o : Option ℕ) → first (stops s k i) (suc horizonTick) 0 ≡ o → (q : ℕ) × (peak (boundAt s k i) q .value ≡ r)
+      go none e =
+          let g : horizon (suc horizonTick) ≡ fits r n = sym (verdict-at none e) ∙ h in let z : _≡_ {A = ℕ} 0 1 = cc in absurd (omega arith)
+      go (some q) e = at (stop-fits q r n (sym (verdict-at (some q) e) ∙ h))
+        where
+          at : Passed s k i q → (m : ℕ) × (peak (boundAt s k i) m .value ≡ r)
+          at p =
+              let g : fits (peak (boundAt s k i) q .value) (peak (boundAt s k i) q .at) ≡ fits r n =
+              sym (judge-fits q (p .w) (p .is) (p .in-time)) ∙ sym (verdict-at (some q) e) ∙ h in
+              (q, cc)
 
   -- "late": the q named is late
   pub late-says : (q : ℕ) (r : ℤ) → verdict s k i ≡ late q r → Missing s k i q

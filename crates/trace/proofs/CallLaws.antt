@@ -20,8 +20,6 @@ use Rattle.model.proofs.OrderLaws.{accepted-of, answers, refuses, column-writte
 use Rattle.model.proofs.TableLaws.{length-table}
 use Rattle.releases.proofs.ReleaseLaws.{Columns, Listed, listed-by, length-releases, release-at}
 use Rattle.trace.specs.TraceCalls.{slotsLent, callInputs, Shapable}
--- what a lent column holds after a refusal
-pub use Rattle.model.proofs.OrderLaws.{column-kept}
 
 -- a list that passes its check can be shaped
 pub listed-shapable : (s : Tasks) (n : ℕ) (task tick cost : List ℕ) → Listed s n task tick cost → Shapable s n task tick

@@ -19,12 +19,11 @@ use Rattle.model.specs.Ready.{after, readyNext}
 use Rattle.model.specs.Legality.{earlier, tooClose, firstClose}
 use Rattle.model.specs.Calls.{releasesOf}
 use Rattle.model.proofs.SearchLaws.{Sought, sought-none, sought-next, sought-here, sought-all}
+use Rattle.shaper.specs.declared.Shaped.{Shaped}
 use Rattle.shaper.specs.ReadyLaws.{next-not-before}
 use Rattle.shaper.specs.ShaperLaws.{history-none}
 use Rattle.releases.proofs.ReleaseLaws.{length-releases}
-use Rattle.trace.specs.declared.Shapers.{Shapers}
-use Rattle.trace.specs.declared.Stepped.{Stepped}
-use Rattle.trace.specs.Shapers.{freshShapers}
+use Rattle.trace.specs.Shapers.{Shapers, freshShapers, storeIn}
 use Rattle.trace.specs.TraceCalls.{Shapable}
 use Rattle.trace.proofs.StandingLaws.{historyAt, history-next, own-next, own-still}
 use Rattle.trace.proofs.WalkLaws.{Walking, walk-fresh, walk-next, walk-history, stepAt, inside, task-is, tick-is}
@@ -90,7 +89,7 @@ module _ (s : Tasks) (n : ℕ) (task tick : List ℕ) where
   pub tracing-all : (m : Shapers) (p : ℕ) → Tracing s n task tick m p → n ≤ p → (cost : List ℕ) → answered none ≡ answered (firstClose s (releasesOf n task tick cost))
   tracing-all m p f h cost = ap answered (sym (first-of cost ∙ sought-all _ n p (f .sought cost) h))
 
-  module _ (w : Shapable s n task tick) (m : Shapers) (p : ℕ) (f : Tracing s n task tick m p) (h : p < n) (r : Stepped) (e : r ≡ stepAt s (s .jitter) task tick m p) where
+  module _ (w : Shapable s n task tick) (m : Shapers) (p : ℕ) (f : Tracing s n task tick m p) (h : p < n) (r : Shaped) (e : r ≡ stepAt s (s .jitter) task tick m p) where
     ready-is
         : (cost : List ℕ)
         → r .ready
@@ -104,7 +103,7 @@ module _ (s : Tasks) (n : ℕ) (task tick : List ℕ) where
         (first-of cost
         ∙ sought-here _ n p (f .sought cost) h (close-yes s _ p _ _ (inside n task tick cost p h) (task-is n task tick cost p h) (tick-is n task tick cost p h) (f .still cost) (rw (ready-is cost) at g))))
 
-    pub tracing-next : r .ready ≤ getD tick p 0 → Tracing s n task tick (r .shapers) (p + 1)
+    pub tracing-next : r .ready ≤ getD tick p 0 → Tracing s n task tick (storeIn m (getD task p 0) (r .state)) (p + 1)
     tracing-next g =
         record {
           walking = rw e (walk-next s (s .jitter) n task tick w m p (f .walking) h);

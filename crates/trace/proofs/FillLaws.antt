@@ -4,16 +4,15 @@ use mathlib.Core.Path.{_≡_, refl, sym, ap, ap₂, _∙_}
 use mathlib.Core.List.{List, [], _∷_, _++_}
 use native.Mathlib.Omega.{arith}
 use native.Mathlib.Numerals.{add-one}
-use lib.ListN.{length, take, drop, set, length-set, take-append-drop}
+use lib.ListN.{length, getD, take, drop, set, length-set, take-append-drop}
 use lib.Seq.{take-suc-set, drop-set-lt, drop-drop}
 use Rattle.model.specs.Series.{table}
 use Rattle.model.specs.Tasks.{Tasks}
 use Rattle.model.specs.Ready.{readyAt, readyList}
 use Rattle.model.specs.Calls.{releasesOf}
+use Rattle.shaper.specs.declared.Shaped.{Shaped}
 use Rattle.releases.proofs.ReleaseLaws.{length-releases}
-use Rattle.trace.specs.declared.Shapers.{Shapers}
-use Rattle.trace.specs.declared.Stepped.{Stepped}
-use Rattle.trace.specs.Shapers.{freshShapers}
+use Rattle.trace.specs.Shapers.{Shapers, freshShapers, storeIn}
 use Rattle.trace.specs.TraceCalls.{Shapable}
 use Rattle.trace.proofs.WalkLaws.{Walking, walk-fresh, walk-next, walk-ready, stepAt}
 
@@ -35,13 +34,13 @@ module _ (s : Tasks) (k : ℕ → ℕ) (n : ℕ) (task tick o₀ : List ℕ) whe
       → (m : Shapers) (o : List ℕ) (p : ℕ)
       → Filling s k n task tick o₀ m o p
       → p < n
-      → (r : Stepped)
-      → r ≡ stepAt s k task tick m p
-      → Filling s k n task tick o₀ (r .shapers) (set o p (r .ready)) (p + 1)
+      → (g : Shaped)
+      → g ≡ stepAt s k task tick m p
+      → Filling s k n task tick o₀ (storeIn m (getD task p 0) (g .state)) (set o p (g .ready)) (p + 1)
   unfolding table
-  filling-next w g m o p f h r e = rw e next
+  filling-next w long m o p f h g e = rw e next
     where
-      next : Filling s k n task tick o₀ (stepAt s k task tick m p .shapers) (set o p (stepAt s k task tick m p .ready)) (p + 1)
+      next : Filling s k n task tick o₀ (storeIn m (getD task p 0) (stepAt s k task tick m p .state)) (set o p (stepAt s k task tick m p .ready)) (p + 1)
       next =
           record {
             walking = walk-next s k n task tick w m p (f .walking) h;

@@ -5,7 +5,9 @@ use mathlib.Core.Path.{_≡_, refl, sym, ap, _∙_}
 use mathlib.Core.Bool.{false}
 use mathlib.Core.Option.{some, none}
 use mathlib.Core.List.{List, [], _∷_, _++_, reverse, reverse-append, reverse-reverse}
+use mathlib.Core.Logic.{dite}
 use native.Mathlib.Omega.{arith}
+use native.Mathlib.Decide.{decLt}
 use borrow.Author.Tests.{ltb-false}
 use lib.ListN.{length, getD, take, drop, length-append, take-append-drop, List·getD-append}
 use lib.Seq.{take-length}
@@ -13,10 +15,11 @@ use Rattle.model.specs.Tasks.{Tasks, Release, releaseAt}
 use Rattle.model.specs.Gap.{own, Apart, Legal}
 use Rattle.model.specs.Ready.{after, readyNext, readyTicks}
 use Rattle.model.specs.Legality.{tooClose, firstClose}
+use Rattle.model.specs.Claims.{Trace}
 use Rattle.model.proofs.SearchLaws.{Found, first-found, first-none, first-nothing}
 use Rattle.shaper.specs.History.{historyOf, legal-ready, ready-legal}
 use Rattle.shaper.specs.ShaperLaws.{history-none}
-use Rattle.trace.specs.PositionLaws.{own-append}
+use Rattle.trace.specs.PositionLaws.{own-append, Held, held}
 use Rattle.trace.proofs.StandingLaws.{historyAt, history-next, own-next}
 use Rattle.trace.proofs.CloseLaws.{Still, close-is, close-no, still-next}
 
@@ -90,6 +93,13 @@ module _ (s : Tasks) (l : List Release) where
     where
       stills : (p : ℕ) → Still s l p
       stills p i = legal-unmoved (s .period i) (s .jitter i) (own i (take p l)) (legal-take p i (g i))
+
+-- a trace has no release of a task that is not in the set, so it passes where the releases of each task of the set are legal
+pub trace-check : (s : Tasks) (l : List Release) → Trace s l → ((i : ℕ) → i < s .count → Legal s l i) → firstClose s l ≡ none
+trace-check s l tr g = check-legal s l (λ i. dite (decLt i (s .count)) (g i) (λ n m k h. absurd (n (known i (held l i (m + k) h)))))
+  where
+    known : (i : ℕ) {x : ℕ} → Held l i x → i < s .count
+    known i d = rw (d .of-task) at (tr .sound (d .at) (d .inside) .known)
 
 -- the first release that is too close
 pub record FirstClose (s : Tasks) (l : List Release) (p : ℕ) : Type 0 where

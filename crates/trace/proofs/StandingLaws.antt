@@ -19,9 +19,7 @@ use Rattle.shaper.specs.declared.Shaped.{Shaped}
 use Rattle.shaper.specs.Shaper.{latest, due, stateOf, shapedAfter, shapeOne, Small}
 use Rattle.shaper.specs.History.{historyOf, history-snoc, ready-here}
 use Rattle.shaper.specs.ShaperLaws.{shape-after, Within, small-within, history-none}
-use Rattle.trace.specs.declared.Shapers.{Shapers}
-use Rattle.trace.specs.declared.Stepped.{Stepped}
-use Rattle.trace.specs.Shapers.{freshShapers, stateIn, stepOne, Stepable}
+use Rattle.trace.specs.Shapers.{Shapers, freshShapers, stateIn, storeIn}
 use Rattle.trace.specs.PositionLaws.{own-append, own-same, own-at, place-of, Held, held}
 use Rattle.trace.specs.ReadyAtLaws.{ready-own}
 
@@ -106,10 +104,10 @@ module _ (s : Tasks) (k : ℕ → ℕ) (l : List Release) where
       (of-task : releaseAt l p .task ≡ i)
       (at-tick : releaseAt l p .tick ≡ a)
       (known : i < maxTasks) where
-    abbrev stepped : Stepped
-    stepped = stepOne m i (s .period i) (k i) a
+    abbrev stepped : Shaped
+    stepped = shapeOne (stateIn m i (s .period i) (k i)) a
 
-    shaped : shapeOne (stateIn m i (s .period i) (k i)) a ≡ shapedAfter (s .period i) (k i) (historyAt s k l p i) a
+    shaped : stepped ≡ shapedAfter (s .period i) (k i) (historyAt s k l p i) a
     shaped = ap (λ (x : Shaper). shapeOne x a) (st .state i known) ∙ shape-after (s .period i) (k i) (historyAt s k l p i) a
 
     -- the step's ready tick, by the task's history ..
@@ -131,7 +129,7 @@ module _ (s : Tasks) (k : ℕ → ℕ) (l : List Release) where
         ∙ ap₂ (λ (x : List ℕ) (y : ℕ). getD (readyTicks (s .period i) (k i) x) y 0) own-about (place-of l i p of-task)
         ∙ ready-here (s .period i) (k i) (own i (take p l)) a (own i (drop (suc p) l)))
 
-    pub standing-step : Standing s k l (stepped .shapers) (suc p)
+    pub standing-step : Standing s k l (storeIn m i (stepped .state)) (suc p)
     standing-step =
         record {
           last-long = simp length-set (st .last-long);
@@ -142,16 +140,16 @@ module _ (s : Tasks) (k : ℕ → ℕ) (l : List Release) where
         by : ℕ → ℕ → ℕ → Shaper
         by j x y = record { period = s .period j; keep = k j; last = x; next = y }
 
-        same-here : stateIn (stepped .shapers) i (s .period i) (k i) ≡ stateOf (s .period i) (k i) (historyAt s k l (suc p) i)
+        same-here : stateIn (storeIn m i (stepped .state)) i (s .period i) (k i) ≡ stateOf (s .period i) (k i) (historyAt s k l (suc p) i)
         same-here =
             ap₂ (by i) (getD-set-same (m .last) i _ 0 (omega arith)) (getD-set-same (m .next) i _ 0 (omega arith))
             ∙ ap (λ (x : Shaped). x .state) shaped
             ∙ ap (stateOf (s .period i) (k i)) (sym (history-next s k l p i a h of-task at-tick))
 
-        same : {j : ℕ} → i ≡ j → stateIn (stepped .shapers) j (s .period j) (k j) ≡ stateOf (s .period j) (k j) (historyAt s k l (suc p) j)
+        same : {j : ℕ} → i ≡ j → stateIn (storeIn m i (stepped .state)) j (s .period j) (k j) ≡ stateOf (s .period j) (k j) (historyAt s k l (suc p) j)
         same {j} e = rw (← e) same-here
 
-        other : (j : ℕ) → j < maxTasks → (i ≡ j → ⊥) → stateIn (stepped .shapers) j (s .period j) (k j) ≡ stateOf (s .period j) (k j) (historyAt s k l (suc p) j)
+        other : (j : ℕ) → j < maxTasks → (i ≡ j → ⊥) → stateIn (storeIn m i (stepped .state)) j (s .period j) (k j) ≡ stateOf (s .period j) (k j) (historyAt s k l (suc p) j)
         other j g n =
             ap₂ (by j) (getD-set-other (m .last) i j _ 0 (λ e. n (sym e))) (getD-set-other (m .next) i j _ 0 (λ e. n (sym e)))
             ∙ st .state j g
@@ -170,8 +168,5 @@ module _ (s : Tasks) (k : ℕ → ℕ) (l : List Release) where
           within-own (s .period i) i (take p l) period-high (omega (arith, long))
           (λ q g. rw (getD-take p l q noRelease (omega (arith, long))) (tick-high q (omega (arith, long))))
 
-      pub step-small : Stepable m i
-      step-small =
-          let small : Small (stateIn m i (s .period i) (k i)) a =
-          rw (st .state i known) (small-within (s .period i) (k i) (own i (take p l)) own-within a high) in
-          record { known = known; last-small = small .last-small; next-small = small .next-small }
+      pub step-small : Small (stateIn m i (s .period i) (k i)) a
+      step-small = rw (st .state i known) (small-within (s .period i) (k i) (own i (take p l)) own-within a high)

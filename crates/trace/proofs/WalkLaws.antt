@@ -4,35 +4,27 @@ use mathlib.Core.Path.{_≡_, ap, _∙_}
 use mathlib.Core.List.{List, [], _++_}
 use native.Mathlib.Omega.{arith}
 use native.Mathlib.Numerals.{add-one}
-use lib.ListN.{length, getD, set, List·getD-append}
+use lib.ListN.{length, getD, List·getD-append}
 use Rattle.model.specs.Limits.{maxTasks, maxReleases, maxTick}
 use Rattle.model.specs.Tasks.{Tasks, Release, releaseAt}
 use Rattle.model.specs.Gap.{own}
 use Rattle.model.specs.Ready.{readyNext, readyAt, readyList, place}
 use Rattle.model.specs.Calls.{releasesOf}
+use Rattle.shaper.specs.declared.Shaper.{Shaper}
 use Rattle.shaper.specs.declared.Shaped.{Shaped}
-use Rattle.shaper.specs.Shaper.{shapeOne, Shapes}
+use Rattle.shaper.specs.Shaper.{shapeOne, Small, Shapes}
 use Rattle.shaper.specs.ShaperLaws.{maxReady, ready-within}
 use Rattle.releases.proofs.ReleaseLaws.{length-releases, release-at}
 use Rattle.model.proofs.TableLaws.{length-table, getD-table}
-use Rattle.trace.specs.declared.Shapers.{Shapers}
-use Rattle.trace.specs.declared.Stepped.{Stepped}
-use Rattle.trace.specs.Shapers.{freshShapers, stateIn, stepOne, Stepable}
+use Rattle.trace.specs.Shapers.{Shapers, freshShapers, stateIn, storeIn}
 use Rattle.trace.specs.TraceCalls.{Shapable}
 use Rattle.trace.specs.PositionLaws.{place-inside}
 use Rattle.trace.specs.ReadyAtLaws.{ready-own}
 use Rattle.trace.proofs.StandingLaws.{within-own, historyAt, Standing, standing-fresh, standing-step, step-next, step-ready, step-small}
 
 -- a step of the code is one step of the definition
-pub step-by
-    : (m : Shapers) (i P K a x : ℕ) (g : Shaped)
-    → Shapes (stateIn m i P K) x g
-    → x ≡ a
-    → record { shapers = record { last = set (m .last) i (g .state .last); next = set (m .next) i (g .state .next) }; ready = g .ready } ≡ stepOne m i P K a
-step-by m i P K a x g f e = ap after-shape (f .step ∙ ap (shapeOne (stateIn m i P K)) e)
-  where
-    after-shape : Shaped → Stepped
-    after-shape y = record { shapers = record { last = set (m .last) i (y .state .last); next = set (m .next) i (y .state .next) }; ready = y .ready }
+pub step-by : (st : Shaper) (a x : ℕ) (g : Shaped) → Shapes st x g → x ≡ a → g ≡ shapeOne st a
+step-by st a x g f e = f .step ∙ ap (shapeOne st) e
 
 -- the release at p of three columns
 module _ (n : ℕ) (task tick cost : List ℕ) (p : ℕ) (h : p < n) where
@@ -81,8 +73,8 @@ pub record Walking (s : Tasks) (k : ℕ → ℕ) (n : ℕ) (task tick : List ℕ
   pub standing : (cost : List ℕ) → Standing s k (releasesOf n task tick cost) m p
 
 -- the step of the release at p
-abbrev pub stepAt : Tasks → (ℕ → ℕ) → List ℕ → List ℕ → Shapers → ℕ → Stepped
-stepAt s k task tick m p = stepOne m (getD task p 0) (s .period (getD task p 0)) (k (getD task p 0)) (getD tick p 0)
+abbrev pub stepAt : Tasks → (ℕ → ℕ) → List ℕ → List ℕ → Shapers → ℕ → Shaped
+stepAt s k task tick m p = shapeOne (stateIn m (getD task p 0) (s .period (getD task p 0)) (k (getD task p 0))) (getD tick p 0)
 
 module _ (s : Tasks) (k : ℕ → ℕ) (n : ℕ) (task tick : List ℕ) where
   pub walk-fresh : Walking s k n task tick freshShapers 0
@@ -107,17 +99,20 @@ module _ (s : Tasks) (k : ℕ → ℕ) (n : ℕ) (task tick : List ℕ) where
       pub walk-history : stepAt s k task tick m p .ready ≡ readyNext (s .period i) (k i) (historyAt s k l p i) (getD tick p 0)
       walk-history = step-next s k l m p _ _ (v .standing cost) (inside n task tick cost p h) (task-is n task tick cost p h) (tick-is n task tick cost p h) known
 
-      stands : Standing s k l (stepAt s k task tick m p .shapers) (suc p)
+      stands : Standing s k l (storeIn m i (stepAt s k task tick m p .state)) (suc p)
       stands = standing-step s k l m p _ _ (v .standing cost) (inside n task tick cost p h) (task-is n task tick cost p h) (tick-is n task tick cost p h) known
 
-    -- the step is allowed
-    pub walk-small : Stepable m i
-    walk-small =
+    -- the step is allowed, with any period and kept jitter
+    pub walk-small : (P K x : ℕ) → x ≡ getD tick p 0 → Small (stateIn m i P K) x
+    walk-small P K x e =
+        let small : Small (stateIn m i (s .period i) (k i)) (getD tick p 0) =
         step-small s k (l []) m p _ _ (v .standing []) (inside n task tick [] p h) (task-is n task tick [] p h) (tick-is n task tick [] p h) known
-        (w .period-high i (w .known p h)) (list-few s n task tick w []) (list-high s n task tick w [])
+        (w .period-high i (w .known p h)) (list-few s n task tick w []) (list-high s n task tick w []) in
+        rw e (record { release-small = small .release-small; last-small = small .last-small; next-small = small .next-small })
 
-    pub walk-fits : (r : Stepped) → r ≡ stepAt s k task tick m p → r .ready ≤ maxReady
-    walk-fits r e = rw (e, walk-ready []) (ready-high s n task tick w [] k p h)
+    -- its ready tick is within 32 bits
+    pub walk-fits : (g : Shaped) → g ≡ stepAt s k task tick m p → g .ready ≤ maxReady
+    walk-fits g e = rw (e, walk-ready []) (ready-high s n task tick w [] k p h)
 
-    pub walk-next : Walking s k n task tick (stepAt s k task tick m p .shapers) (p + 1)
+    pub walk-next : Walking s k n task tick (storeIn m i (stepAt s k task tick m p .state)) (p + 1)
     walk-next = record { within = omega arith; standing = λ cost. rw add-one (stands cost) }

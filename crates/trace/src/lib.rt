@@ -14,20 +14,7 @@ ghost use Rattle.model.specs.Ready.{readyList};
 ghost use Rattle.model.specs.Legality.{firstClose};
 ghost use Rattle.model.specs.Calls.{releasesOf, columnAfter, traceCall, readyInputs};
 ghost use Rattle.taskset.specs.TaskSet.{viewOf, refusalIn};
-ghost use Rattle.trace.specs.Shapers.{Stepable, freshShapers, stepOne};
 ghost use Rattle.trace.specs.TraceCalls.{traceIn, slotsLent, callInputs, Shapable};
-
-// The two numbers of the shaper of each task, between two of its jobs. Period and kept jitter come with each job.
-pub struct Shapers {
-    pub last: [u64; 32],
-    pub next: [u64; 32],
-}
-
-// The shapers after a job, and the job's ready tick.
-pub struct Stepped {
-    pub shapers: Shapers,
-    pub ready: u64,
-}
 
 // The answer of the trace check: legal, or the first release that is too close to an earlier one of its task; or document 01's number
 // and place.
@@ -37,39 +24,8 @@ pub enum TraceAnswer {
     Refused { number: u32, place: usize },
 }
 
-// The shapers before the first job.
-pub fn fresh() -> Shapers
-    ensures { λ r. ⌜ r ≡ freshShapers ⌝ }
-{
-    Shapers {
-        last: [0; 32],
-        next: [0; 32],
-    }
-}
-
-// One job of a task goes through the task's shaper.
-pub fn step(shapers: Shapers, task: usize, period: u32, keep: u32, tick: u32) -> Stepped
-    requires { ⌜ Stepable shapers task ⌝ }
-    ensures { λ r. ⌜ r ≡ stepOne shapers task period keep tick ⌝ }
-{
-    let state = Shaper {
-        period: period,
-        keep: keep,
-        last: shapers.last[task],
-        next: shapers.next[task],
-    };
-    let got = state.shape(wide(tick));
-    let after = got.state;
-    let mut all = shapers;
-    all.last[task] = after.last;
-    all.next[task] = after.next;
-    Stepped {
-        shapers: all,
-        ready: got.ready,
-    }
-}
-
-// The ready ticks of a list that passed its check, written to the first slots of a column.
+// The ready ticks of a list that passed its check, written to the first slots of a column. `last` and `next` have the two numbers of the
+// shaper of each task between two of its jobs.
 pub fn fill_ready(
     s: TaskSet,
     kept: &[u32],
@@ -81,37 +37,53 @@ pub fn fill_ready(
     requires { ⌜ Shapable (viewOf s) count (now task) (now tick) × (s .count ≤ length (now kept)) × (count ≤ length (now ready)) ⌝ }
     ensures { λ _. ⌜ ((cost : List ℕ) → now (ready .exit) ≡ readyList (viewOf s) (column (now (kept .entry))) (releasesOf count (now (task .entry)) (now (tick .entry)) cost) ++ drop count (now (ready .entry))) ⌝ }
 {
-    let mut all = fresh();
+    let mut last = [0u64; 32];
+    let mut next = [0u64; 32];
     let mut p = 0;
     while p < count {
         let i = task[p] as usize;
         let t = s.tasks[i];
-        let got = step(all, i, t.period, kept[i], tick[p]);
-        let after = got.shapers;
-        all = after;
+        let state = Shaper {
+            period: t.period,
+            keep: kept[i],
+            last: last[i],
+            next: next[i],
+        };
+        let got = state.shape(wide(tick[p]));
+        let after = got.state;
+        last[i] = after.last;
+        next[i] = after.next;
         ready[p] = got.ready as u32;
         p += 1;
     }
 }
 
 // Whether a list that passed its check is legal: the first release that the shapers with the full jitters would move is the first that is
-// too close.
+// too close. `last` and `next` as in `fill_ready`.
 pub fn first_close(s: TaskSet, count: usize, task: &[u32], tick: &[u32]) -> TraceAnswer
     requires { ⌜ Shapable (viewOf s) count (now task) (now tick) ⌝ }
     ensures { λ r. ⌜ ((cost : List ℕ) → traceIn r ≡ answered (firstClose (viewOf s) (releasesOf count (now (task .entry)) (now (tick .entry)) cost))) ⌝ }
 {
-    let mut all = fresh();
+    let mut last = [0u64; 32];
+    let mut next = [0u64; 32];
     let mut p = 0;
     while p < count {
         let i = task[p] as usize;
-        let t = s.tasks[i];
-        let at = tick[p];
-        let got = step(all, i, t.period, t.jitter, at);
-        if wide(at) < got.ready {
+        let row = s.tasks[i];
+        let at = wide(tick[p]);
+        let state = Shaper {
+            period: row.period,
+            keep: row.jitter,
+            last: last[i],
+            next: next[i],
+        };
+        let got = state.shape(at);
+        if at < got.ready {
             return TraceAnswer::TooClose { release: p };
         }
-        let next = got.shapers;
-        all = next;
+        let advanced = got.state;
+        last[i] = advanced.last;
+        next[i] = advanced.next;
         p += 1;
     }
     TraceAnswer::Legal
