@@ -3,7 +3,7 @@
  *
  * Build the archive with `rt staticlib exports` and link target/staticlib/libexports.a (x86-64 Linux). Of the C library the archive
  * calls memcpy and memset alone; it allocates nothing and keeps no state, so any number of threads may call it. A read takes some
- * 26 kilobytes of stack, any other call below 8.
+ * 27 kilobytes of stack, any other call below 8.
  *
  * WHAT A CALL RETURNS
  *   0 where it answered. Otherwise a refusal, number * 2^32 + place; nolkrada_number and nolkrada_place take it apart.
@@ -42,9 +42,9 @@
  *   13  an array is too short; the slots that it needs
  *   14  there is no such task; the number given
  *   15  choice: no K fits; the first such task
- * A short `answer`, and a short `sheet` of nolkrada_read, are refused first. Otherwise a call checks, in this order: the sheet
- * (5, 4, then 6 by task), 14, 10, 13 (arrays by task, then by release, then bytes), 12, the releases in order (7, 8, 9), 15.
- * A read checks the whole file, record by record and the lower number first, and then 13.
+ * A call checks, in this order: the sheet (5, 4, then 6 by task), 14, 10, 13 (arrays by task, then by release, then bytes, then
+ * `answer`), 12, the releases in order (7, 8, 9), 15. A read checks the whole file, record by record and the lower number first,
+ * and then 13 (`sheet`, then task, tick and cost, then `answer`).
  */
 #ifndef NOLKRADA_H
 #define NOLKRADA_H
@@ -61,7 +61,7 @@ static inline uint32_t nolkrada_number(uint64_t code) { return (uint32_t)(code >
 static inline uint32_t nolkrada_place(uint64_t code) { return (uint32_t)code; }
 
 /* Arrival count of a task in t ticks: 0 for t = 0, else ceil((t + K) / P).
- * answer: 1 slot, the count.                                                            Refuses 13 (answer), 5 4 6 14 13 12. */
+ * answer: 1 slot, the count.                                                                         Refuses 5 4 6 14 13 12. */
 uint64_t nolkrada_arrival_count(const uint32_t *sheet, size_t sheet_length, uint32_t count, uint32_t task,
                                 const uint32_t *kept, size_t kept_length, uint32_t t, uint64_t *answer, size_t answer_length);
 
@@ -69,8 +69,9 @@ enum { NOLKRADA_HORIZON = 0, NOLKRADA_LATE = 1, NOLKRADA_FITS = 2 };
 
 /* Verdict of a task.
  * answer: 3 slots. NOLKRADA_HORIZON, q, 0: no W(q) up to 10000000 ticks, and nothing is claimed. NOLKRADA_LATE, q, R(q): some legal
- * list of releases makes a job of the task late. NOLKRADA_FITS, q, R: no job of the task is ever late; R is the largest response
- * bound met and q the first that had it.                                                Refuses 13 (answer), 5 4 6 14 13 12. */
+ * list of releases makes a job of the task late. NOLKRADA_FITS, q, R: no job of the task is late in any list in which its own
+ * releases keep its jitter, whatever the other tasks release; R is the largest response bound met and q the first that had it.
+ *                                                                                                   Refuses 5 4 6 14 13 12. */
 uint64_t nolkrada_verdict(const uint32_t *sheet, size_t sheet_length, uint32_t count, uint32_t task, const uint32_t *kept,
                           size_t kept_length, uint64_t *answer, size_t answer_length);
 
@@ -81,7 +82,7 @@ uint64_t nolkrada_choice(const uint32_t *sheet, size_t sheet_length, uint32_t co
 
 /* Trace check: whether the releases keep the jitters of their tasks.
  * answer: 2 slots. 0, 0: they do. 1, p: release p is the first that is too close to an earlier one of its task.
- *                                                                                Refuses 13 (answer), 5 4 6 10 13 7 8 9. */
+ *                                                                                             Refuses 5 4 6 10 13 7 8 9. */
 uint64_t nolkrada_trace_check(const uint32_t *sheet, size_t sheet_length, uint32_t count, uint32_t n, const uint32_t *task,
                               size_t task_length, const uint32_t *tick, size_t tick_length, const uint32_t *cost,
                               size_t cost_length, uint64_t *answer, size_t answer_length);
@@ -101,13 +102,13 @@ uint64_t nolkrada_run(const uint32_t *sheet, size_t sheet_length, uint32_t count
 
 /* Read a file. A file with 1024 releases has at most 10785 bytes.
  * sheet: 128 slots, all written; entries past the count are 0. task, tick, cost: a slot for each release, written.
- * answer: 2 slots, the tasks and the releases of the file.             Refuses 13 (answer, then sheet), 1 to 11, 13. */
+ * answer: 2 slots, the tasks and the releases of the file.                                           Refuses 1 to 11, 13. */
 uint64_t nolkrada_read(const uint8_t *file, size_t file_length, uint32_t *sheet, size_t sheet_length, uint32_t *task,
                        size_t task_length, uint32_t *tick, size_t tick_length, uint32_t *cost, size_t cost_length,
                        uint64_t *answer, size_t answer_length);
 
 /* Write a file: 17 bytes for each task, 10 for each release, 1 for the end.
- * out: the bytes, written. answer: 1 slot, how many.                                Refuses 13 (answer), 5 4 6 10 13 7 8 9. */
+ * out: the bytes, written. answer: 1 slot, how many.                                             Refuses 5 4 6 10 13 7 8 9. */
 uint64_t nolkrada_write(const uint32_t *sheet, size_t sheet_length, uint32_t count, uint32_t n, const uint32_t *task,
                         size_t task_length, const uint32_t *tick, size_t tick_length, const uint32_t *cost, size_t cost_length,
                         uint8_t *out, size_t out_length, uint64_t *answer, size_t answer_length);

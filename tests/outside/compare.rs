@@ -57,6 +57,7 @@ fn around(r: &mut Random, needed: usize) -> usize {
 }
 
 /// A sheet as it is passed, with kept jitters and a list. Each column has a length of its own.
+#[derive(Clone)]
 struct Case {
     numbers: Vec<u32>,
     count: u32,
@@ -154,22 +155,33 @@ impl Tally {
     }
 }
 
-/// The refusal of an answer slice that is too short comes before all others.
-fn short(slots: usize, needed: usize) -> Option<Refusal> {
-    if slots < needed { Some(Refusal { number: 13, place: needed as u64 }) } else { None }
+/// 13 where a slice has fewer slots than are needed.
+fn short(slots: usize, needed: usize) -> Result<(), Refusal> {
+    if slots < needed { Err(Refusal { number: 13, place: needed as u64 }) } else { Ok(()) }
 }
 
-fn guarded<T>(slots: usize, needed: usize, call: impl FnOnce() -> Result<T, Refusal>) -> Result<T, Refusal> {
-    match short(slots, needed) {
-        Some(r) => Err(r),
-        None => call(),
+/// A call on values that answers in words: they are the last of its lent slices, so that only kept jitters (12), releases
+/// (7, 8, 9) and the choice (15) are checked after them.
+fn in_words<T>(slots: usize, needed: usize, given: Result<T, Refusal>) -> Result<T, Refusal> {
+    match given {
+        Err(r) if !matches!(r.number, 7 | 8 | 9 | 12 | 15) => Err(r),
+        _ => short(slots, needed).and(given),
     }
+}
+
+/// A read: the whole file, then the slots of the sheet, of the columns and of the answer.
+fn read_into(file: &[u8], sheet: usize, slots: [usize; 3], answer: usize) -> Result<(Sheet, Vec<Release>), Refusal> {
+    reference::decode(file)?;
+    short(sheet, 128)?;
+    let given = reference::read(file, slots)?;
+    short(answer, 2)?;
+    Ok(given)
 }
 
 fn compare_arrival_count(r: &mut Random, tally: &mut Tally, case: &Case, task: u32, t: u32) {
     let slots = around(r, 1);
     let mut answer = words(r, slots);
-    let expected = guarded(slots, 1, || reference::arrival_count(&case.sheet(), task as usize, &case.kept, t));
+    let expected = in_words(slots, 1, reference::arrival_count(&case.sheet(), task as usize, &case.kept, t));
     let got = library::arrival_count(&case.numbers, case.count, task, &case.kept, t, &mut answer.now);
     let same = answer.holds(expected.ok().map(|n| [n]).as_ref().map(|a| &a[..]));
     tally.note(0, expected.err(), got, same, || format!("task {} t {} answer {:?} {}", task, t, answer.now, case.show()));
@@ -182,7 +194,7 @@ fn compare_verdict(r: &mut Random, tally: &mut Tally, case: &Case, task: u32, bu
         tally.passed_over += 1;
         return;
     };
-    let expected = guarded(slots, 3, || given).map(|v| match v {
+    let expected = in_words(slots, 3, given).map(|v| match v {
         Verdict::Horizon { q } => [0, q as u64, 0],
         Verdict::Late { q, r } => [1, q as u64, r as u64],
         Verdict::Fits { r, q } => [2, q as u64, r as u64],
@@ -214,7 +226,7 @@ fn compare_choice(r: &mut Random, tally: &mut Tally, case: &Case, budget: u64) {
 fn compare_trace_check(r: &mut Random, tally: &mut Tally, case: &Case) {
     let slots = around(r, 2);
     let mut answer = words(r, slots);
-    let expected = guarded(slots, 2, || reference::trace_check(&case.sheet(), case.n as usize, &case.reference_list()));
+    let expected = in_words(slots, 2, reference::trace_check(&case.sheet(), case.n as usize, &case.reference_list()));
     let got = library::trace_check(&case.numbers, case.count, case.n, case.library_list(), &mut answer.now);
     let numbers = expected.ok().map(|close| match close {
         None => [0, 0],
@@ -259,7 +271,7 @@ fn compare_read(r: &mut Random, tally: &mut Tally, file: &[u8]) {
     let (a, s) = (around(r, 2), around(r, 128));
     let (mut answer, mut sheet) = (words(r, a), numbers(r, s));
     let (mut task, mut tick, mut cost) = (numbers(r, slots[0]), numbers(r, slots[1]), numbers(r, slots[2]));
-    let expected = guarded(a, 2, || guarded(s, 128, || reference::read(file, slots)));
+    let expected = read_into(file, s, slots, a);
     let got = library::read(file, &mut sheet.now, &mut task.now, &mut tick.now, &mut cost.now, &mut answer.now);
     let same = match &expected {
         Err(_) => {
@@ -284,8 +296,7 @@ fn compare_write(r: &mut Random, tally: &mut Tally, case: &Case) {
     let slots = around(r, 17 * case.count.min(40) as usize + 10 * case.n.min(1030) as usize + 1);
     let a = around(r, 1);
     let (mut answer, mut out) = (words(r, a), bytes(r, slots));
-    let expected =
-        guarded(a, 1, || reference::write(&case.sheet(), case.n as usize, &case.reference_list(), slots));
+    let expected = in_words(a, 1, reference::write(&case.sheet(), case.n as usize, &case.reference_list(), slots));
     let got = library::write(&case.numbers, case.count, case.n, case.library_list(), &mut out.now, &mut answer.now);
     let length = expected.as_ref().ok().map(|f| [f.len() as u64]);
     let same = answer.holds(length.as_ref().map(|l| &l[..])) && out.holds(expected.as_ref().ok().map(|f| &f[..]));
@@ -536,6 +547,85 @@ fn printed(r: &mut Random, tally: &mut Tally) {
     }
 }
 
+/// Answers that are too short, in calls that have something else to refuse as well: what decides is written out.
+fn short_answers(r: &mut Random, tally: &mut Tally) {
+    let sound = Case::sound(r, &sums::printed_sheet(), &sums::printed_releases());
+    let changed = |change: fn(&mut Case)| {
+        let mut case = Case { kept: vec![1, 3, 0], ..sound.clone() };
+        change(&mut case);
+        case
+    };
+    let refused = |number: u32, place: u64| Some(Refusal { number, place });
+
+    // one task: the change, the task, then what an arrival count with no slot and a verdict with two slots refuse
+    let single: [(fn(&mut Case), u32, [(u32, u64); 2]); 7] = [
+        (|_| (), 1, [(13, 1), (13, 3)]),
+        (|c| c.count = 0, 1, [(5, 0), (5, 0)]),
+        (|c| c.count = 33, 1, [(4, 32), (4, 32)]),
+        (|c| c.numbers[6] = 0, 0, [(6, 1), (6, 1)]),
+        (|_| (), 7, [(14, 7), (14, 7)]),
+        (|c| c.kept.clear(), 1, [(13, 3), (13, 3)]),
+        (|c| c.kept[1] = 8, 1, [(13, 1), (13, 3)]),
+    ];
+    for (change, task, [count, verdict]) in single {
+        let case = changed(change);
+        let mut answer = words(r, 2);
+        let got = library::arrival_count(&case.numbers, case.count, task, &case.kept, 7, &mut answer.now[..0]);
+        tally.note(0, refused(count.0, count.1), got, answer.holds(None), || format!("no slot, task {} {}", task, case.show()));
+        let got = library::verdict(&case.numbers, case.count, task, &case.kept, &mut answer.now);
+        tally.note(1, refused(verdict.0, verdict.1), got, answer.holds(None), || format!("two slots, task {} {}", task, case.show()));
+    }
+
+    // a list of three: what a trace check with one slot and a write with none refuse; the file has 82 bytes
+    let lists: [(fn(&mut Case), [(u32, u64); 2]); 8] = [
+        (|_| (), [(13, 2), (13, 1)]),
+        (|c| c.count = 0, [(5, 0), (5, 0)]),
+        (|c| c.numbers[0] = 0, [(6, 0), (6, 0)]),
+        (|c| c.n = 1025, [(10, 1024), (10, 1024)]),
+        (|c| c.tick.truncate(2), [(13, 3), (13, 3)]),
+        (|c| c.task[1] = 3, [(13, 2), (13, 1)]),
+        (|c| c.tick[2] = MAX_TICK + 1, [(13, 2), (13, 1)]),
+        (|c| c.cost[0] = 0, [(13, 2), (13, 1)]),
+    ];
+    for (change, [check, write]) in lists {
+        let case = changed(change);
+        let (mut answer, mut out) = (words(r, 1), bytes(r, 82));
+        let got = library::trace_check(&case.numbers, case.count, case.n, case.library_list(), &mut answer.now);
+        tally.note(3, refused(check.0, check.1), got, answer.holds(None), || format!("one slot {}", case.show()));
+        let got = library::write(&case.numbers, case.count, case.n, case.library_list(), &mut out.now, &mut answer.now[..0]);
+        tally.note(7, refused(write.0, write.1), got, out.holds(None), || format!("no slot {}", case.show()));
+        if case.n == 3 && write == (13, 1) {
+            let got = library::write(&case.numbers, case.count, 3, case.library_list(), &mut out.now[..81], &mut answer.now[..0]);
+            tally.note(7, refused(13, 82), got, out.holds(None), || format!("no slot, 81 bytes {}", case.show()));
+        }
+    }
+
+    // files: the slots of the sheet, of the columns and of the answer, and what decides
+    let sheet = sums::printed_sheet();
+    let file = reference::encode(&sheet.tasks[..sheet.count], &sums::printed_releases());
+    let mut longer = file.clone();
+    longer.push(3);
+    let files: [(&[u8], usize, [usize; 3], usize, (u32, u64)); 10] = [
+        (&file, 127, [3, 3, 3], 2, (13, 128)),
+        (&file, 128, [3, 3, 3], 1, (13, 2)),
+        (&file, 0, [0, 3, 3], 0, (13, 128)),
+        (&file, 128, [2, 3, 3], 0, (13, 3)),
+        (&file, 128, [3, 0, 3], 1, (13, 3)),
+        (&file, 200, [5, 4, 2], 0, (13, 3)),
+        (&[], 0, [0, 0, 0], 0, (2, 0)),
+        (&file[..81], 0, [3, 3, 3], 2, (2, 81)),
+        (&longer, 127, [0, 0, 0], 0, (11, 82)),
+        (&file[17 * 3..], 128, [3, 3, 3], 0, (5, 0)),
+    ];
+    for (file, s, slots, a, (number, place)) in files {
+        let (mut answer, mut sheet) = (words(r, a), numbers(r, s));
+        let (mut task, mut tick, mut cost) = (numbers(r, slots[0]), numbers(r, slots[1]), numbers(r, slots[2]));
+        let got = library::read(file, &mut sheet.now, &mut task.now, &mut tick.now, &mut cost.now, &mut answer.now);
+        let same = answer.holds(None) && sheet.holds(None) && task.holds(None) && tick.holds(None) && cost.holds(None);
+        tally.note(6, refused(number, place), got, same, || format!("sheet {} slots {:?} answer {} file {:?}", s, slots, a, file));
+    }
+}
+
 fn timed(name: &str, part: impl FnOnce()) {
     let start = std::time::Instant::now();
     part();
@@ -551,6 +641,7 @@ fn main() {
     timed("reference: W(q) by step and by tick", || check_reference_windows(r, 2_000));
     timed("reference: run by event and by tick", || check_reference_run(r, 2_000));
     timed("printed sheet", || printed(r, tally));
+    timed("answers that are too short", || short_answers(r, tally));
     timed("small sheets and lists", || small(r, tally, 100_000));
     timed("boundary values", || boundary(r, tally, 20_000));
     timed("loaded sheets", || loaded(r, tally, 3_000, &[1, 2, 3, 5, 8, 16]));

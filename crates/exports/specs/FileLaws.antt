@@ -4,7 +4,6 @@ use mathlib.Core.Path.{_≡_, refl, sym, ap, _∙_}
 use mathlib.Core.List.{List, [], _∷_, _++_}
 use native.Mathlib.Omega.{arith}
 use native.Mathlib.Numerals.{add-one}
-use borrow.Author.Tests.{lt-ltb, le-ltb}
 use lib.ListN.{length, getD, take, drop, set}
 use lib.Seq.{sets, length-sets, sets-eq, take-suc, take-all, length-take-le}
 use Rattle.model.specs.Refusal.{Refusal, Answer, refused, answered}
@@ -12,12 +11,14 @@ use Rattle.model.specs.Calls.{columnAfter}
 use Rattle.taskset.specs.declared.Task.{Task}
 use Rattle.taskset.specs.declared.TaskSet.{TaskSet}
 use Rattle.taskset.specs.TaskSet.{noTask}
-use Rattle.fileformat.specs.File.{File}
+use Rattle.fileformat.specs.File.{File, decode}
 use Rattle.fileformat.specs.FileCalls.{setOf, readCall, readCount, readSheet, readColumn}
 use Rattle.writer.specs.Writer.{stored}
 use Rattle.writer.proofs.StoreLaws.{stored-at}
-use Rattle.exports.specs.Interface.{refusalCode, codeIn, wordsAfter, asWords, withWords}
+use Rattle.exports.specs.Interface.{refusalCode, codeIn, wordsAfter, asWords, Ends}
+use Rattle.exports.specs.InterfaceLaws.{words-put}
 use Rattle.exports.specs.Files.{taskNumbers, numbersOf, fileWords, sheetNumbers, readAnswer, ReadEnds}
+use Rattle.exports.specs.ReadLaws.{Halts, call-told, within-enough}
 
 pub numbers-append : (a b : List Task) → numbersOf (a ++ b) ≡ numbersOf a ++ numbersOf b
 unfolding numbersOf
@@ -83,33 +84,18 @@ module _ (f sheet task tick cost answer : List ℕ) where
   abbrev ended : Answer File
   ended = readAnswer f sheet task tick cost answer
 
-  few-words : length answer < 2 → ended ≡ refused (record { number = 13; place = 2 })
-  unfolding readAnswer withWords
-  few-words h = rw (readAnswer, withWords, lt-ltb (length answer) 2 h)
-
-  few-numbers : 2 ≤ length answer → length sheet < 128 → ended ≡ refused (record { number = 13; place = 128 })
-  unfolding readAnswer withWords
-  few-numbers h g = rw (readAnswer, withWords, le-ltb (length answer) 2 h, lt-ltb (length sheet) 128 g)
-
   as-called : 2 ≤ length answer → 128 ≤ length sheet → ended ≡ readCall f task tick cost
-  unfolding readAnswer withWords
-  as-called h g = rw (readAnswer, withWords, le-ltb (length answer) 2 h, le-ltb (length sheet) 128 g)
+  unfolding readAnswer
+  as-called h g = within-enough (decode f) (length sheet) (length answer) task tick cost g h ∙ sym (call-told task tick cost f)
 
-  halted : (a : Answer File) (r number place : ℕ) → a ≡ refused (record { number = number; place = place }) → r ≡ refusalCode number place
-      → ReadEnds a sheet task tick cost answer r sheet task tick cost answer
-  unfolding codeIn wordsAfter asWords readColumn columnAfter
-  halted a r number place e h = rw e (record { code = h; words = refl; numbers = refl; task-column = refl; tick-column = refl; cost-column = refl })
-
-  pub read-few-words : (r : ℕ) → length answer < 2 → r ≡ refusalCode 13 2 → ReadEnds ended sheet task tick cost answer r sheet task tick cost answer
-  read-few-words r h g = halted ended r 13 2 (few-words h) g
-
-  pub read-few-numbers
-      : (r : ℕ)
-      → 2 ≤ length answer
-      → length sheet < 128
-      → r ≡ refusalCode 13 128
-      → ReadEnds ended sheet task tick cost answer r sheet task tick cost answer
-  read-few-numbers r h g e = halted ended r 13 128 (few-numbers h g) e
+  -- a read that is refused changes no slot
+  pub read-halted : (r : ℕ) → Halts ended → r ≡ codeIn ended → ReadEnds ended sheet task tick cost answer r sheet task tick cost answer
+  unfolding wordsAfter asWords readColumn columnAfter
+  read-halted r h e = go ended refl h
+    where
+      go : (a : Answer File) → ended ≡ a → Halts a → ReadEnds ended sheet task tick cost answer r sheet task tick cost answer
+      go (refused q) e′ h = record { code = e; words = rw e′; numbers = rw e′; task-column = rw e′; tick-column = rw e′; cost-column = rw e′ }
+      go (answered x) e′ h = absurd h
 
   -- a count that is a refusal is that of a read that is refused; one that is not tells the releases
   refusal-of : (a : Answer File) (q : Refusal) → refused q ≡ readCount a → a ≡ refused q
@@ -157,22 +143,23 @@ module _ (f sheet task tick cost answer : List ℕ) where
     read-numbers (answered x) e i = rw i refl
 
   pub read-answered
-      : (n : ℕ) (s : TaskSet) (sheet′ task′ tick′ cost′ answer′ : List ℕ)
+      : (n r : ℕ) (s : TaskSet) (sheet′ task′ tick′ cost′ answer′ : List ℕ)
       → 2 ≤ length answer
       → 128 ≤ length sheet
       → answered n ≡ readCount (readCall f task tick cost)
       → s ≡ readSheet (readCall f task tick cost)
       → sheet′ ≡ numbersOf (s .tasks) ++ drop (length (numbersOf (s .tasks))) sheet
-      → answer′ ≡ s .count ∷ n ∷ drop 2 answer
+      → Ends 2 (answered (s .count ∷ n ∷ [])) answer r answer′
       → task′ ≡ readColumn (λ q. q .task) (readCall f task tick cost) task
       → tick′ ≡ readColumn (λ q. q .tick) (readCall f task tick cost) tick
       → cost′ ≡ readColumn (λ q. q .cost) (readCall f task tick cost) cost
-      → ReadEnds ended sheet task tick cost answer 0 sheet′ task′ tick′ cost′ answer′
-  read-answered n s sheet′ task′ tick′ cost′ answer′ h g e i se an ta ti co =
+      → ReadEnds ended sheet task tick cost answer r sheet′ task′ tick′ cost′ answer′
+  read-answered n r s sheet′ task′ tick′ cost′ answer′ h g e i se an ta ti co =
       let a = readCall f task tick cost in
+      let w = words-put 2 (s .count ∷ n ∷ []) answer r answer′ h an in
       rw (as-called h g) (record {
-        code = read-code n s a e;
-        words = an ∙ read-words n s a e i;
+        code = w .0 ∙ read-code n s a e;
+        words = w .1 ∙ read-words n s a e i;
         numbers = se ∙ read-numbers n s a e i;
         task-column = ta;
         tick-column = ti;

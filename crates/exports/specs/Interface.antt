@@ -1,11 +1,11 @@
 -- The C interface: a sheet passed as numbers, refusals as codes, answers as words in a lent slice.
 use Prim.Native.Nat.{ℕ, _+_, _*_, _%_}
 use mathlib.Core.Path.{_≡_}
-use mathlib.Core.Bool.{true, false}
+use mathlib.Core.Bool.{Bool, true, false, _&&_, _||_}
 use mathlib.Core.Option.{Option, some, none}
 use mathlib.Core.List.{List, [], _∷_, _++_}
 use lib.ListN.{length, getD, drop}
-use lib.Dec.{ltb}
+use lib.Dec.{leb, ltb, eqb}
 use lib.IntN.{natAbs}
 use Rattle.model.specs.Series.{table}
 use Rattle.model.specs.Verdict.{Verdict, horizon, late, fits}
@@ -44,13 +44,27 @@ unfoldable pub asWords : {A : Type 0} → (A → List ℕ) → Answer A → Answ
 asWords f (answered a) = answered (f a)
 asWords f (refused r) = refused r
 
--- 13 before all else where fewer than n words are lent
-unfoldable pub withWords : {A : Type 0} → ℕ → List ℕ → Answer A → Answer A
-withWords n held a = elim (ltb (length held) n) [ true ↦ refused (record { number = 13; place = n }) | false ↦ a ]
+-- 13: n slots are needed
+abbrev pub tooFew : ℕ → Refusal
+tooFew n = record { number = 13; place = n }
+
+-- the numbers that a call on values checks after its lent slices: 12, those of the releases (7, 8, 9), and 15
+unfoldable pub afterSlots : ℕ → Bool
+afterSlots n = eqb n 12 || (leb 7 n && leb n 9) || eqb n 15
+
+-- one more slice is lent to a call, the last of its slices, and n slots of it are needed. Where the call without it is refused:
+-- 13 if the slots are too few and come before that refusal
+unfoldable pub orTooFew : ℕ → ℕ → Refusal → Refusal
+orTooFew n slots r = elim (ltb slots n && afterSlots (r .number)) [ true ↦ tooFew n | false ↦ r ]
+
+-- and where that call has any answer
+unfoldable pub withSlots : {A : Type 0} → ℕ → ℕ → Answer A → Answer A
+withSlots n slots (answered a) = elim (ltb slots n) [ true ↦ refused (tooFew n) | false ↦ answered a ]
+withSlots n slots (refused r) = refused (orTooFew n slots r)
 
 -- how a call ends that answers in n lent words: what it returns, and what stands in the words, given what they held
-abbrev pub Ends : {A : Type 0} → ℕ → (A → List ℕ) → Answer A → List ℕ → ℕ → List ℕ → Type 0
-Ends n f a held r words = (r ≡ codeIn (withWords n held (asWords f a))) × (words ≡ wordsAfter (withWords n held (asWords f a)) held)
+abbrev pub Ends : ℕ → Answer (List ℕ) → List ℕ → ℕ → List ℕ → Type 0
+Ends n a held r words = (r ≡ codeIn (withSlots n (length held) a)) × (words ≡ wordsAfter (withSlots n (length held) a) held)
 
 -- a number as one word
 abbrev pub oneWord : ℕ → List ℕ

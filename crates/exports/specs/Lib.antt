@@ -1,5 +1,7 @@
 pub mod Interface
 pub mod InterfaceLaws
+pub mod OrderLaws
 pub mod Files
+pub mod ReadLaws
 pub mod FileLaws
 pub mod WriteLaws

@@ -2,9 +2,8 @@
 use Prim.Native.Nat.{ℕ, _≤_, _<_}
 use mathlib.Core.Path.{_≡_, refl, ap, _∙_}
 use mathlib.Core.Option.{Option, some, none}
-use mathlib.Core.List.{List, _∷_, _++_}
+use mathlib.Core.List.{List, [], _∷_, _++_}
 use native.Mathlib.Omega.{arith}
-use borrow.Author.Tests.{lt-ltb, le-ltb}
 use lib.ListN.{length, drop}
 use Rattle.model.specs.Refusal.{Refusal, Answer, refused, answered}
 use Rattle.model.specs.Checks.{Inputs, refusalOf, answerOf}
@@ -12,7 +11,8 @@ use Rattle.model.specs.Calls.{columnAfter}
 use Rattle.taskset.specs.TaskSet.{viewOf}
 use Rattle.fileformat.specs.File.{encode}
 use Rattle.fileformat.specs.FileCalls.{writeInputs, fileOf}
-use Rattle.exports.specs.Interface.{sheetFrom, refusalCode, codeIn, wordsAfter, asWords, withWords}
+use Rattle.exports.specs.Interface.{sheetFrom, refusalCode, codeOf, codeIn, wordsAfter, asWords, orTooFew, withSlots, Ends}
+use Rattle.exports.specs.InterfaceLaws.{with-enough, with-few, words-put}
 use Rattle.exports.specs.Files.{writeAnswer, WriteEnds}
 
 -- the file of a call with these inputs: its bytes and its word
@@ -62,16 +62,21 @@ module _ (sheet : List ℕ) (count n : ℕ) (task tick cost out answer : List �
   file = encode (fileOf (sheetFrom sheet count) n task tick cost)
 
   as-called : 1 ≤ length answer → ended ≡ answerOf inputs file
-  unfolding writeAnswer withWords
-  as-called h = rw (writeAnswer, withWords, le-ltb (length answer) 1 h)
+  unfolding writeAnswer
+  as-called h = with-enough 1 (length answer) (answerOf inputs file) h
 
-  no-words : length answer < 1 → ended ≡ refused (record { number = 13; place = 1 })
-  unfolding writeAnswer withWords
-  no-words h = rw (writeAnswer, withWords, lt-ltb (length answer) 1 h)
+  -- where no word is lent: the refusal of the call without it, unless 13 comes first
+  pub write-stopped
+      : (r number place : ℕ)
+      → some (record { number = number; place = place }) ≡ refusalOf inputs
+      → r ≡ codeOf (some (orTooFew 1 (length answer) (record { number = number; place = place })))
+      → WriteEnds ended out answer r out answer
+  unfolding writeAnswer answerOf withSlots codeOf codeIn wordsAfter asWords
+  write-stopped r number place h e = rw (writeAnswer, answerOf, ← h) (record { code = e; words = refl; bytes = refl })
 
-  pub write-no-words : (r : ℕ) → length answer < 1 → r ≡ refusalCode 13 1 → WriteEnds ended out answer r out answer
-  unfolding codeIn wordsAfter asWords
-  write-no-words r h e = rw (no-words h) (record { code = e; words = refl; bytes = refl })
+  pub write-no-words : (r : ℕ) → length answer < 1 → none ≡ refusalOf inputs → r ≡ refusalCode 13 1 → WriteEnds ended out answer r out answer
+  unfolding writeAnswer answerOf codeIn wordsAfter asWords
+  write-no-words r h g e = rw (writeAnswer, answerOf, ← g, with-few 1 (length answer) file h) (record { code = e; words = refl; bytes = refl })
 
   pub write-refused
       : (r number place : ℕ) (out′ : List ℕ)
@@ -83,10 +88,12 @@ module _ (sheet : List ℕ) (count n : ℕ) (task tick cost out answer : List �
   write-refused r number place out′ h a i b = rw (as-called h) (file-refused inputs file out answer (refusalOf inputs) r number place out′ refl a i b)
 
   pub write-written
-      : (k : ℕ) (out′ answer′ : List ℕ)
+      : (k r : ℕ) (out′ answer′ : List ℕ)
       → 1 ≤ length answer
       → answered k ≡ answerOf inputs (length file)
       → out′ ≡ columnAfter (refusalOf inputs) file out
-      → answer′ ≡ k ∷ drop 1 answer
-      → WriteEnds ended out answer 0 out′ answer′
-  write-written k out′ answer′ h a b w = rw (as-called h) (file-written inputs file out answer (refusalOf inputs) k out′ answer′ refl a b w)
+      → Ends 1 (answered (k ∷ [])) answer r answer′
+      → WriteEnds ended out answer r out′ answer′
+  write-written k r out′ answer′ h a b w =
+      let w′ = words-put 1 (k ∷ []) answer r answer′ h w in
+      rw (as-called h, w′ .0) (file-written inputs file out answer (refusalOf inputs) k out′ answer′ refl a b (w′ .1))

@@ -2,9 +2,11 @@
 // Every call returns 0 where it answered, else number · 2^32 + place of its refusal, and a refusal leaves every lent slot as it was.
 ghost use mathlib.Core.Path.{_≡_};
 ghost use Prim.Native.Nat.{_+_, _≤_, _<_};
-ghost use mathlib.Core.List.{_∷_, _++_};
+ghost use mathlib.Core.Option.{some};
+ghost use mathlib.Core.List.{[], _∷_, _++_};
 ghost use lib.ListN.{length, getD, drop};
 ghost use lib.Seq.{sets};
+ghost use Rattle.model.specs.Refusal.{answered};
 ghost use Rattle.model.specs.Checks.{refusalOf};
 ghost use Rattle.model.specs.Choice.{choice, column};
 ghost use Rattle.model.specs.Ready.{readyList};
@@ -22,8 +24,24 @@ ghost use Rattle.model.specs.Calls.{
   columnAfter,
 };
 ghost use Rattle.taskset.specs.TaskSet.{viewOf, refusalIn};
-ghost use Rattle.exports.specs.Interface.{taskAt, sheetFrom, refusalCode, codeOf, Ends, oneWord, verdictWords, traceWords};
-ghost use Rattle.exports.specs.Files.{taskNumbers, numbersOf, readAnswer, ReadEnds, writeAnswer, WriteEnds};
+ghost use Rattle.fileformat.specs.File.{decode};
+ghost use Rattle.fileformat.specs.FileCalls.{readCount};
+ghost use Rattle.reader.specs.Reader.{outcomeIn};
+ghost use Rattle.exports.specs.Interface.{
+  taskAt,
+  sheetFrom,
+  refusalCode,
+  codeOf,
+  codeIn,
+  asWords,
+  afterSlots,
+  orTooFew,
+  Ends,
+  oneWord,
+  verdictWords,
+  traceWords,
+};
+ghost use Rattle.exports.specs.Files.{taskNumbers, numbersOf, readWithin, readAnswer, ReadEnds, writeAnswer, WriteEnds};
 use demand::ArrivalAnswer;
 use reader::ReadOutcome;
 use taskset::Checked;
@@ -100,23 +118,69 @@ fn code_of(checked: Checked) -> u64
     }
 }
 
-// Writes an answer of two words.
-fn put_two(answer: &mut [u64], a: u64, b: u64)
-    requires { ⌜ 2 ≤ length (now answer) ⌝ }
-    ensures { λ _. ⌜ now (answer .exit) ≡ a ∷ b ∷ drop 2 (now (answer .entry)) ⌝ }
+// Whether a call on values checks a refusal of this number after its lent slices.
+fn after_slots(number: u32) -> bool
+    ensures { λ r. ⌜ r ≡ afterSlots number ⌝ }
 {
-    answer[0] = a;
-    answer[1] = b;
+    if number < 7 {
+        return false;
+    }
+    if number <= 9 {
+        return true;
+    }
+    if number == 12 {
+        return true;
+    }
+    number == 15
 }
 
-// Writes an answer of three words.
-fn put_three(answer: &mut [u64], a: u64, b: u64, c: u64)
-    requires { ⌜ 3 ≤ length (now answer) ⌝ }
-    ensures { λ _. ⌜ now (answer .exit) ≡ a ∷ b ∷ c ∷ drop 3 (now (answer .entry)) ⌝ }
+// The code of a refused call that also needs so many slots for its answer.
+fn slots_code(number: u32, place: usize, needed: usize, slots: usize) -> u64
+    ensures { λ r. ⌜ r ≡ codeOf (some (orTooFew needed slots (record { number = number; place = place }))) ⌝ }
 {
+    if needed <= slots {
+        return refusal_code(number, place);
+    }
+    if after_slots(number) {
+        return refusal_code(13, needed);
+    }
+    refusal_code(number, place)
+}
+
+// Puts an answer of one word, or refuses 13.
+fn put_one(answer: &mut [u64], a: u64) -> u64
+    ensures { λ r. ⌜ Ends 1 (answered (a ∷ [])) (now (answer .entry)) r (now (answer .exit)) ⌝ }
+{
+    if answer.len() < 1 {
+        return refusal_code(13, 1);
+    }
+    answer[0] = a;
+    0
+}
+
+// Puts an answer of two words, or refuses 13.
+fn put_two(answer: &mut [u64], a: u64, b: u64) -> u64
+    ensures { λ r. ⌜ Ends 2 (answered (a ∷ b ∷ [])) (now (answer .entry)) r (now (answer .exit)) ⌝ }
+{
+    if answer.len() < 2 {
+        return refusal_code(13, 2);
+    }
+    answer[0] = a;
+    answer[1] = b;
+    0
+}
+
+// Puts an answer of three words, or refuses 13.
+fn put_three(answer: &mut [u64], a: u64, b: u64, c: u64) -> u64
+    ensures { λ r. ⌜ Ends 3 (answered (a ∷ b ∷ c ∷ [])) (now (answer .entry)) r (now (answer .exit)) ⌝ }
+{
+    if answer.len() < 3 {
+        return refusal_code(13, 3);
+    }
     answer[0] = a;
     answer[1] = b;
     answer[2] = c;
+    0
 }
 
 // Arrival count of one task in t ticks, with kept jitters: one word.
@@ -130,21 +194,15 @@ pub extern "C" fn nolkrada_arrival_count(
     answer: &mut [u64],
 ) -> u64
     ensures { λ r. ⌜
-        Ends 1 oneWord (arrivalCall (viewOf (sheetFrom (now (sheet .entry)) count)) task (now (kept .entry)) t)
+        Ends 1 (asWords oneWord (arrivalCall (viewOf (sheetFrom (now (sheet .entry)) count)) task (now (kept .entry)) t))
         (now (answer .entry)) r (now (answer .exit))
         ⌝ }
 {
-    if answer.len() < 1 {
-        return refusal_code(13, 1);
-    }
     let s = sheet_from(sheet, count);
     let got = demand::arrival_count(s, task as usize, kept, t);
     match got {
-        ArrivalAnswer::Refused { number, place } => refusal_code(number, place),
-        ArrivalAnswer::Count(n) => {
-            answer[0] = n;
-            0
-        }
+        ArrivalAnswer::Refused { number, place } => slots_code(number, place, 1, answer.len()),
+        ArrivalAnswer::Count(n) => put_one(answer, n),
     }
 }
 
@@ -158,29 +216,17 @@ pub extern "C" fn nolkrada_verdict(
     answer: &mut [u64],
 ) -> u64
     ensures { λ r. ⌜
-        Ends 3 verdictWords (verdictCall (viewOf (sheetFrom (now (sheet .entry)) count)) task (now (kept .entry)))
+        Ends 3 (asWords verdictWords (verdictCall (viewOf (sheetFrom (now (sheet .entry)) count)) task (now (kept .entry))))
         (now (answer .entry)) r (now (answer .exit))
         ⌝ }
 {
-    if answer.len() < 3 {
-        return refusal_code(13, 3);
-    }
     let s = sheet_from(sheet, count);
     let got = verdict::verdict(s, task as usize, kept);
     match got {
-        VerdictAnswer::Refused { number, place } => refusal_code(number, place),
-        VerdictAnswer::Horizon { q } => {
-            put_three(answer, 0, q as u64, 0);
-            0
-        }
-        VerdictAnswer::Late { q, bound } => {
-            put_three(answer, 1, q as u64, bound as u64);
-            0
-        }
-        VerdictAnswer::Fits { worst, q } => {
-            put_three(answer, 2, q as u64, worst as u64);
-            0
-        }
+        VerdictAnswer::Refused { number, place } => slots_code(number, place, 3, answer.len()),
+        VerdictAnswer::Horizon { q } => put_three(answer, 0, q as u64, 0),
+        VerdictAnswer::Late { q, bound } => put_three(answer, 1, q as u64, bound as u64),
+        VerdictAnswer::Fits { worst, q } => put_three(answer, 2, q as u64, worst as u64),
     }
 }
 
@@ -213,25 +259,16 @@ pub extern "C" fn nolkrada_trace_check(
     answer: &mut [u64],
 ) -> u64
     ensures { λ r. ⌜
-        Ends 2 traceWords (traceCall (viewOf (sheetFrom (now (sheet .entry)) count)) n (now (task .entry)) (now (tick .entry)) (now (cost .entry)))
+        Ends 2 (asWords traceWords (traceCall (viewOf (sheetFrom (now (sheet .entry)) count)) n (now (task .entry)) (now (tick .entry)) (now (cost .entry))))
         (now (answer .entry)) r (now (answer .exit))
         ⌝ }
 {
-    if answer.len() < 2 {
-        return refusal_code(13, 2);
-    }
     let s = sheet_from(sheet, count);
     let got = trace::check_trace(s, n as usize, task, tick, cost);
     match got {
-        TraceAnswer::Refused { number, place } => refusal_code(number, place),
-        TraceAnswer::Legal => {
-            put_two(answer, 0, 0);
-            0
-        }
-        TraceAnswer::TooClose { release } => {
-            put_two(answer, 1, release as u64);
-            0
-        }
+        TraceAnswer::Refused { number, place } => slots_code(number, place, 2, answer.len()),
+        TraceAnswer::Legal => put_two(answer, 0, 0),
+        TraceAnswer::TooClose { release } => put_two(answer, 1, release as u64),
     }
 }
 
@@ -301,6 +338,51 @@ fn put_sheet(s: TaskSet, sheet: &mut [u32])
     }
 }
 
+// How many releases a file has, or what is wrong with it. The reader tells the number even where its columns are too short: as the place of its 13.
+fn releases_in(file: &[u8]) -> ReadOutcome
+    ensures { λ r. ⌜ outcomeIn r ≡ readCount (decode (now (file .entry))) ⌝ }
+{
+    let mut task = [0; 1];
+    let mut tick = [0; 1];
+    let mut cost = [0; 1];
+    let got = reader::read(file, &mut task, &mut tick, &mut cost);
+    let outcome = got.outcome;
+    if let ReadOutcome::Refused { number, place } = outcome {
+        if number == 13 {
+            return ReadOutcome::Read { releases: place };
+        }
+    }
+    outcome
+}
+
+// What a read returns, given how many slots are lent for the sheet, each column and the answer. It changes none of them.
+fn read_code(file: &[u8], sheet: usize, task: usize, tick: usize, cost: usize, answer: usize) -> u64
+    ensures { λ r. ⌜ r ≡ codeIn (readWithin (decode (now (file .entry))) sheet task tick cost answer) ⌝ }
+{
+    let found = releases_in(file);
+    match found {
+        ReadOutcome::Refused { number, place } => refusal_code(number, place),
+        ReadOutcome::Read { releases } => {
+            if sheet < 128 {
+                return refusal_code(13, 128);
+            }
+            if task < releases {
+                return refusal_code(13, releases);
+            }
+            if tick < releases {
+                return refusal_code(13, releases);
+            }
+            if cost < releases {
+                return refusal_code(13, releases);
+            }
+            if answer < 2 {
+                return refusal_code(13, 2);
+            }
+            0
+        }
+    }
+}
+
 // Reads a file: the 128 numbers of its sheet, three columns of releases, and two words.
 #[no_mangle]
 pub extern "C" fn nolkrada_read(
@@ -313,11 +395,25 @@ pub extern "C" fn nolkrada_read(
 ) -> u64
     ensures { λ r. ⌜ ReadEnds (readAnswer (now (file .entry)) (now (sheet .entry)) (now (task .entry)) (now (tick .entry)) (now (cost .entry)) (now (answer .entry))) (now (sheet .entry)) (now (task .entry)) (now (tick .entry)) (now (cost .entry)) (now (answer .entry)) r (now (sheet .exit)) (now (task .exit)) (now (tick .exit)) (now (cost .exit)) (now (answer .exit)) ⌝ }
 {
-    if answer.len() < 2 {
-        return refusal_code(13, 2);
-    }
     if sheet.len() < 128 {
-        return refusal_code(13, 128);
+        return read_code(
+            file,
+            sheet.len(),
+            task.len(),
+            tick.len(),
+            cost.len(),
+            answer.len(),
+        );
+    }
+    if answer.len() < 2 {
+        return read_code(
+            file,
+            sheet.len(),
+            task.len(),
+            tick.len(),
+            cost.len(),
+            answer.len(),
+        );
     }
     let got = reader::read(file, task, tick, cost);
     let outcome = got.outcome;
@@ -326,8 +422,7 @@ pub extern "C" fn nolkrada_read(
         ReadOutcome::Refused { number, place } => refusal_code(number, place),
         ReadOutcome::Read { releases } => {
             put_sheet(tasks, sheet);
-            put_two(answer, tasks.count as u64, releases as u64);
-            0
+            put_two(answer, tasks.count as u64, releases as u64)
         }
     }
 }
@@ -346,16 +441,17 @@ pub extern "C" fn nolkrada_write(
 ) -> u64
     ensures { λ r. ⌜ WriteEnds (writeAnswer (now (sheet .entry)) count n (now (task .entry)) (now (tick .entry)) (now (cost .entry)) (now (out .entry)) (now (answer .entry))) (now (out .entry)) (now (answer .entry)) r (now (out .exit)) (now (answer .exit)) ⌝ }
 {
+    let s = sheet_from(sheet, count);
     if answer.len() < 1 {
+        let checked = writer::check_write(s, n as usize, task, tick, cost, out.len());
+        if let Checked::Refused { number, place } = checked {
+            return slots_code(number, place, 1, answer.len());
+        }
         return refusal_code(13, 1);
     }
-    let s = sheet_from(sheet, count);
     let got = writer::write(s, n as usize, task, tick, cost, out);
     match got {
         WriteAnswer::Refused { number, place } => refusal_code(number, place),
-        WriteAnswer::Written { bytes } => {
-            answer[0] = bytes as u64;
-            0
-        }
+        WriteAnswer::Written { bytes } => put_one(answer, bytes as u64),
     }
 }

@@ -141,18 +141,6 @@ module _ (P K : ℕ) (a : List ℕ) (w : Within P a) where
         periods-le P n 1023 (w .period-high) (omega (arith, w .few)),
       )
 
-  pub next-within : (x : ℕ) → length a < maxReleases → x ≤ maxTick → readyNext P K (historyOf P K a) x ≤ maxReady
-  unfolding due
-  next-within x l g =
-      next-le
-      P
-      K
-      (historyOf P K a)
-      x
-      maxReady
-      (omega arith)
-      (omega (arith, due-history P K [] a maxTick (omega arith) (w .ticks-high), periods-le P (length a) 1023 (w .period-high) (omega arith)))
-
 -- the state of a task in a list: it stands for the releases before the first ..
 pub history-none : (P K : ℕ) → historyOf P K [] ≡ []
 unfolding readyFrom

@@ -10,7 +10,7 @@ use native.Mathlib.Decide.{ℕ-discrete}
 use native.Mathlib.Numerals.{add-one}
 use borrow.Author.Tests.{lt-ltb, le-ltb}
 use lib.Dec.{ltb}
-use lib.ListN.{length, getD, take}
+use lib.ListN.{length, getD, take, set}
 use Rattle.model.specs.Search.{first}
 use Rattle.model.specs.Tasks.{Tasks, Release, releaseAt}
 use Rattle.model.specs.Refusal.{answered}
@@ -19,14 +19,15 @@ use Rattle.model.specs.Ready.{after, readyNext}
 use Rattle.model.specs.Legality.{earlier, tooClose, firstClose}
 use Rattle.model.specs.Calls.{releasesOf}
 use Rattle.model.proofs.SearchLaws.{Sought, sought-none, sought-next, sought-here, sought-all}
+use Rattle.shaper.specs.declared.Shaper.{Shaper}
 use Rattle.shaper.specs.declared.Shaped.{Shaped}
 use Rattle.shaper.specs.ReadyLaws.{next-not-before}
 use Rattle.shaper.specs.ShaperLaws.{history-none}
 use Rattle.releases.proofs.ReleaseLaws.{length-releases}
-use Rattle.trace.specs.Shapers.{Shapers, freshShapers, storeIn}
+use Rattle.trace.specs.Standing.{Standing}
 use Rattle.trace.specs.TraceCalls.{Shapable}
 use Rattle.trace.proofs.StandingLaws.{historyAt, history-next, own-next, own-still}
-use Rattle.trace.proofs.WalkLaws.{Walking, walk-fresh, walk-next, walk-history, stepAt, inside, task-is, tick-is}
+use Rattle.trace.proofs.WalkLaws.{Walking, walk-fresh, walk-next, walk-history, Step, inside, task-is, tick-is}
 
 -- no release before p was too close, so that the shapers with the full jitters have moved none of them
 abbrev pub Still : Tasks → List Release → ℕ → Type 0
@@ -67,17 +68,17 @@ module _ (s : Tasks) (l : List Release) (p i a : ℕ) (h : p < length l) (of-tas
       other n = rw (own-still l p h j (λ e. n (sym of-task ∙ e))) (still j)
 
 -- the invariant of the loop that looks for the first release that is too close
-pub record Tracing (s : Tasks) (n : ℕ) (task tick : List ℕ) (m : Shapers) (p : ℕ) : Type 0 where
+pub record Tracing (s : Tasks) (n : ℕ) (task tick : List ℕ) (m : List Shaper) (p : ℕ) : Type 0 where
   pub walking : Walking s (s .jitter) n task tick m p
   pub still : (cost : List ℕ) → Still s (releasesOf n task tick cost) p
   pub sought : (cost : List ℕ) → Sought (tooClose s (releasesOf n task tick cost)) n p
 
 module _ (s : Tasks) (n : ℕ) (task tick : List ℕ) where
-  pub tracing-none : Tracing s n task tick freshShapers 0
+  pub tracing-none : (m : List Shaper) → Standing (s .period) (s .jitter) (λ i. []) (s .count) m → Tracing s n task tick m 0
   unfolding own
-  tracing-none =
+  tracing-none m st =
       record {
-        walking = walk-fresh s (s .jitter) n task tick;
+        walking = walk-fresh s (s .jitter) n task tick m st;
         still = λ cost i. history-none (s .period i) (s .jitter i);
         sought = λ cost. sought-none _ n;
       }
@@ -86,15 +87,15 @@ module _ (s : Tasks) (n : ℕ) (task tick : List ℕ) where
   unfolding firstClose
   first-of cost = ap (λ (x : ℕ). first (tooClose s (releasesOf n task tick cost)) x 0) (length-releases n task tick cost)
 
-  pub tracing-all : (m : Shapers) (p : ℕ) → Tracing s n task tick m p → n ≤ p → (cost : List ℕ) → answered none ≡ answered (firstClose s (releasesOf n task tick cost))
+  pub tracing-all : (m : List Shaper) (p : ℕ) → Tracing s n task tick m p → n ≤ p → (cost : List ℕ) → answered none ≡ answered (firstClose s (releasesOf n task tick cost))
   tracing-all m p f h cost = ap answered (sym (first-of cost ∙ sought-all _ n p (f .sought cost) h))
 
-  module _ (w : Shapable s n task tick) (m : Shapers) (p : ℕ) (f : Tracing s n task tick m p) (h : p < n) (r : Shaped) (e : r ≡ stepAt s (s .jitter) task tick m p) where
+  module _ (w : Shapable s n task tick) (m : List Shaper) (p : ℕ) (f : Tracing s n task tick m p) (h : p < n) (r : Shaped) (e : Step task tick m p r) where
     ready-is
         : (cost : List ℕ)
         → r .ready
         ≡ readyNext (s .period (getD task p 0)) (s .jitter (getD task p 0)) (historyAt s (s .jitter) (releasesOf n task tick cost) p (getD task p 0)) (getD tick p 0)
-    ready-is cost = rw e (walk-history s (s .jitter) n task tick w m p (f .walking) h cost)
+    ready-is cost = walk-history s (s .jitter) n task tick w m p (f .walking) h r e cost
 
     pub tracing-close : getD tick p 0 < r .ready → (cost : List ℕ) → answered (some p) ≡ answered (firstClose s (releasesOf n task tick cost))
     tracing-close g cost =
@@ -103,10 +104,10 @@ module _ (s : Tasks) (n : ℕ) (task tick : List ℕ) where
         (first-of cost
         ∙ sought-here _ n p (f .sought cost) h (close-yes s _ p _ _ (inside n task tick cost p h) (task-is n task tick cost p h) (tick-is n task tick cost p h) (f .still cost) (rw (ready-is cost) at g))))
 
-    pub tracing-next : r .ready ≤ getD tick p 0 → Tracing s n task tick (storeIn m (getD task p 0) (r .state)) (p + 1)
+    pub tracing-next : r .ready ≤ getD tick p 0 → Tracing s n task tick (set m (getD task p 0) (r .state)) (p + 1)
     tracing-next g =
         record {
-          walking = rw e (walk-next s (s .jitter) n task tick w m p (f .walking) h);
+          walking = walk-next s (s .jitter) n task tick w m p (f .walking) h r e;
           still = λ cost. rw add-one (still-next s _ p _ _ (inside n task tick cost p h) (task-is n task tick cost p h) (tick-is n task tick cost p h) (f .still cost) (rw (ready-is cost) at g));
           sought = λ cost.
               sought-next _ n p (f .sought cost) h (close-no s _ p _ _ (inside n task tick cost p h) (task-is n task tick cost p h) (tick-is n task tick cost p h) (f .still cost) (rw (ready-is cost) at g));

@@ -10,49 +10,47 @@ use Rattle.model.specs.Series.{table}
 use Rattle.model.specs.Tasks.{Tasks}
 use Rattle.model.specs.Ready.{readyAt, readyList}
 use Rattle.model.specs.Calls.{releasesOf}
+use Rattle.shaper.specs.declared.Shaper.{Shaper}
 use Rattle.shaper.specs.declared.Shaped.{Shaped}
 use Rattle.releases.proofs.ReleaseLaws.{length-releases}
-use Rattle.trace.specs.Shapers.{Shapers, freshShapers, storeIn}
+use Rattle.trace.specs.Standing.{Standing}
 use Rattle.trace.specs.TraceCalls.{Shapable}
-use Rattle.trace.proofs.WalkLaws.{Walking, walk-fresh, walk-next, walk-ready, stepAt}
+use Rattle.trace.proofs.WalkLaws.{Walking, walk-fresh, walk-next, walk-ready, Step}
 
 -- the invariant of the loop that writes ready ticks
-pub record Filling (s : Tasks) (k : ℕ → ℕ) (n : ℕ) (task tick o₀ : List ℕ) (m : Shapers) (o : List ℕ) (p : ℕ) : Type 0 where
+pub record Filling (s : Tasks) (k : ℕ → ℕ) (n : ℕ) (task tick o₀ : List ℕ) (m : List Shaper) (o : List ℕ) (p : ℕ) : Type 0 where
   pub walking : Walking s k n task tick m p
   pub long : length o ≡ length o₀
   pub kept : drop p o ≡ drop p o₀
   pub done : (cost : List ℕ) → take p o ≡ table (readyAt s k (releasesOf n task tick cost)) p
 
 module _ (s : Tasks) (k : ℕ → ℕ) (n : ℕ) (task tick o₀ : List ℕ) where
-  pub filling-none : Filling s k n task tick o₀ freshShapers o₀ 0
+  pub filling-none : (m : List Shaper) → Standing (s .period) k (λ i. []) (s .count) m → Filling s k n task tick o₀ m o₀ 0
   unfolding table
-  filling-none = record { walking = walk-fresh s k n task tick; long = refl; kept = refl; done = λ cost. refl }
+  filling-none m st = record { walking = walk-fresh s k n task tick m st; long = refl; kept = refl; done = λ cost. refl }
 
   pub filling-next
       : Shapable s n task tick
       → n ≤ length o₀
-      → (m : Shapers) (o : List ℕ) (p : ℕ)
+      → (m : List Shaper) (o : List ℕ) (p : ℕ)
       → Filling s k n task tick o₀ m o p
       → p < n
       → (g : Shaped)
-      → g ≡ stepAt s k task tick m p
-      → Filling s k n task tick o₀ (storeIn m (getD task p 0) (g .state)) (set o p (g .ready)) (p + 1)
+      → Step task tick m p g
+      → Filling s k n task tick o₀ (set m (getD task p 0) (g .state)) (set o p (g .ready)) (p + 1)
   unfolding table
-  filling-next w long m o p f h g e = rw e next
-    where
-      next : Filling s k n task tick o₀ (storeIn m (getD task p 0) (stepAt s k task tick m p .state)) (set o p (stepAt s k task tick m p .ready)) (p + 1)
-      next =
-          record {
-            walking = walk-next s k n task tick w m p (f .walking) h;
-            long = simp length-set (f .long);
-            kept = drop-set-lt (p + 1) o p _ (omega arith) ∙ sym (drop-drop 1 p o) ∙ ap (drop 1) (f .kept) ∙ drop-drop 1 p o₀;
-            done = λ cost.
-                rw (add-one, take-suc-set o p (stepAt s k task tick m p .ready) (omega (arith, f .long)))
-                (ap₂ (λ (x : List ℕ) (y : ℕ). x ++ (y ∷ [])) (f .done cost) (walk-ready s k n task tick w m p (f .walking) h cost));
-          }
+  filling-next w long m o p f h g e =
+      record {
+        walking = walk-next s k n task tick w m p (f .walking) h g e;
+        long = simp length-set (f .long);
+        kept = drop-set-lt (p + 1) o p _ (omega arith) ∙ sym (drop-drop 1 p o) ∙ ap (drop 1) (f .kept) ∙ drop-drop 1 p o₀;
+        done = λ cost.
+            rw (add-one, take-suc-set o p (g .ready) (omega (arith, f .long)))
+            (ap₂ (λ (x : List ℕ) (y : ℕ). x ++ (y ∷ [])) (f .done cost) (walk-ready s k n task tick w m p (f .walking) h g e cost));
+      }
 
   pub filling-all
-      : (m : Shapers) (o : List ℕ) (p : ℕ)
+      : (m : List Shaper) (o : List ℕ) (p : ℕ)
       → Filling s k n task tick o₀ m o p
       → n ≤ p
       → (cost : List ℕ)

@@ -8,19 +8,19 @@ use native.Mathlib.Omega.{arith}
 use native.Mathlib.Decide.{ℕ-discrete}
 use borrow.Author.Tests.{ne-eqb}
 use lib.Dec.{eqb}
-use lib.ListN.{length, getD, take, drop, getD-replicate, length-set}
-use lib.Seq.{take-suc, split-at, length-take-le, getD-take, getD-set-same, getD-set-other}
+use lib.ListN.{length, getD, take, drop, set, replicate, length-set}
+use lib.Seq.{take-suc, length-take-le, getD-take, getD-set-same, getD-set-other}
 use Rattle.model.specs.Limits.{maxTasks, maxTime, maxReleases, maxTick}
 use Rattle.model.specs.Tasks.{Tasks, Release, releaseAt, noRelease}
 use Rattle.model.specs.Gap.{own}
 use Rattle.model.specs.Ready.{readyNext, readyTicks, readyAt}
 use Rattle.shaper.specs.declared.Shaper.{Shaper}
 use Rattle.shaper.specs.declared.Shaped.{Shaped}
-use Rattle.shaper.specs.Shaper.{latest, due, stateOf, shapedAfter, shapeOne, Small}
+use Rattle.shaper.specs.Shaper.{stateOf, Small, Shapes}
 use Rattle.shaper.specs.History.{historyOf, history-snoc, ready-here}
-use Rattle.shaper.specs.ShaperLaws.{shape-after, Within, small-within, history-none}
-use Rattle.trace.specs.Shapers.{Shapers, freshShapers, stateIn, storeIn}
-use Rattle.trace.specs.PositionLaws.{own-append, own-same, own-at, place-of, Held, held}
+use Rattle.shaper.specs.ShaperLaws.{Within, small-within, history-none, shapes-list}
+use Rattle.trace.specs.Standing.{Standing}
+use Rattle.trace.specs.PositionLaws.{own-append, own-same, own-split, own-at, place-of, Held, held}
 use Rattle.trace.specs.ReadyAtLaws.{ready-own}
 
 -- one release of another task in front
@@ -80,83 +80,90 @@ pub history-next
 history-next s k l p i a h e f =
     ap (historyOf (s .period i) (k i)) (own-next l p h i a e f) ∙ history-snoc (s .period i) (k i) (own i (take p l)) a
 
--- the shapers stand for the releases before position p
-pub record Standing (s : Tasks) (k : ℕ → ℕ) (l : List Release) (m : Shapers) (p : ℕ) : Type 0 where
-  pub last-long : length (m .last) ≡ maxTasks
-  pub next-long : length (m .next) ≡ maxTasks
-  pub state : (i : ℕ) → i < maxTasks → stateIn m i (s .period i) (k i) ≡ stateOf (s .period i) (k i) (historyAt s k l p i)
+-- no shaper yet
+pub standing-none : (P K : ℕ → ℕ) (h : ℕ → List ℕ) (x : Shaper) → Standing P K h 0 (replicate maxTasks x)
+standing-none P K h x = record { long = refl; state = λ i g d. absurd (omega arith) }
 
-module _ (s : Tasks) (k : ℕ → ℕ) (l : List Release) where
-  pub standing-fresh : Standing s k l freshShapers 0
-  unfolding own latest due
-  standing-fresh =
-      record {
-        last-long = refl;
-        next-long = refl;
-        state = λ i h. rw (getD-replicate {A = ℕ} maxTasks i 0 0 h, history-none (s .period i) (k i));
-      }
+-- the shapers of fewer tasks
+pub standing-fewer : (P K : ℕ → ℕ) (h : ℕ → List ℕ) (n c : ℕ) (m : List Shaper) → Standing P K h n m → c ≤ n → Standing P K h c m
+standing-fewer P K h n c m st g = record { long = st .long; state = λ i l d. st .state i (omega arith) d }
+
+-- the shaper of task i stored: the others stand for what they stood for
+standing-set
+    : (P K : ℕ → ℕ) (h h′ : ℕ → List ℕ) (n n′ : ℕ) (m : List Shaper) (i : ℕ) (x : Shaper)
+    → Standing P K h n m
+    → i < maxTasks
+    → x ≡ stateOf (P i) (K i) (h′ i)
+    → ((j : ℕ) → j < n′ → (i ≡ j → ⊥) → (j < n) × (h′ j ≡ h j))
+    → Standing P K h′ n′ (set m i x)
+standing-set P K h h′ n n′ m i x st placed e others =
+    record { long = simp length-set (st .long); state = λ j g d. dite (ℕ-discrete i j) (same d) (other j g d) }
+  where
+    same : (d : Shaper) {j : ℕ} → i ≡ j → getD (set m i x) j d ≡ stateOf (P j) (K j) (h′ j)
+    same d {j} c = rw (← c) (getD-set-same m i x d (omega (arith, st .long)) ∙ e)
+
+    other : (j : ℕ) → j < n′ → (d : Shaper) → (i ≡ j → ⊥) → getD (set m i x) j d ≡ stateOf (P j) (K j) (h′ j)
+    other j g d c =
+        getD-set-other m i j x d (λ f. c (sym f)) ∙ st .state j (others j g c .0) d ∙ ap (stateOf (P j) (K j)) (sym (others j g c .1))
+
+-- one shaper more, before its first job
+pub standing-more
+    : (P K : ℕ → ℕ) (n : ℕ) (m : List Shaper) (x : Shaper)
+    → Standing P K (λ i. []) n m
+    → n < maxTasks
+    → x ≡ stateOf (P n) (K n) []
+    → Standing P K (λ i. []) (n + 1) (set m n x)
+standing-more P K n m x st placed e = standing-set P K _ _ n (n + 1) m n x st placed e (λ j g c. (omega (arith, c), refl))
+
+-- the shapers stand for the releases before position p
+abbrev pub StandingAt : Tasks → (ℕ → ℕ) → List Release → List Shaper → ℕ → Type 0
+StandingAt s k l m p = Standing (s .period) k (historyAt s k l p) (s .count) m
+
+module _ (s : Tasks) (k : ℕ → ℕ) (l : List Release) (m : List Shaper) where
+  pub standing-fresh : Standing (s .period) k (λ i. []) (s .count) m → StandingAt s k l m 0
+  unfolding own
+  standing-fresh st =
+      record { long = st .long; state = λ i h d. st .state i h d ∙ ap (stateOf (s .period i) (k i)) (sym (history-none (s .period i) (k i))) }
 
   -- the release at p, of task i at tick a, goes through its shaper
   module _
-      (m : Shapers) (p i a : ℕ)
-      (st : Standing s k l m p)
+      (p i a : ℕ)
+      (st : StandingAt s k l m p)
       (h : p < length l)
       (of-task : releaseAt l p .task ≡ i)
       (at-tick : releaseAt l p .tick ≡ a)
-      (known : i < maxTasks) where
-    abbrev stepped : Shaped
-    stepped = shapeOne (stateIn m i (s .period i) (k i)) a
+      (few : s .count ≤ maxTasks)
+      (known : i < s .count)
+      (d : Shaper) where
+    module _ (g : Shaped) (shapes : Shapes (getD m i d) a g) where
+      -- the step's ready tick, by the task's history ..
+      pub step-next : g .ready ≡ readyNext (s .period i) (k i) (historyAt s k l p i) a
+      step-next = shapes-list (s .period i) (k i) (own i (take p l)) a (getD m i d) g shapes (st .state i known d) .0
 
-    shaped : stepped ≡ shapedAfter (s .period i) (k i) (historyAt s k l p i) a
-    shaped = ap (λ (x : Shaper). shapeOne x a) (st .state i known) ∙ shape-after (s .period i) (k i) (historyAt s k l p i) a
+      -- .. and in the whole list
+      pub step-ready : g .ready ≡ readyAt s k l p
+      step-ready =
+          step-next
+          ∙ sym
+          (ready-own s k l i p of-task
+          ∙ ap₂ (λ (x : List ℕ) (y : ℕ). getD (readyTicks (s .period i) (k i) x) y 0)
+          (own-split l i p h of-task ∙ ap (λ (x : ℕ). own i (take p l) ++ (x ∷ own i (drop (suc p) l))) at-tick)
+          (place-of l i p of-task)
+          ∙ ready-here (s .period i) (k i) (own i (take p l)) a (own i (drop (suc p) l)))
 
-    -- the step's ready tick, by the task's history ..
-    pub step-next : stepped .ready ≡ readyNext (s .period i) (k i) (historyAt s k l p i) a
-    step-next = ap (λ (x : Shaped). x .ready) shaped
+      -- its state, one position further
+      step-state : g .state ≡ stateOf (s .period i) (k i) (historyAt s k l (suc p) i)
+      step-state =
+          shapes-list (s .period i) (k i) (own i (take p l)) a (getD m i d) g shapes (st .state i known d) .1
+          ∙ ap (λ (x : List ℕ). stateOf (s .period i) (k i) (historyOf (s .period i) (k i) x)) (sym (own-next l p h i a of-task at-tick))
 
-    own-about : own i l ≡ own i (take p l) ++ (a ∷ own i (drop (suc p) l))
-    own-about =
-        ap (own i) (split-at l p noRelease h) ∙ own-append i (take p l) (releaseAt l p ∷ drop (suc p) l)
-        ∙ ap (λ (x : List ℕ). own i (take p l) ++ x)
-        (own-same i (releaseAt l p) (drop (suc p) l) of-task ∙ ap (λ (x : ℕ). x ∷ own i (drop (suc p) l)) at-tick)
-
-    -- .. and in the whole list
-    pub step-ready : stepped .ready ≡ readyAt s k l p
-    step-ready =
-        step-next
-        ∙ sym
-        (ready-own s k l i p of-task
-        ∙ ap₂ (λ (x : List ℕ) (y : ℕ). getD (readyTicks (s .period i) (k i) x) y 0) own-about (place-of l i p of-task)
-        ∙ ready-here (s .period i) (k i) (own i (take p l)) a (own i (drop (suc p) l)))
-
-    pub standing-step : Standing s k l (storeIn m i (stepped .state)) (suc p)
-    standing-step =
-        record {
-          last-long = simp length-set (st .last-long);
-          next-long = simp length-set (st .next-long);
-          state = λ j g. dite (ℕ-discrete i j) same (other j g);
-        }
-      where
-        by : ℕ → ℕ → ℕ → Shaper
-        by j x y = record { period = s .period j; keep = k j; last = x; next = y }
-
-        same-here : stateIn (storeIn m i (stepped .state)) i (s .period i) (k i) ≡ stateOf (s .period i) (k i) (historyAt s k l (suc p) i)
-        same-here =
-            ap₂ (by i) (getD-set-same (m .last) i _ 0 (omega arith)) (getD-set-same (m .next) i _ 0 (omega arith))
-            ∙ ap (λ (x : Shaped). x .state) shaped
-            ∙ ap (stateOf (s .period i) (k i)) (sym (history-next s k l p i a h of-task at-tick))
-
-        same : {j : ℕ} → i ≡ j → stateIn (storeIn m i (stepped .state)) j (s .period j) (k j) ≡ stateOf (s .period j) (k j) (historyAt s k l (suc p) j)
-        same {j} e = rw (← e) same-here
-
-        other : (j : ℕ) → j < maxTasks → (i ≡ j → ⊥) → stateIn (storeIn m i (stepped .state)) j (s .period j) (k j) ≡ stateOf (s .period j) (k j) (historyAt s k l (suc p) j)
-        other j g n =
-            ap₂ (by j) (getD-set-other (m .last) i j _ 0 (λ e. n (sym e))) (getD-set-other (m .next) i j _ 0 (λ e. n (sym e)))
-            ∙ st .state j g
-            ∙ ap (λ (x : List ℕ). stateOf (s .period j) (k j) (historyOf (s .period j) (k j) x)) (sym (own-still l p h j (λ e. n (sym of-task ∙ e))))
+      pub standing-step : StandingAt s k l (set m i (g .state)) (suc p)
+      standing-step =
+          standing-set (s .period) k (historyAt s k l p) (historyAt s k l (suc p)) (s .count) (s .count) m i (g .state) st (omega arith) step-state
+          (λ j c n. (c, ap (historyOf (s .period j) (k j)) (own-still l p h j (λ e. n (sym of-task ∙ e)))))
 
     -- a step that the list's limits allow
-    module _ (period-high : s .period i ≤ maxTime) (few : length l ≤ maxReleases) (tick-high : (q : ℕ) → q < length l → releaseAt l q .tick ≤ maxTick) where
+    module _ (period-high : s .period i ≤ maxTime) (short : length l ≤ maxReleases) (tick-high : (q : ℕ) → q < length l → releaseAt l q .tick ≤ maxTick) where
       high : a ≤ maxTick
       high = rw (← at-tick) (tick-high p h)
 
@@ -168,5 +175,5 @@ module _ (s : Tasks) (k : ℕ → ℕ) (l : List Release) where
           within-own (s .period i) i (take p l) period-high (omega (arith, long))
           (λ q g. rw (getD-take p l q noRelease (omega (arith, long))) (tick-high q (omega (arith, long))))
 
-      pub step-small : Small (stateIn m i (s .period i) (k i)) a
-      step-small = rw (st .state i known) (small-within (s .period i) (k i) (own i (take p l)) own-within a high)
+      pub step-small : Small (getD m i d) a
+      step-small = rw (st .state i known d) (small-within (s .period i) (k i) (own i (take p l)) own-within a high)

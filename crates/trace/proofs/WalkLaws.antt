@@ -4,27 +4,23 @@ use mathlib.Core.Path.{_≡_, ap, _∙_}
 use mathlib.Core.List.{List, [], _++_}
 use native.Mathlib.Omega.{arith}
 use native.Mathlib.Numerals.{add-one}
-use lib.ListN.{length, getD, List·getD-append}
-use Rattle.model.specs.Limits.{maxTasks, maxReleases, maxTick}
+use lib.ListN.{length, getD, set, List·getD-append}
+use Rattle.model.specs.Limits.{maxReleases, maxTick}
 use Rattle.model.specs.Tasks.{Tasks, Release, releaseAt}
 use Rattle.model.specs.Gap.{own}
 use Rattle.model.specs.Ready.{readyNext, readyAt, readyList, place}
 use Rattle.model.specs.Calls.{releasesOf}
 use Rattle.shaper.specs.declared.Shaper.{Shaper}
 use Rattle.shaper.specs.declared.Shaped.{Shaped}
-use Rattle.shaper.specs.Shaper.{shapeOne, Small, Shapes}
+use Rattle.shaper.specs.Shaper.{Small, Shapes}
 use Rattle.shaper.specs.ShaperLaws.{maxReady, ready-within}
 use Rattle.releases.proofs.ReleaseLaws.{length-releases, release-at}
 use Rattle.model.proofs.TableLaws.{length-table, getD-table}
-use Rattle.trace.specs.Shapers.{Shapers, freshShapers, stateIn, storeIn}
+use Rattle.trace.specs.Standing.{Standing}
 use Rattle.trace.specs.TraceCalls.{Shapable}
 use Rattle.trace.specs.PositionLaws.{place-inside}
 use Rattle.trace.specs.ReadyAtLaws.{ready-own}
-use Rattle.trace.proofs.StandingLaws.{within-own, historyAt, Standing, standing-fresh, standing-step, step-next, step-ready, step-small}
-
--- a step of the code is one step of the definition
-pub step-by : (st : Shaper) (a x : ℕ) (g : Shaped) → Shapes st x g → x ≡ a → g ≡ shapeOne st a
-step-by st a x g f e = f .step ∙ ap (shapeOne st) e
+use Rattle.trace.proofs.StandingLaws.{within-own, historyAt, StandingAt, standing-fresh, standing-step, step-next, step-ready, step-small}
 
 -- the release at p of three columns
 module _ (n : ℕ) (task tick cost : List ℕ) (p : ℕ) (h : p < n) where
@@ -68,51 +64,63 @@ ready-slot s k n task tick cost rest p h =
     ∙ getD-table (readyAt s k l) 0 (length l) p (inside n task tick cost p h)
 
 -- a loop over the releases of three columns has passed every release before p
-pub record Walking (s : Tasks) (k : ℕ → ℕ) (n : ℕ) (task tick : List ℕ) (m : Shapers) (p : ℕ) : Type 0 where
+pub record Walking (s : Tasks) (k : ℕ → ℕ) (n : ℕ) (task tick : List ℕ) (m : List Shaper) (p : ℕ) : Type 0 where
   pub within : p ≤ n
-  pub standing : (cost : List ℕ) → Standing s k (releasesOf n task tick cost) m p
+  pub standing : (cost : List ℕ) → StandingAt s k (releasesOf n task tick cost) m p
 
--- the step of the release at p
-abbrev pub stepAt : Tasks → (ℕ → ℕ) → List ℕ → List ℕ → Shapers → ℕ → Shaped
-stepAt s k task tick m p = shapeOne (stateIn m (getD task p 0) (s .period (getD task p 0)) (k (getD task p 0))) (getD tick p 0)
+-- the release at p has gone through its task's shaper, with the answer g. `none` stands for an entry that m does not have
+pub record Step (task tick : List ℕ) (m : List Shaper) (p : ℕ) (g : Shaped) : Type 0 where
+  pub none : Shaper
+  pub release : ℕ
+  pub is-tick : release ≡ getD tick p 0
+  pub shapes : Shapes (getD m (getD task p 0) none) release g
 
 module _ (s : Tasks) (k : ℕ → ℕ) (n : ℕ) (task tick : List ℕ) where
-  pub walk-fresh : Walking s k n task tick freshShapers 0
-  walk-fresh = record { within = omega arith; standing = λ cost. standing-fresh s k (releasesOf n task tick cost) }
+  pub walk-fresh : (m : List Shaper) → Standing (s .period) k (λ i. []) (s .count) m → Walking s k n task tick m 0
+  walk-fresh m st = record { within = omega arith; standing = λ cost. standing-fresh s k (releasesOf n task tick cost) m st }
 
-  module _ (w : Shapable s n task tick) (m : Shapers) (p : ℕ) (v : Walking s k n task tick m p) (h : p < n) where
-    known : getD task p 0 < maxTasks
-    known = omega (arith, w .few-tasks, w .known p h)
-
+  module _ (w : Shapable s n task tick) (m : List Shaper) (p : ℕ) (v : Walking s k n task tick m p) (h : p < n) where
     abbrev i : ℕ
     i = getD task p 0
 
-    module _ (cost : List ℕ) where
-      abbrev l : List Release
-      l = releasesOf n task tick cost
+    abbrev a : ℕ
+    a = getD tick p 0
 
-      -- the step's ready tick is that of the list
-      pub walk-ready : stepAt s k task tick m p .ready ≡ readyAt s k l p
-      walk-ready = step-ready s k l m p _ _ (v .standing cost) (inside n task tick cost p h) (task-is n task tick cost p h) (tick-is n task tick cost p h) known
+    abbrev l : List ℕ → List Release
+    l cost = releasesOf n task tick cost
 
-      -- and that of the task's history
-      pub walk-history : stepAt s k task tick m p .ready ≡ readyNext (s .period i) (k i) (historyAt s k l p i) (getD tick p 0)
-      walk-history = step-next s k l m p _ _ (v .standing cost) (inside n task tick cost p h) (task-is n task tick cost p h) (tick-is n task tick cost p h) known
+    -- the step is allowed
+    pub walk-small : (d : Shaper) (x : ℕ) → x ≡ a → Small (getD m i d) x
+    walk-small d x e =
+        rw e
+        (step-small s k (l []) m p i a (v .standing []) (inside n task tick [] p h) (task-is n task tick [] p h) (tick-is n task tick [] p h) (w .few-tasks) (w .known p h) d
+        (w .period-high i (w .known p h)) (list-few s n task tick w []) (list-high s n task tick w []))
 
-      stands : Standing s k l (storeIn m i (stepAt s k task tick m p .state)) (suc p)
-      stands = standing-step s k l m p _ _ (v .standing cost) (inside n task tick cost p h) (task-is n task tick cost p h) (tick-is n task tick cost p h) known
+    module _ (g : Shaped) (f : Step task tick m p g) where
+      shapes : Shapes (getD m i (f .none)) a g
+      shapes = rw (f .is-tick) at (f .shapes)
 
-    -- the step is allowed, with any period and kept jitter
-    pub walk-small : (P K x : ℕ) → x ≡ getD tick p 0 → Small (stateIn m i P K) x
-    walk-small P K x e =
-        let small : Small (stateIn m i (s .period i) (k i)) (getD tick p 0) =
-        step-small s k (l []) m p _ _ (v .standing []) (inside n task tick [] p h) (task-is n task tick [] p h) (tick-is n task tick [] p h) known
-        (w .period-high i (w .known p h)) (list-few s n task tick w []) (list-high s n task tick w []) in
-        rw e (record { release-small = small .release-small; last-small = small .last-small; next-small = small .next-small })
+      module _ (cost : List ℕ) where
+        -- the step's ready tick is that of the list
+        pub walk-ready : g .ready ≡ readyAt s k (l cost) p
+        walk-ready =
+            step-ready s k (l cost) m p i a (v .standing cost) (inside n task tick cost p h) (task-is n task tick cost p h) (tick-is n task tick cost p h) (w .few-tasks) (w .known p h) (f .none)
+            g shapes
 
-    -- its ready tick is within 32 bits
-    pub walk-fits : (g : Shaped) → g ≡ stepAt s k task tick m p → g .ready ≤ maxReady
-    walk-fits g e = rw (e, walk-ready []) (ready-high s n task tick w [] k p h)
+        -- and that of the task's history
+        pub walk-history : g .ready ≡ readyNext (s .period i) (k i) (historyAt s k (l cost) p i) a
+        walk-history =
+            step-next s k (l cost) m p i a (v .standing cost) (inside n task tick cost p h) (task-is n task tick cost p h) (tick-is n task tick cost p h) (w .few-tasks) (w .known p h) (f .none)
+            g shapes
 
-    pub walk-next : Walking s k n task tick (storeIn m i (stepAt s k task tick m p .state)) (p + 1)
-    walk-next = record { within = omega arith; standing = λ cost. rw add-one (stands cost) }
+        stands : StandingAt s k (l cost) (set m i (g .state)) (suc p)
+        stands =
+            standing-step s k (l cost) m p i a (v .standing cost) (inside n task tick cost p h) (task-is n task tick cost p h) (tick-is n task tick cost p h) (w .few-tasks) (w .known p h) (f .none)
+            g shapes
+
+      -- its ready tick is within 32 bits
+      pub walk-fits : g .ready ≤ maxReady
+      walk-fits = rw (walk-ready []) (ready-high s n task tick w [] k p h)
+
+      pub walk-next : Walking s k n task tick (set m i (g .state)) (p + 1)
+      walk-next = record { within = omega arith; standing = λ cost. rw add-one (stands cost) }

@@ -2,5 +2,5 @@
 pub mod PositionLaws
 pub mod LegalLaws
 pub mod ReadyAtLaws
-pub mod Shapers
+pub mod Standing
 pub mod TraceCalls

@@ -104,7 +104,7 @@ module _ (l : List Release) where
       dite (decLt m p) (λ a. a) (λ a. absurd (let u : place l p ≤ place l m = place-le i p m (omega arith) g ep em in omega arith))
 
   -- a task's own list, about a position of the task
-  own-split : (i p : ℕ) → p < length l → releaseAt l p .task ≡ i
+  pub own-split : (i p : ℕ) → p < length l → releaseAt l p .task ≡ i
       → own i l ≡ own i (take p l) ++ (releaseAt l p .tick ∷ own i (drop (suc p) l))
   own-split i p h e =
       ap (own i) (split-at l p noRelease h)

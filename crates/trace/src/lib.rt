@@ -4,9 +4,10 @@ use shaper::wide;
 use taskset::Checked;
 use taskset::TaskSet;
 ghost use mathlib.Core.Path.{_≡_};
-ghost use mathlib.Core.List.{List, _++_};
+ghost use mathlib.Core.List.{List, [], _++_};
 ghost use Prim.Native.Nat.{ℕ, _≤_, _<_};
 ghost use lib.ListN.{length, drop};
+ghost use Rattle.model.specs.Limits.{maxTasks};
 ghost use Rattle.model.specs.Refusal.{answered};
 ghost use Rattle.model.specs.Choice.{column};
 ghost use Rattle.model.specs.Checks.{checkSlots, refusalOf};
@@ -14,6 +15,7 @@ ghost use Rattle.model.specs.Ready.{readyList};
 ghost use Rattle.model.specs.Legality.{firstClose};
 ghost use Rattle.model.specs.Calls.{releasesOf, columnAfter, traceCall, readyInputs};
 ghost use Rattle.taskset.specs.TaskSet.{viewOf, refusalIn};
+ghost use Rattle.trace.specs.Standing.{Standing};
 ghost use Rattle.trace.specs.TraceCalls.{traceIn, slotsLent, callInputs, Shapable};
 
 // The answer of the trace check: legal, or the first release that is too close to an earlier one of its task; or document 01's number
@@ -24,8 +26,48 @@ pub enum TraceAnswer {
     Refused { number: u32, place: usize },
 }
 
-// The ready ticks of a list that passed its check, written to the first slots of a column. `last` and `next` have the two numbers of the
-// shaper of each task between two of its jobs.
+// One shaper for each task of a sheet. Entries past the count are of no task.
+pub struct Shapers {
+    pub of: [Shaper; 32],
+}
+
+// The shapers before the first release, with the kept jitters.
+pub fn kept_shapers(s: TaskSet, kept: &[u32]) -> Shapers
+    requires { ⌜ (s .count ≤ maxTasks) × (s .count ≤ length (now kept)) ⌝ }
+    ensures { λ r. ⌜ Standing (viewOf s .period) (column (now (kept .entry))) (λ i. []) (s .count) (r .of) ⌝ }
+{
+    let count = s.count;
+    let unused = Shaper::new(0, 0);
+    let mut all = Shapers { of: [unused; 32] };
+    let mut i = 0;
+    while i < count {
+        let t = s.tasks[i];
+        let new = Shaper::new(t.period, kept[i]);
+        all.of[i] = new;
+        i += 1;
+    }
+    all
+}
+
+// The shapers before the first release, with the full jitters.
+pub fn full_shapers(s: TaskSet) -> Shapers
+    requires { ⌜ s .count ≤ maxTasks ⌝ }
+    ensures { λ r. ⌜ Standing (viewOf s .period) (viewOf s .jitter) (λ i. []) (s .count) (r .of) ⌝ }
+{
+    let count = s.count;
+    let unused = Shaper::new(0, 0);
+    let mut all = Shapers { of: [unused; 32] };
+    let mut i = 0;
+    while i < count {
+        let row = s.tasks[i];
+        let new = Shaper::new(row.period, row.jitter);
+        all.of[i] = new;
+        i += 1;
+    }
+    all
+}
+
+// The ready ticks of a list that passed its check, written to the first slots of a column: each release goes through its task's shaper.
 pub fn fill_ready(
     s: TaskSet,
     kept: &[u32],
@@ -37,53 +79,37 @@ pub fn fill_ready(
     requires { ⌜ Shapable (viewOf s) count (now task) (now tick) × (s .count ≤ length (now kept)) × (count ≤ length (now ready)) ⌝ }
     ensures { λ _. ⌜ ((cost : List ℕ) → now (ready .exit) ≡ readyList (viewOf s) (column (now (kept .entry))) (releasesOf count (now (task .entry)) (now (tick .entry)) cost) ++ drop count (now (ready .entry))) ⌝ }
 {
-    let mut last = [0u64; 32];
-    let mut next = [0u64; 32];
+    let mut all = kept_shapers(s, kept);
     let mut p = 0;
     while p < count {
         let i = task[p] as usize;
-        let t = s.tasks[i];
-        let state = Shaper {
-            period: t.period,
-            keep: kept[i],
-            last: last[i],
-            next: next[i],
-        };
+        let state = all.of[i];
         let got = state.shape(wide(tick[p]));
         let after = got.state;
-        last[i] = after.last;
-        next[i] = after.next;
+        all.of[i] = after;
         ready[p] = got.ready as u32;
         p += 1;
     }
 }
 
 // Whether a list that passed its check is legal: the first release that the shapers with the full jitters would move is the first that is
-// too close. `last` and `next` as in `fill_ready`.
+// too close.
 pub fn first_close(s: TaskSet, count: usize, task: &[u32], tick: &[u32]) -> TraceAnswer
     requires { ⌜ Shapable (viewOf s) count (now task) (now tick) ⌝ }
     ensures { λ r. ⌜ ((cost : List ℕ) → traceIn r ≡ answered (firstClose (viewOf s) (releasesOf count (now (task .entry)) (now (tick .entry)) cost))) ⌝ }
 {
-    let mut last = [0u64; 32];
-    let mut next = [0u64; 32];
+    let mut all = full_shapers(s);
     let mut p = 0;
     while p < count {
         let i = task[p] as usize;
-        let row = s.tasks[i];
         let at = wide(tick[p]);
-        let state = Shaper {
-            period: row.period,
-            keep: row.jitter,
-            last: last[i],
-            next: next[i],
-        };
+        let state = all.of[i];
         let got = state.shape(at);
         if at < got.ready {
             return TraceAnswer::TooClose { release: p };
         }
         let advanced = got.state;
-        last[i] = advanced.last;
-        next[i] = advanced.next;
+        all.of[i] = advanced;
         p += 1;
     }
     TraceAnswer::Legal

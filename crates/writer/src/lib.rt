@@ -97,7 +97,7 @@ fn put_releases(out: &mut [u8], from: usize, count: usize, task: &[u32], tick: &
 }
 
 // The checks of a write: the sheet (5, 4, 6), the count (10), the columns and then the bytes (13), the releases (7, 8, 9).
-fn check_write(
+pub fn check_write(
     s: TaskSet,
     count: usize,
     task: &[u32],

@@ -1,22 +1,26 @@
--- Each way out is an answer of the call, or one of the two slices that are looked at first.
+-- Each way out is a refusal that changes nothing, or an answer of the call.
 use mathlib.Core.Path.{sym, ap, _∙_}
 use Rattle.reader.specs.Reader.{outcomeIn}
-use Rattle.exports.specs.FileLaws.{read-few-words, read-few-numbers, read-refused, read-answered}
+use Rattle.exports.specs.ReadLaws.{sheet-halts, answer-halts}
+use Rattle.exports.specs.Files.{readAnswer}
+use Rattle.exports.specs.FileLaws.{read-halted, read-refused, read-answered}
 use borrow.Author.Needs.{needs}
 use Rattle.exports.proofs.nolkrada_read.Statement.{statement}
 use Rattle.exports.proofs.nolkrada_read.Tie as tie
 
-refusal-code-requires : tie.Need-refusal-code-requires
-refusal-code-requires c κs = search needs
+read-code-requires : tie.Need-read-code-requires
+read-code-requires c κs = search needs
 
 returns : tie.Need-returns
-returns c = read-few-words _ _ _ _ _ _ _ (c .before .if1 .taken) (c .refusal-code .ensures)
+unfolding readAnswer
+returns c = read-halted _ _ _ _ _ _ _ (sheet-halts _ _ _ _ _ _ (c .before .if1 .taken)) (c .read-code .ensures)
 
-refusal-code-requires-2 : tie.Need-refusal-code-requires-2
-refusal-code-requires-2 c κs = search needs
+read-code-requires-2 : tie.Need-read-code-requires-2
+read-code-requires-2 c κs = search needs
 
 returns-2 : tie.Need-returns-2
-returns-2 c = read-few-numbers _ _ _ _ _ _ _ (c .before .before .if1 .left) (c .before .if2 .taken) (c .refusal-code2 .ensures)
+unfolding readAnswer
+returns-2 c = read-halted _ _ _ _ _ _ _ (answer-halts _ _ _ _ _ _ (c .before .if2 .taken)) (c .read-code2 .ensures)
 
 read-requires : tie.Need-read-requires
 read-requires c κs = search needs
@@ -24,8 +28,8 @@ read-requires c κs = search needs
 enum-known-outcome : tie.Need-enum-known-outcome
 enum-known-outcome c = search needs
 
-refusal-code-requires-3 : tie.Need-refusal-code-requires-3
-refusal-code-requires-3 c κs = search needs
+refusal-code-requires : tie.Need-refusal-code-requires
+refusal-code-requires c κs = search needs
 
 enum-known-outcome-2 : tie.Need-enum-known-outcome-2
 enum-known-outcome-2 c = search needs
@@ -48,10 +52,10 @@ same-length-3 c = search needs
 returns-3 : tie.Need-returns-3
 returns-3 c =
     read-refused _ _ _ _ _ _ _ _ _ _ _ _
-    (c .before .before .before .before .before .before .before .before .before .before .before .before .before .before .before .before .if1 .left)
     (c .before .before .before .before .before .before .before .before .before .before .before .before .before .before .before .if2 .left)
+    (c .before .before .before .before .before .before .before .before .before .before .before .before .before .before .before .before .if1 .left)
     (sym (ap outcomeIn (c .before .before .outcome .given .1)) ∙ c .before .before .before .before .before .before .before .before .before .before .before .read .ensures .outcome)
-    (c .refusal-code3 .ensures)
+    (c .refusal-code .ensures)
     (c .before .before .before .before .before .before .before .before .before .before .before .read .ensures .task-column)
     (c .before .before .before .before .before .before .before .before .before .before .before .read .ensures .tick-column)
     (c .before .before .before .before .before .before .before .before .before .before .before .read .ensures .cost-column)
@@ -73,9 +77,9 @@ same-length-8 c = search needs
 
 returns-4 : tie.Need-returns-4
 returns-4 c =
-    read-answered _ _ _ _ _ _ _ _ _ _ _ _ _
-    (c .before .before .before .before .before .before .before .before .before .before .before .before .before .before .before .before .before .before .before .before .before .before .before .if1 .left)
+    read-answered _ _ _ _ _ _ _ _ _ _ _ _ _ _
     (c .before .before .before .before .before .before .before .before .before .before .before .before .before .before .before .before .before .before .before .before .before .before .if2 .left)
+    (c .before .before .before .before .before .before .before .before .before .before .before .before .before .before .before .before .before .before .before .before .before .before .before .if1 .left)
     (sym (ap outcomeIn (c .before .before .before .before .before .before .before .before .before .outcome2 .given .1)) ∙ c .before .before .before .before .before .before .before .before .before .before .before .before .before .before .before .before .before .before .read .ensures .outcome)
     (c .before .before .before .before .before .before .before .before .before .before .before .before .before .before .before .before .before .before .read .ensures .sheet)
     (c .before .before .before .before .before .before .put-sheet .ensures)
@@ -88,13 +92,13 @@ pub nolkrada-read-spec : {M : Type 1} → statement M
 nolkrada-read-spec =
     tie.close
     (tie.spec
-    refusal-code-requires
+    read-code-requires
     returns
-    refusal-code-requires-2
+    read-code-requires-2
     returns-2
     read-requires
     enum-known-outcome
-    refusal-code-requires-3
+    refusal-code-requires
     enum-known-outcome-2
     put-sheet-requires
     put-two-requires

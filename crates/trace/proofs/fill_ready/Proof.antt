@@ -1,36 +1,54 @@
 -- The loop has written the ready ticks of every release before p.
 use Prim.Native.Nat.{_-_, _<_}
+use mathlib.Core.List.{[]}
 use lib.ListN.{getD}
 use native.Mathlib.Omega.{arith}
 use borrow.Author.Needs.{needs}
 use Rattle.model.specs.Limits.{maxTasks}
+use Rattle.model.specs.Tasks.{Tasks}
 use Rattle.model.specs.Choice.{column}
 use Rattle.taskset.specs.TaskSet.{viewOf}
-use Rattle.trace.proofs.WalkLaws.{walk-small, walk-fits, step-by}
+use Rattle.trace.specs.Standing.{Standing}
+use Rattle.trace.specs.TraceCalls.{Shapable}
+use Rattle.trace.proofs.WalkLaws.{walk-small, walk-fits, Step}
 use Rattle.trace.proofs.FillLaws.{Filling, filling-none, filling-next, filling-all}
 use Rattle.trace.proofs.fill_ready.Statement.{statement}
 use Rattle.trace.proofs.fill_ready.Tie as tie
 
+-- for every sheet that the shapers were made for, since the loop does not look at the sheet
 abbrev Inv-loop : tie.InvT-loop
-Inv-loop kept count task tick ready₀ s last₀ next₀ p₀ ready last next p = Filling (viewOf s) (column kept) count task tick ready₀ (record { last = last; next = next }) ready p
+Inv-loop kept count task tick ready₀ all₀ p₀ ready all p = (s : Tasks) → Shapable s count task tick → Standing (s .period) (column kept) (λ i. []) (s .count) (all₀ .of) → Filling s (column kept) count task tick ready₀ (all .of) ready p
 
 abbrev μ-loop : tie.MeasureT-loop
-μ-loop kept count task tick ready₀ s last₀ next₀ p₀ ready last next p = count - p
+μ-loop kept count task tick ready₀ all₀ p₀ ready all p = count - p
 
--- the arguments, from the loop's beginning
-abbrev start : tie.In-loop Inv-loop μ-loop → tie.Start Inv-loop μ-loop
+-- the arguments
+abbrev start : tie.At-loop Inv-loop μ-loop → tie.Start Inv-loop μ-loop
 start c = c .before .before .before .before .before .before
 
--- the release at p is of a task of the sheet
-known : (c : tie.In-loop Inv-loop μ-loop) → getD (start c .args .task .now) (c .before .loop .p) 0 < start c .args .t1 .count
-known c = start c .pre .0 .known _ (c .loop-test .taken)
+-- the invariant for the sheet
+filled
+    : (c : tie.At-loop Inv-loop μ-loop)
+    → Filling (viewOf (start c .args .s)) (column (start c .args .kept .now)) (start c .args .count) (start c .args .task .now) (start c .args .tick .now)
+    (start c .args .ready .now) (c .loop .all .of) (c .loop .ready) (c .loop .p)
+filled c = c .loop .inv _ (start c .pre .0) (c .before .kept-shapers .ensures)
 
--- it has a place in the two arrays
-placed : (c : tie.In-loop Inv-loop μ-loop) → getD (start c .args .task .now) (c .before .loop .p) 0 < maxTasks
-placed c = omega (arith, known c, start c .pre .0 .few-tasks)
+-- the release at p is of a task of the sheet, which has a place in the array
+placed : (c : tie.In-loop Inv-loop μ-loop) → getD (start (c .before) .args .task .now) (c .before .loop .p) 0 < maxTasks
+placed c = omega (arith, start (c .before) .pre .0 .known _ (c .loop-test .taken), start (c .before) .pre .0 .few-tasks)
+
+-- the release at p has gone through its shaper
+stepped
+    : (c : tie.After-shape Inv-loop μ-loop)
+    → Step (start (c .before .before .before .before .before .before) .args .task .now) (start (c .before .before .before .before .before .before) .args .tick .now)
+    (c .before .before .before .before .before .before .loop .all .of) (c .before .before .before .before .before .before .loop .p) (c .shape .result)
+stepped c = record { none = _; release = _; is-tick = c .before .wide .ensures; shapes = c .shape .ensures }
+
+kept-shapers-requires : tie.Need-kept-shapers-requires Inv-loop μ-loop
+kept-shapers-requires c κs = (c .before .before .before .before .pre .0 .few-tasks, c .before .before .before .before .pre .1)
 
 loop-holds : tie.Need-loop-holds Inv-loop μ-loop
-loop-holds c = filling-none _ _ _ _ _ _
+loop-holds c = λ s w st. filling-none s _ _ _ _ _ _ st
 
 mul-i : tie.Need-mul-i Inv-loop μ-loop
 mul-i c = omega arith
@@ -41,64 +59,38 @@ shared-slice-read-i c = omega arith
 cast-i : tie.Need-cast-i Inv-loop μ-loop
 cast-i c = omega (arith, c .shared-slice-known4 .given (c .before .before .loop .p))
 
-mul-t : tie.Need-mul-t Inv-loop μ-loop
-mul-t c = omega (arith, placed (c .before))
+mul-state : tie.Need-mul-state Inv-loop μ-loop
+mul-state c = omega (arith, placed (c .before))
 
-element-copy-out-t : tie.Need-element-copy-out-t Inv-loop μ-loop
-element-copy-out-t c = omega (arith, placed (c .before))
+element-copy-out-state : tie.Need-element-copy-out-state Inv-loop μ-loop
+element-copy-out-state c = omega (arith, placed (c .before))
 
 mul-wide : tie.Need-mul-wide Inv-loop μ-loop
-mul-wide c = omega (arith, placed (c .before .before))
+mul-wide c = omega arith
 
 shared-slice-read-wide : tie.Need-shared-slice-read-wide Inv-loop μ-loop
-shared-slice-read-wide c = omega (arith, known (c .before .before .before), start (c .before .before .before) .pre .1)
-
-mul-shape : tie.Need-mul-shape Inv-loop μ-loop
-mul-shape c = omega (arith, placed (c .before .before .before))
-
-array-read-shape : tie.Need-array-read-shape Inv-loop μ-loop
-array-read-shape c = omega (arith, placed (c .before .before .before))
-
-mul-t28 : tie.Need-mul-t28 Inv-loop μ-loop
-mul-t28 c = omega (arith, placed (c .before .before .before))
-
-array-read-t31 : tie.Need-array-read-t31 Inv-loop μ-loop
-array-read-t31 c = omega (arith, placed (c .before .before .before))
-
-mul-wide-2 : tie.Need-mul-wide-2 Inv-loop μ-loop
-mul-wide-2 c = omega arith
-
-shared-slice-read-wide-2 : tie.Need-shared-slice-read-wide-2 Inv-loop μ-loop
-shared-slice-read-wide-2 c = omega arith
+shared-slice-read-wide c = omega arith
 
 wide-requires : tie.Need-wide-requires Inv-loop μ-loop
 wide-requires c κs = search needs
 
 shape-requires : tie.Need-shape-requires Inv-loop μ-loop
-shape-requires c κs = walk-small _ _ _ _ _ (start (c .before .before .before .before .before) .pre .0) _ _ (c .before .before .before .before .before .before .loop .inv .walking) (c .before .before .before .before .before .loop-test .taken) _ _ _ (c .wide .ensures)
+shape-requires c κs = walk-small _ _ _ _ _ (start (c .before .before .before .before .before) .pre .0) _ _ (filled (c .before .before .before .before .before) .walking) (c .before .before .before .before .loop-test .taken) _ _ (c .wide .ensures)
 
-mul-last : tie.Need-mul-last Inv-loop μ-loop
-mul-last c = omega (arith, placed (c .before .before .before .before .before .before .before))
+mul-after : tie.Need-mul-after Inv-loop μ-loop
+mul-after c = omega (arith, placed (c .before .before .before .before .before .before))
 
-array-write-last : tie.Need-array-write-last Inv-loop μ-loop
-array-write-last c = omega (arith, placed (c .before .before .before .before .before .before .before))
-
-mul-next : tie.Need-mul-next Inv-loop μ-loop
-mul-next c = omega (arith, placed (c .before .before .before .before .before .before .before))
-
-array-write-next : tie.Need-array-write-next Inv-loop μ-loop
-array-write-next c = omega (arith, placed (c .before .before .before .before .before .before .before))
+element-set-from-after : tie.Need-element-set-from-after Inv-loop μ-loop
+element-set-from-after c = omega (arith, placed (c .before .before .before .before .before .before))
 
 cast-ready : tie.Need-cast-ready Inv-loop μ-loop
-cast-ready c =
-    let high = walk-fits _ _ _ _ _ (start (c .before .before .before .before .before .before .before .before) .pre .0) _ _ (c .before .before .before .before .before .before .before .before .before .loop .inv .walking) (c .before .before .before .before .before .before .before .before .loop-test .taken) _ (step-by _ _ _ _ (c .before .before .shape .ensures) (c .before .before .before .wide .ensures)) in
-    omega arith
+cast-ready c = let high = walk-fits _ _ _ _ _ (start (c .before .before .before .before .before .before .before .before) .pre .0) _ _ (filled (c .before .before .before .before .before .before .before .before) .walking) (c .before .before .before .before .before .before .before .loop-test .taken) _ (stepped (c .before .before)) in omega arith
 
 mul-ready : tie.Need-mul-ready Inv-loop μ-loop
 mul-ready c = omega arith
 
 slice-write-ready : tie.Need-slice-write-ready Inv-loop μ-loop
-slice-write-ready c = omega arith
+slice-write-ready c = omega (arith, filled (c .before .before .before .before .before .before .before .before) .long)
 
 add-p : tie.Need-add-p Inv-loop μ-loop
 add-p c = omega arith
@@ -107,14 +99,13 @@ loop-less : tie.Need-loop-less Inv-loop μ-loop
 loop-less c = omega arith
 
 loop-again : tie.Need-loop-again Inv-loop μ-loop
-loop-again c =
-    filling-next _ _ _ _ _ _ (start (c .before .before .before .before .before .before .before .before) .pre .0) (start (c .before .before .before .before .before .before .before .before) .pre .2) _ _ _ (c .before .before .before .before .before .before .before .before .before .loop .inv) (c .before .before .before .before .before .before .before .before .loop-test .taken) _ (step-by _ _ _ _ (c .before .before .shape .ensures) (c .before .before .before .wide .ensures))
+loop-again c = λ s w st. filling-next s _ _ _ _ _ w (start (c .before .before .before .before .before .before .before .before) .pre .2) _ _ _ (c .before .before .before .before .before .before .before .before .loop .inv s w st) (c .before .before .before .before .before .before .before .loop-test .taken) _ (stepped (c .before .before))
 
 same-length : tie.Need-same-length Inv-loop μ-loop
-same-length c = search needs
+same-length c = omega (arith, filled (c .before) .long)
 
 returns : tie.Need-returns Inv-loop μ-loop
-returns c = filling-all _ _ _ _ _ _ _ _ _ (c .before .loop .inv) (c .loop-test .left)
+returns c = filling-all _ _ _ _ _ _ _ _ _ (filled (c .before)) (c .loop-test .left)
 
 pub fill-ready-spec : {M : Type 1} → statement M
 fill-ready-spec =
@@ -122,26 +113,19 @@ fill-ready-spec =
     (tie.spec
     Inv-loop
     μ-loop
+    kept-shapers-requires
     loop-holds
     mul-i
     shared-slice-read-i
     cast-i
-    mul-t
-    element-copy-out-t
+    mul-state
+    element-copy-out-state
     mul-wide
     shared-slice-read-wide
-    mul-shape
-    array-read-shape
-    mul-t28
-    array-read-t31
-    mul-wide-2
-    shared-slice-read-wide-2
     wide-requires
     shape-requires
-    mul-last
-    array-write-last
-    mul-next
-    array-write-next
+    mul-after
+    element-set-from-after
     cast-ready
     mul-ready
     slice-write-ready

@@ -1,35 +1,52 @@
 -- The loop has passed every release before p: none of them is too close, and the shapers have moved none.
 use Prim.Native.Nat.{_-_, _<_}
+use mathlib.Core.List.{[]}
 use lib.ListN.{getD}
 use native.Mathlib.Omega.{arith}
 use borrow.Author.Needs.{needs}
 use Rattle.model.specs.Limits.{maxTasks}
+use Rattle.model.specs.Tasks.{Tasks}
 use Rattle.taskset.specs.TaskSet.{viewOf}
-use Rattle.trace.proofs.WalkLaws.{walk-small, step-by}
+use Rattle.trace.specs.Standing.{Standing}
+use Rattle.trace.specs.TraceCalls.{Shapable}
+use Rattle.trace.proofs.WalkLaws.{walk-small, Step}
 use Rattle.trace.proofs.CloseLaws.{Tracing, tracing-none, tracing-close, tracing-next, tracing-all}
 use Rattle.trace.proofs.first_close.Statement.{statement}
 use Rattle.trace.proofs.first_close.Tie as tie
 
+-- for every sheet that the shapers were made for, since the loop does not look at the sheet
 abbrev Inv-loop : tie.InvT-loop
-Inv-loop count task tick s last₀ next₀ p₀ last next p = Tracing (viewOf s) count task tick (record { last = last; next = next }) p
+Inv-loop count task tick all₀ p₀ all p = (s : Tasks) → Shapable s count task tick → Standing (s .period) (s .jitter) (λ i. []) (s .count) (all₀ .of) → Tracing s count task tick (all .of) p
 
 abbrev μ-loop : tie.MeasureT-loop
-μ-loop count task tick s last₀ next₀ p₀ last next p = count - p
+μ-loop count task tick all₀ p₀ all p = count - p
 
--- the arguments, from the loop's beginning
-abbrev start : tie.In-loop Inv-loop μ-loop → tie.Start Inv-loop μ-loop
+-- the arguments
+abbrev start : tie.At-loop Inv-loop μ-loop → tie.Start Inv-loop μ-loop
 start c = c .before .before .before .before
 
--- the release at p is of a task of the sheet
-known : (c : tie.In-loop Inv-loop μ-loop) → getD (start c .args .task .now) (c .before .loop .p) 0 < start c .args .t1 .count
-known c = start c .pre .known _ (c .loop-test .taken)
+-- the invariant for the sheet
+traced
+    : (c : tie.At-loop Inv-loop μ-loop)
+    → Tracing (viewOf (start c .args .s)) (start c .args .count) (start c .args .task .now) (start c .args .tick .now) (c .loop .all .of) (c .loop .p)
+traced c = c .loop .inv _ (start c .pre) (c .before .full-shapers .ensures)
 
--- it has a place in the two arrays
-placed : (c : tie.In-loop Inv-loop μ-loop) → getD (start c .args .task .now) (c .before .loop .p) 0 < maxTasks
-placed c = omega (arith, known c, start c .pre .few-tasks)
+-- the release at p is of a task of the sheet, which has a place in the array
+placed : (c : tie.In-loop Inv-loop μ-loop) → getD (start (c .before) .args .task .now) (c .before .loop .p) 0 < maxTasks
+placed c = omega (arith, start (c .before) .pre .known _ (c .loop-test .taken), start (c .before) .pre .few-tasks)
+
+-- the release at p has gone through its shaper
+stepped
+    : (c : tie.After-shape Inv-loop μ-loop)
+    → Step (start (c .before .before .before .before .before .before) .args .task .now) (start (c .before .before .before .before .before .before) .args .tick .now)
+    (c .before .before .before .before .before .before .loop .all .of) (c .before .before .before .before .before .before .loop .p) (c .shape .result)
+stepped c = record { none = _; release = _; is-tick = c .before .before .wide .ensures; shapes = c .shape .ensures }
+
+full-shapers-requires : tie.Need-full-shapers-requires Inv-loop μ-loop
+full-shapers-requires c κs = c .before .before .pre .few-tasks
 
 loop-holds : tie.Need-loop-holds Inv-loop μ-loop
-loop-holds c = tracing-none _ _ _ _
+loop-holds c = λ s w st. tracing-none s _ _ _ _ st
 
 mul-i : tie.Need-mul-i Inv-loop μ-loop
 mul-i c = omega arith
@@ -40,12 +57,6 @@ shared-slice-read-i c = omega arith
 cast-i : tie.Need-cast-i Inv-loop μ-loop
 cast-i c = omega (arith, c .shared-slice-known3 .given (c .before .before .loop .p))
 
-mul-row : tie.Need-mul-row Inv-loop μ-loop
-mul-row c = omega (arith, placed (c .before))
-
-element-copy-out-row : tie.Need-element-copy-out-row Inv-loop μ-loop
-element-copy-out-row c = omega (arith, placed (c .before))
-
 mul-wide : tie.Need-mul-wide Inv-loop μ-loop
 mul-wide c = omega arith
 
@@ -55,37 +66,23 @@ shared-slice-read-wide c = omega arith
 wide-requires : tie.Need-wide-requires Inv-loop μ-loop
 wide-requires c κs = search needs
 
-mul-t16 : tie.Need-mul-t16 Inv-loop μ-loop
-mul-t16 c = omega (arith, placed (c .before .before .before .before))
+mul-state : tie.Need-mul-state Inv-loop μ-loop
+mul-state c = omega (arith, placed (c .before .before .before))
 
-array-read-t25 : tie.Need-array-read-t25 Inv-loop μ-loop
-array-read-t25 c = omega (arith, placed (c .before .before .before .before))
-
-mul-t26 : tie.Need-mul-t26 Inv-loop μ-loop
-mul-t26 c = omega (arith, placed (c .before .before .before .before))
-
-array-read-t29 : tie.Need-array-read-t29 Inv-loop μ-loop
-array-read-t29 c = omega (arith, placed (c .before .before .before .before))
+element-copy-out-state : tie.Need-element-copy-out-state Inv-loop μ-loop
+element-copy-out-state c = omega (arith, placed (c .before .before .before))
 
 shape-requires : tie.Need-shape-requires Inv-loop μ-loop
-shape-requires c κs = walk-small _ _ _ _ _ (start (c .before .before .before .before) .pre) _ _ (c .before .before .before .before .before .loop .inv .walking) (c .before .before .before .before .loop-test .taken) _ _ _ (c .wide .ensures)
+shape-requires c κs = walk-small _ _ _ _ _ (start (c .before .before .before .before .before) .pre) _ _ (traced (c .before .before .before .before .before) .walking) (c .before .before .before .before .loop-test .taken) _ _ (c .before .wide .ensures)
 
 returns : tie.Need-returns Inv-loop μ-loop
-returns c =
-    tracing-close _ _ _ _ (start (c .before .before .before .before .before .before .before) .pre) _ _ (c .before .before .before .before .before .before .before .before .loop .inv) (c .before .before .before .before .before .before .before .loop-test .taken) _ (step-by _ _ _ _ (c .before .before .shape .ensures) (c .before .before .before .wide .ensures))
-    (omega (arith, c .if1 .taken, c .before .before .before .wide .ensures))
+returns c = tracing-close _ _ _ _ (start (c .before .before .before .before .before .before .before .before) .pre) _ _ (traced (c .before .before .before .before .before .before .before .before)) (c .before .before .before .before .before .before .before .loop-test .taken) _ (stepped (c .before .before)) (omega (arith, c .if1 .taken, c .before .before .before .before .wide .ensures))
 
-mul-last : tie.Need-mul-last Inv-loop μ-loop
-mul-last c = omega (arith, placed (c .before .before .before .before .before .before .before .before))
+mul-advanced : tie.Need-mul-advanced Inv-loop μ-loop
+mul-advanced c = omega (arith, placed (c .before .before .before .before .before .before .before .before))
 
-array-write-last : tie.Need-array-write-last Inv-loop μ-loop
-array-write-last c = omega (arith, placed (c .before .before .before .before .before .before .before .before))
-
-mul-next : tie.Need-mul-next Inv-loop μ-loop
-mul-next c = omega (arith, placed (c .before .before .before .before .before .before .before .before))
-
-array-write-next : tie.Need-array-write-next Inv-loop μ-loop
-array-write-next c = omega (arith, placed (c .before .before .before .before .before .before .before .before))
+element-set-from-advanced : tie.Need-element-set-from-advanced Inv-loop μ-loop
+element-set-from-advanced c = omega (arith, placed (c .before .before .before .before .before .before .before .before))
 
 add-p : tie.Need-add-p Inv-loop μ-loop
 add-p c = omega arith
@@ -94,12 +91,10 @@ loop-less : tie.Need-loop-less Inv-loop μ-loop
 loop-less c = omega arith
 
 loop-again : tie.Need-loop-again Inv-loop μ-loop
-loop-again c =
-    tracing-next _ _ _ _ (start (c .before .before .before .before .before .before .before .before) .pre) _ _ (c .before .before .before .before .before .before .before .before .before .loop .inv) (c .before .before .before .before .before .before .before .before .loop-test .taken) _ (step-by _ _ _ _ (c .before .before .before .shape .ensures) (c .before .before .before .before .wide .ensures))
-    (omega (arith, c .before .if1 .left, c .before .before .before .before .wide .ensures))
+loop-again c = λ s w st. tracing-next s _ _ _ w _ _ (c .before .before .before .before .before .before .before .before .before .loop .inv s w st) (c .before .before .before .before .before .before .before .before .loop-test .taken) _ (stepped (c .before .before .before)) (omega (arith, c .before .if1 .left, c .before .before .before .before .before .wide .ensures))
 
 returns-2 : tie.Need-returns-2 Inv-loop μ-loop
-returns-2 c = tracing-all _ _ _ _ _ _ (c .before .loop .inv) (c .loop-test .left)
+returns-2 c = tracing-all _ _ _ _ _ _ (traced (c .before)) (c .loop-test .left)
 
 pub first-close-spec : {M : Type 1} → statement M
 first-close-spec =
@@ -107,25 +102,20 @@ first-close-spec =
     (tie.spec
     Inv-loop
     μ-loop
+    full-shapers-requires
     loop-holds
     mul-i
     shared-slice-read-i
     cast-i
-    mul-row
-    element-copy-out-row
     mul-wide
     shared-slice-read-wide
     wide-requires
-    mul-t16
-    array-read-t25
-    mul-t26
-    array-read-t29
+    mul-state
+    element-copy-out-state
     shape-requires
     returns
-    mul-last
-    array-write-last
-    mul-next
-    array-write-next
+    mul-advanced
+    element-set-from-advanced
     add-p
     loop-less
     loop-again

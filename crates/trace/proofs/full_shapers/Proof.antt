@@ -1,0 +1,71 @@
+-- The loop has made the shapers of every task before i.
+use Prim.Native.Nat.{_-_}
+use mathlib.Core.List.{[]}
+use native.Mathlib.Omega.{arith}
+use borrow.Author.Needs.{needs}
+use Rattle.taskset.specs.TaskSet.{viewOf}
+use Rattle.trace.specs.Standing.{Standing}
+use Rattle.trace.proofs.StandingLaws.{standing-none, standing-more, standing-fewer}
+use Rattle.trace.proofs.full_shapers.Statement.{statement}
+use Rattle.trace.proofs.full_shapers.Tie as tie
+
+abbrev Inv-loop : tie.InvT-loop
+Inv-loop s count all₀ i₀ all i = Standing (viewOf s .period) (viewOf s .jitter) (λ j. []) i (all .of)
+
+abbrev μ-loop : tie.MeasureT-loop
+μ-loop s count all₀ i₀ all i = count - i
+
+-- the arguments, from the loop's beginning
+abbrev start : tie.In-loop Inv-loop μ-loop → tie.Start Inv-loop μ-loop
+start c = c .before .before .before
+
+new-requires : tie.Need-new-requires Inv-loop μ-loop
+new-requires c κs = search needs
+
+loop-holds : tie.Need-loop-holds Inv-loop μ-loop
+loop-holds c = standing-none _ _ _ _
+
+mul-row : tie.Need-mul-row Inv-loop μ-loop
+mul-row c = omega (arith, start c .pre)
+
+element-copy-out-row : tie.Need-element-copy-out-row Inv-loop μ-loop
+element-copy-out-row c = omega (arith, start c .pre)
+
+new-requires-2 : tie.Need-new-requires-2 Inv-loop μ-loop
+new-requires-2 c κs = search needs
+
+mul-new : tie.Need-mul-new Inv-loop μ-loop
+mul-new c = omega (arith, start (c .before .before) .pre)
+
+element-set-from-new : tie.Need-element-set-from-new Inv-loop μ-loop
+element-set-from-new c = omega (arith, start (c .before .before) .pre)
+
+add-i : tie.Need-add-i Inv-loop μ-loop
+add-i c = omega (arith, start (c .before .before) .pre)
+
+loop-less : tie.Need-loop-less Inv-loop μ-loop
+loop-less c = omega arith
+
+loop-again : tie.Need-loop-again Inv-loop μ-loop
+loop-again c = standing-more _ _ _ _ _ (c .before .before .before .loop .inv) (omega (arith, start (c .before .before) .pre)) (c .new2 .ensures)
+
+returns : tie.Need-returns Inv-loop μ-loop
+returns c = standing-fewer _ _ _ _ _ _ (c .before .loop .inv) (c .loop-test .left)
+
+pub full-shapers-spec : {M : Type 1} → statement M
+full-shapers-spec =
+    tie.close
+    (tie.spec
+    Inv-loop
+    μ-loop
+    new-requires
+    loop-holds
+    mul-row
+    element-copy-out-row
+    new-requires-2
+    mul-new
+    element-set-from-new
+    add-i
+    loop-less
+    loop-again
+    returns)
