@@ -2,7 +2,7 @@
 //! shaper of two numbers for each task, a run tick by tick with one queue for each task, a reader and a writer in one pass.
 //! Each makes the checks of its call. Used as the measure of the archive's speed.
 
-use crate::reference::{Refusal, Task, HORIZON, MAX_RELEASES, MAX_TASKS, MAX_TICK, MAX_TIME};
+use crate::reference::{number_at, record_at, task_at, Refusal, Task, HORIZON, MAX_RELEASES, MAX_TASKS, MAX_TICK, MAX_TIME};
 
 type Checked = Result<(), Refusal>;
 
@@ -288,10 +288,6 @@ pub fn write(tasks: &[Task], n: usize, list: Columns, out: &mut [u8]) -> Result<
     Ok(size)
 }
 
-fn number_at(file: &[u8], at: usize) -> u32 {
-    u32::from_le_bytes(file[at..at + 4].try_into().unwrap())
-}
-
 /// Reads a file: the sheet and three columns; the counts of tasks and releases.
 pub fn read(
     file: &[u8], sheet: &mut [Task; 32], task: &mut [u32], tick: &mut [u32], cost: &mut [u32],
@@ -300,26 +296,10 @@ pub fn read(
     let mut list = [(0u32, 0u32, 0u32); MAX_RELEASES];
     let (mut count, mut n, mut at, mut before) = (0, 0, 0, 0);
     loop {
-        let Some(&kind) = file.get(at) else {
-            return refuse(2, at);
-        };
-        let size = match kind {
-            1 => 17,
-            2 => 10,
-            3 => 1,
-            _ => return refuse(1, at),
-        };
-        if file.len() - at < size {
-            return refuse(2, at);
-        }
+        let (kind, size) = record_at(file, at)?;
         match kind {
             1 => {
-                let t = Task {
-                    p: number_at(file, at + 1),
-                    j: number_at(file, at + 5),
-                    e: number_at(file, at + 9),
-                    d: number_at(file, at + 13),
-                };
+                let t = task_at(file, at + 1);
                 if n > 0 {
                     return refuse(3, at);
                 }

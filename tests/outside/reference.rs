@@ -471,8 +471,30 @@ pub fn write(sheet: &Sheet, n: usize, columns: &Columns, out_slots: usize) -> Re
     Ok(encode(&sheet.tasks[..sheet.count], &list))
 }
 
-fn number_at(file: &[u8], at: usize) -> u32 {
+pub fn number_at(file: &[u8], at: usize) -> u32 {
     u32::from_le_bytes([file[at], file[at + 1], file[at + 2], file[at + 3]])
+}
+
+/// The task whose four numbers stand at an offset.
+pub fn task_at(file: &[u8], at: usize) -> Task {
+    Task { p: number_at(file, at), j: number_at(file, at + 4), e: number_at(file, at + 8), d: number_at(file, at + 12) }
+}
+
+/// Kind and size of the record at an offset: refused with 1 for another kind, with 2 where the file ends in it or before it.
+pub fn record_at(file: &[u8], at: usize) -> Result<(u8, usize), Refusal> {
+    let Some(&kind) = file.get(at) else {
+        return refuse(2, at);
+    };
+    let size = match kind {
+        1 => 17,
+        2 => 10,
+        3 => 1,
+        _ => return refuse(1, at),
+    };
+    if file.len() - at < size {
+        return refuse(2, at);
+    }
+    Ok((kind, size))
 }
 
 /// What a file holds. The earliest record decides, and within a record the lowest number.
@@ -481,26 +503,10 @@ pub fn decode(file: &[u8]) -> Result<(Sheet, Vec<Release>), Refusal> {
     let mut list: Vec<Release> = Vec::new();
     let mut at = 0;
     loop {
-        let Some(&kind) = file.get(at) else {
-            return refuse(2, at);
-        };
-        let size = match kind {
-            1 => 17,
-            2 => 10,
-            3 => 1,
-            _ => return refuse(1, at),
-        };
-        if file.len() - at < size {
-            return refuse(2, at);
-        }
+        let (kind, size) = record_at(file, at)?;
         match kind {
             1 => {
-                let t = Task {
-                    p: number_at(file, at + 1),
-                    j: number_at(file, at + 5),
-                    e: number_at(file, at + 9),
-                    d: number_at(file, at + 13),
-                };
+                let t = task_at(file, at + 1);
                 if !list.is_empty() {
                     return refuse(3, at);
                 }

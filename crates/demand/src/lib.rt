@@ -30,7 +30,7 @@ pub fn wide(x: u32) -> u64
 }
 
 // Arrival count: ceil((t + K) ÷ P) in t ticks for t ≥ 1, zero in 0 ticks.
-pub fn arrivals(period: u32, keep: u32, t: u32) -> u64
+fn arrivals(period: u32, keep: u32, t: u32) -> u64
     requires { ⌜ 1 ≤ period ⌝ }
     ensures { λ r. ⌜ r ≡ model_arrival.arrivals period keep t ⌝ }
 {

@@ -4,7 +4,6 @@ pub mod RecordLaws
 pub mod StepLaws
 pub mod RoundTrips
 pub mod Prefix
-pub mod Samples
 pub mod SheetLaws
 pub mod OffsetLaws
 pub mod CallLaws

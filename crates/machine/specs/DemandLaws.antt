@@ -3,7 +3,7 @@ use Prim.Native.Nat.{ℕ, zero, suc, _+_, _-_, _*_, _≤_, _<_}
 use mathlib.Core.Path.{_≡_}
 use native.Mathlib.Omega.{arith}
 use native.Mathlib.Nat.{add-suc, add-assoc, add-zero, mul-le-mul-right}
-use Rattle.model.specs.Series.{on, sum}
+use Rattle.model.specs.Series.{sum}
 use Rattle.model.specs.Machine.{Machine}
 use Rattle.model.specs.Tasks.{Tasks}
 use Rattle.model.proofs.SeriesLaws.{on-le}
@@ -15,11 +15,6 @@ module _ (m : Machine) (from : ℕ) where
   unfolding supplyOn sum
   supply-add t zero = rw (add-zero t) (omega arith)
   supply-add t (suc u) = rw (add-suc t u, ← add-assoc from t u) (omega (arith, supply-add t u))
-
-  pub supply-high : (t : ℕ) → supplyOn m from t ≤ t
-  unfolding supplyOn sum
-  supply-high zero = omega arith
-  supply-high (suc t) = omega (arith, supply-high t, on-le (m .ours (from + t)) 1)
 
   supply-step : (t : ℕ) → supplyOn m from (suc t) ≤ suc (supplyOn m from t)
   unfolding supplyOn sum

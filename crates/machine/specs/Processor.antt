@@ -4,7 +4,7 @@ use mathlib.Core.Path.{_≡_, refl}
 use native.Mathlib.Omega.{arith}
 use Rattle.model.specs.Series.{on, sum}
 use Rattle.model.specs.Machine.{Machine, plain}
-use Rattle.model.specs.Tasks.{Tasks, load}
+use Rattle.model.specs.Tasks.{Tasks}
 use Rattle.model.specs.Arrival.{arrivals}
 use Rattle.model.specs.Demand.{aboveLoad, demand}
 

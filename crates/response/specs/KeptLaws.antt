@@ -1,5 +1,5 @@
 -- Smaller kept jitters above give no larger demand, and no later W(q).
-use Prim.Native.Nat.{ℕ, suc, _≤_, _<_}
+use Prim.Native.Nat.{ℕ, _≤_, _<_}
 use mathlib.Core.Path.{_≡_, refl}
 use mathlib.Core.Option.{Option, some, none}
 use native.Mathlib.Omega.{arith}

@@ -1,10 +1,10 @@
 -- The history of a task: the ready ticks of its earlier jobs, the latest first. What it says about the jobs that follow.
 use Prim.Native.Nat.{ℕ, suc, _+_, _-_, _≤_, _<_}
 use mathlib.Core.Path.{_≡_, refl, sym, ap, _∙_}
-use mathlib.Core.List.{List, [], _∷_, _++_, reverse, reverseAux}
+use mathlib.Core.List.{List, [], _∷_, _++_, reverseAux}
 use native.Mathlib.Omega.{arith}
-use lib.ListN.{length, getD, take, drop, take-append-drop, length-reverse}
-use lib.Seq.{take-at, getD-at, length-take-le, split-at}
+use lib.ListN.{length, getD, take, drop}
+use lib.Seq.{getD-at, length-take-le, split-at}
 use Rattle.model.specs.Gap.{Apart}
 use Rattle.model.specs.Ready.{readyNext, readyFrom, readyTicks}
 use Rattle.shaper.specs.ReadyLaws.{ready-length, ready-apart, ready-only}
@@ -18,13 +18,6 @@ abbrev pub historyOf : ℕ → ℕ → List ℕ → List ℕ
 historyOf P K a = historyFrom P K [] a
 
 module _ (P K : ℕ) where
-  -- it is the list of ready ticks, the latest first
-  pub history-reverse : (a : List ℕ) → historyOf P K a ≡ reverse (readyTicks P K a)
-  history-reverse a = refl
-
-  pub history-length : (a : List ℕ) → length (historyOf P K a) ≡ length a
-  history-length a = length-reverse (readyTicks P K a) ∙ ready-length P K a
-
   -- more releases: the ready ticks of the first ones stay, and the others follow their history
   pub readyFrom-append : (h a b : List ℕ) → readyFrom P K h (a ++ b) ≡ readyFrom P K h a ++ readyFrom P K (historyFrom P K h a) b
   unfolding readyFrom
@@ -38,11 +31,6 @@ module _ (P K : ℕ) where
 
   pub ready-append : (a b : List ℕ) → readyTicks P K (a ++ b) ≡ readyTicks P K a ++ readyFrom P K (historyOf P K a) b
   ready-append = readyFrom-append []
-
-  -- one release more
-  pub ready-snoc : (a : List ℕ) (x : ℕ) → readyTicks P K (a ++ (x ∷ [])) ≡ readyTicks P K a ++ (readyNext P K (historyOf P K a) x ∷ [])
-  unfolding readyFrom
-  ready-snoc a x = ready-append a (x ∷ [])
 
   pub history-snoc : (a : List ℕ) (x : ℕ) → historyOf P K (a ++ (x ∷ [])) ≡ readyNext P K (historyOf P K a) x ∷ historyOf P K a
   unfolding readyFrom
@@ -61,12 +49,6 @@ module _ (P K : ℕ) where
       ap (λ (i : List ℕ). getD (readyTicks P K i) n 0) (split-at a n 0 l)
       ∙ ap (λ (i : ℕ). getD (readyTicks P K (take n a ++ getD a n 0 ∷ drop (suc n) a)) i 0) (sym (length-take-le n a (omega arith)))
       ∙ ready-here (take n a) (getD a n 0) (drop (suc n) a)
-
-  -- the ready ticks of the first n releases are the first n ready ticks
-  pub ready-take : (n : ℕ) (a : List ℕ) → n ≤ length a → readyTicks P K (take n a) ≡ take n (readyTicks P K a)
-  ready-take n a l =
-      sym (take-at (readyTicks P K (take n a)) _ n (ready-length P K (take n a) ∙ length-take-le n a l))
-      ∙ ap (take n) (sym (ready-append (take n a) (drop n a)) ∙ ap (readyTicks P K) (take-append-drop n a))
 
   -- releases that are legal for a jitter K are not moved by the shaper that keeps K ..
   pub legal-ready : (a : List ℕ) → Apart P K a → readyTicks P K a ≡ a

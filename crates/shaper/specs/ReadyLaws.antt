@@ -128,10 +128,6 @@ module _ (P K : ℕ) where
     pub ready-apart : (m k : ℕ) → m + k < length a → getD (readyTicks P K a) m 0 + gap P K k ≤ getD (readyTicks P K a) (m + k) 0
     ready-apart m k l = omega (arith, ready-apart-to m (m + k) (omega arith) l, gap-mono P K k (m + k - m) (omega arith))
 
-    -- ready ticks never fall
-    pub ready-rises : (m n : ℕ) → m ≤ n → n < length a → getD (readyTicks P K a) m 0 ≤ getD (readyTicks P K a) n 0
-    ready-rises m n g l = omega (arith, ready-apart-to m n g l)
-
     -- a ready tick is the least that keeps the release and the gaps
     pub ready-least
         : (n t : ℕ)

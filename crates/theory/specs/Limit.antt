@@ -9,8 +9,8 @@ use Rattle.model.specs.Series.{on, sum}
 use Rattle.model.specs.Run.{Jobs, runs}
 use Rattle.model.specs.Claims.{isTask, isAbove, ofTasks}
 use Rattle.model.proofs.SeriesLaws.{sum-le, sum-longer}
-use Rattle.theory.specs.Windows.{supply, usedBy, spareBy, idleBy, AllOurs, Spaced, Clear, Bounded, doneBy, ofSet, ran, win, ofThose}
-use Rattle.theory.specs.WorkLaws.{supply-all, done-back, done-suc, back-zero}
+use Rattle.theory.specs.Windows.{supply, usedBy, spareBy, idleBy, Spaced, Clear, Bounded, doneBy, ofSet, ran, win, ofThose}
+use Rattle.theory.specs.WorkLaws.{done-back, done-suc, back-zero}
 use Rattle.theory.specs.LoadLaws.{came-win, win-own, win-above}
 
 -- the tick in which a job of some tasks runs is one in which a job of their set does
@@ -79,15 +79,3 @@ pub share-core : (j : Jobs) (i : ℕ) (C : ℕ → ℕ) (g c : ℕ → ℕ → �
     → supply j u n ≤ idleBy j (isAbove i) u t + sum (λ k. C k * c k n) i
 share-core j i C g c b u t n l clear =
     omega (arith, supply-part j (isAbove i) u n, idle-longer j (isAbove i) u n t l, used-win j (isAbove i) u n clear, win-above j u n i C g c b)
-
--- share, where every tick is ours
-pub share-all : (j : Jobs)
-    → AllOurs j
-    → (i : ℕ) (C : ℕ → ℕ) (g c : ℕ → ℕ → ℕ)
-    → Bounded j i C g c
-    → (u t n : ℕ)
-    → n ≤ t
-    → Clear j (isAbove i) u
-    → n ≤ spareBy j (isAbove i) u t + sum (λ k. C k * c k n) i
-share-all j all i C g c b u t n l clear =
-    omega (arith, share-core j i C g c b u t n l clear, idle-spare j (isAbove i) u t, supply-all j u all n)

@@ -25,11 +25,6 @@ split true false w l h f = omega (arith, f refl)
 split false b w l h f = refl
 
 module _ (j : Jobs) (s : ℕ) where
-  -- one more tick
-  pub supply-suc : (t : ℕ) → supply j s (suc t) ≡ supply j s t + on (j .ours (s + t)) 1
-  unfolding supply sum
-  supply-suc t = refl
-
   -- the supply is at most the ticks
   pub supply-le : (t : ℕ) → supply j s t ≤ t
   unfolding supply sum

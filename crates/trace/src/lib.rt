@@ -32,7 +32,7 @@ pub struct Shapers {
 }
 
 // The shapers before the first release, with the kept jitters.
-pub fn kept_shapers(s: TaskSet, kept: &[u32]) -> Shapers
+fn kept_shapers(s: TaskSet, kept: &[u32]) -> Shapers
     requires { ⌜ (s .count ≤ maxTasks) × (s .count ≤ length (now kept)) ⌝ }
     ensures { λ r. ⌜ Standing (viewOf s .period) (column (now (kept .entry))) (λ i. []) (s .count) (r .of) ⌝ }
 {
@@ -50,7 +50,7 @@ pub fn kept_shapers(s: TaskSet, kept: &[u32]) -> Shapers
 }
 
 // The shapers before the first release, with the full jitters.
-pub fn full_shapers(s: TaskSet) -> Shapers
+fn full_shapers(s: TaskSet) -> Shapers
     requires { ⌜ s .count ≤ maxTasks ⌝ }
     ensures { λ r. ⌜ Standing (viewOf s .period) (viewOf s .jitter) (λ i. []) (s .count) (r .of) ⌝ }
 {
@@ -94,7 +94,7 @@ pub fn fill_ready(
 
 // Whether a list that passed its check is legal: the first release that the shapers with the full jitters would move is the first that is
 // too close.
-pub fn first_close(s: TaskSet, count: usize, task: &[u32], tick: &[u32]) -> TraceAnswer
+fn first_close(s: TaskSet, count: usize, task: &[u32], tick: &[u32]) -> TraceAnswer
     requires { ⌜ Shapable (viewOf s) count (now task) (now tick) ⌝ }
     ensures { λ r. ⌜ ((cost : List ℕ) → traceIn r ≡ answered (firstClose (viewOf s) (releasesOf count (now (task .entry)) (now (tick .entry)) cost))) ⌝ }
 {
@@ -137,7 +137,7 @@ pub fn check_trace(
 
 // The lent slices of a call with kept jitters and a list: 13 at the first that is too short. `slots` is the length of the shortest column
 // that the call writes by release.
-pub fn check_slots(
+fn check_slots(
     tasks: usize,
     kept: &[u32],
     count: usize,
