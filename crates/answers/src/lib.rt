@@ -10,9 +10,9 @@ ghost use Rattle.model.specs.Checks.{checkTasks};
 ghost use Rattle.model.specs.Choice.{choice};
 ghost use Rattle.model.specs.Calls.{releasesOf};
 ghost use Rattle.taskset.specs.TaskSet.{viewOf};
-ghost use Rattle.report.specs.ReportLaws.{PutLine};
+ghost use Rattle.report.specs.PutLine.{PutLine};
 ghost use Rattle.answers.specs.Answers.{chosenText, chooseText, listText, replayText};
-ghost use Rattle.answers.specs.RunLaws.{Listed, Kept, keptText};
+ghost use Rattle.answers.specs.Listed.{Listed, Kept, keptText};
 
 // The text of the choice of a task set.
 fn put_chosen(s: TaskSet, out: &mut [u8]) -> usize

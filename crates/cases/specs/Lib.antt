@@ -1,3 +1,2 @@
 -- What the blocks of a case mean, and laws of it.
 pub mod Cases
-pub mod CaseLaws

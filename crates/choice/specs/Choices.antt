@@ -13,7 +13,7 @@ use Rattle.model.specs.Demand.{window}
 use Rattle.model.specs.Verdict.{verdict}
 use Rattle.model.specs.Choice.{column, andKeep, leastKeep, worstOf, Choice, unfit, chosen, choice}
 use Rattle.demand.specs.Columns.{flatTasks, Searchable}
-use Rattle.demand.specs.SearchLaws.{Search}
+use Rattle.demand.specs.Searching.{Search}
 use Rattle.choice.specs.declared.Window.{Window}
 use Rattle.choice.specs.declared.Window.the-variants.{Within, Over}
 use Rattle.choice.specs.declared.Least.{Least}

@@ -6,7 +6,7 @@ ghost use Rattle.model.specs.Checks.{refusalOf};
 ghost use Rattle.model.specs.Calls.{taskInputs, arrivalCall};
 ghost use Rattle.taskset.specs.TaskSet.{viewOf, refusalIn};
 ghost use Rattle.demand.specs.Columns.{Small, Tried, Columns, IsTerm, IsLoad, IsOnce, Copied};
-ghost use Rattle.demand.specs.Answers.{arrivalIn};
+ghost use Rattle.demand.specs.ArrivalAnswer.{arrivalIn};
 use taskset::Checked;
 use taskset::TaskSet;
 

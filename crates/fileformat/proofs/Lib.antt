@@ -6,4 +6,4 @@ pub mod RoundTrips
 pub mod Prefix
 pub mod SheetLaws
 pub mod OffsetLaws
-pub mod CallLaws
+pub mod RoundTripCalls

@@ -3,15 +3,12 @@ use Prim.Native.Nat.{ℕ, _<_}
 use mathlib.Core.Path.{_≡_}
 use mathlib.Core.Bool.{false}
 use mathlib.Core.List.{List}
-use lib.ListN.{getD, take}
-use lib.IntN.{ℤ, pos}
-use Rattle.model.specs.Tasks.{Tasks, Release, Valid}
+use lib.ListN.{take}
+use Rattle.model.specs.Tasks.{Tasks, Release}
 use Rattle.model.specs.Gap.{Legal}
-use Rattle.model.specs.Verdict.{fits, verdict}
-use Rattle.model.specs.Choice.{column, andKeep, isFits, chosen, choice}
+use Rattle.model.specs.Verdict.{verdict}
+use Rattle.model.specs.Choice.{column, andKeep, isFits}
 use Rattle.model.specs.Claims.{Trace, OnTime}
-use Rattle.response.specs.ChoiceLaws.{choice-keeps, choice-fits, choice-least}
-use Rattle.guarantee.specs.Demand3.{demand3}
 
 -- kept jitters ks of all tasks of a set
 pub record Safe (s : Tasks) (ks : List ℕ) : Type 0 where
@@ -19,15 +16,3 @@ pub record Safe (s : Tasks) (ks : List ℕ) : Type 0 where
   pub on-time : (i : ℕ) → i < s .count → (l : List Release) → Trace s l → Legal s l i → OnTime s (column ks) i l
   -- every K below a task's, with those of the tasks above as they are, has a verdict that is not "fits"
   pub least : (i K : ℕ) → i < s .count → K < column ks i → isFits (verdict s (andKeep (take i ks) K) i) ≡ false
-
--- those of a choice
-pub choice-safe : (s : Tasks) → Valid s → (ks : List ℕ) (ws : List ℤ) → choice s ≡ chosen ks ws → Safe s ks
-choice-safe s v ks ws h = record {
-  on-time = λ i g l tr legal. go i g l tr legal (choice-fits s ks ws h i g);
-  least = choice-least s ks ws h;
-}
-  where
-    go
-        : (i : ℕ) → i < s .count → (l : List Release) → Trace s l → Legal s l i → (q : ℕ) × (verdict s (column ks) i ≡ fits (getD ws i (pos 0)) q)
-        → OnTime s (column ks) i l
-    go i g l tr legal (q, e) = demand3 s v (column ks) (choice-keeps s ks ws h) i g .if-fits (getD ws i (pos 0)) q e l tr legal

@@ -1,10 +1,4 @@
 -- Demand 3.
-pub mod OnProcessor
-pub mod Plain
-pub mod LimitShare
-pub mod Fits
-pub mod Late
-pub mod Demand3
-pub mod Bounds
 pub mod ChoiceSafe
-pub mod CallLaws
+pub mod AnsweredCalls
+pub mod RunBounds

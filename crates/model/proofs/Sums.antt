@@ -2,103 +2,25 @@
 use Prim.Native.Nat.{ℕ, zero, suc, _+_, _-_, _*_, _/_, _≤_, _<_}
 use mathlib.Core.Path.{_≡_, refl}
 use mathlib.Core.Bool.{true, false}
-use mathlib.Core.Option.{some, none}
-use mathlib.Core.List.{List, [], _∷_, map}
+use mathlib.Core.Option.{none}
+use mathlib.Core.List.{[], _∷_}
 use native.Mathlib.Omega.{arith}
 use native.Mathlib.Nat.{div-one}
 use borrow.Author.Tests.{lt-leb}
-use lib.ListN.{length, getD}
-use lib.IntN.{pos}
 use Rattle.model.specs.Search.{first}
 use Rattle.model.specs.Series.{on, sum, most, table}
 use Rattle.model.specs.Limits.{horizonTick}
-use Rattle.model.specs.Tasks.{Tasks, Release}
+use Rattle.model.specs.Tasks.{Tasks}
 use Rattle.model.specs.Arrival.{ceilDiv, arrivals}
 use Rattle.model.specs.Gap.{gap, own}
-use Rattle.model.specs.Ready.{after, readyNext, readyFrom, readyTicks, readyAt, readyList}
+use Rattle.model.specs.Ready.{after, readyNext, readyFrom, readyAt, readyList}
 use Rattle.model.specs.Run.{pending, prefer, top, pick, less, leftAt, runs, runsIn, endOf, finishOf, finishAt, finishList}
 use Rattle.model.specs.Demand.{aboveLoad, demand, meets, window}
 use Rattle.model.specs.Bound.{maxZ, minZ, offset, bound}
-use Rattle.model.specs.Verdict.{Verdict, horizon, late, fits, boundOf, isLate, isLast, stops, boundAt, peak, judge, verdict}
+use Rattle.model.specs.Verdict.{horizon, boundOf, isLate, isLast, stops, boundAt, peak, judge, verdict}
 use Rattle.model.specs.Choice.{column}
 use Rattle.model.proofs.SearchLaws.{first-hit, first-none}
-
--- P, J, E and D of a task, as document 01 prints them
-pub record Entry : Type 0 where
-  pub P : ℕ
-  pub J : ℕ
-  pub E : ℕ
-  pub D : ℕ
-
-abbrev pub task : ℕ → ℕ → ℕ → ℕ → Entry
-task p j e d = record { P = p; J = j; E = e; D = d }
-
-abbrev pub entry : List Entry → ℕ → Entry
-entry l i = getD l i (task 0 0 0 0)
-
-abbrev pub sheet : List Entry → Tasks
-sheet l = record {
-  count = length l;
-  period = λ i. entry l i .P;
-  jitter = λ i. entry l i .J;
-  cost = λ i. entry l i .E;
-  deadline = λ i. entry l i .D;
-}
-
--- one line of a sum
-pub data Row : Type 0 where
-  -- P and jitter: arrival counts at some t
-  counts : ℕ → ℕ → List ℕ → List ℕ → Row
-  -- P and K: gaps at some k
-  gaps : ℕ → ℕ → List ℕ → List ℕ → Row
-  -- P and K: ready ticks of some releases
-  readies : ℕ → ℕ → List ℕ → List ℕ → Row
-  -- sheet, kept jitters and task: W at some q
-  windows : List Entry → List ℕ → ℕ → List ℕ → List ℕ → Row
-  -- sheet, kept jitters and task: the verdict
-  judged : List Entry → List ℕ → ℕ → Verdict → Row
-  -- sheet, kept jitters and releases: ready and finish ticks of the run
-  ran : List Entry → List ℕ → List Release → List ℕ → List ℕ → Row
-
-abbrev pub Holds : Row → Type 0
-Holds (counts P K ts ns) = map (arrivals P K) ts ≡ ns
-Holds (gaps P K ks ns) = map (gap P K) ks ≡ ns
-Holds (readies P K l ns) = readyTicks P K l ≡ ns
-Holds (windows l ks i qs ns) = map (window (sheet l) (column ks) i) qs ≡ map some ns
-Holds (judged l ks i v) = verdict (sheet l) (column ks) i ≡ v
-Holds (ran l ks rs es fs) = (readyList (sheet l) (column ks) rs ≡ es) × (finishList (sheet l) (column ks) rs ≡ fs)
-
-abbrev pub AllRows : List Row → Type 0
-AllRows [] = Unit
-AllRows (r ∷ l) = Holds r × AllRows l
-
-abbrev pub AllSums : List (List Row) → Type 0
-AllSums [] = Unit
-AllSums (r ∷ l) = AllRows r × AllSums l
-
--- the sheet that document 01 prints, task 2 with a deadline
-abbrev pub printed : ℕ → List Entry
-printed d = task 6 5 2 6 ∷ task 8 7 2 8 ∷ task 10 0 2 d ∷ []
-
-abbrev pub busy : Entry
-busy = task 1 0 1 1
-
--- the sums, in document 01's order
-abbrev pub pad : List (List Row)
-pad =
-    (counts 6 5 (0 ∷ 1 ∷ 2 ∷ 7 ∷ 8 ∷ []) (0 ∷ 1 ∷ 2 ∷ 2 ∷ 3 ∷ []) ∷ [])
-    ∷ (gaps 6 1 (0 ∷ 1 ∷ 2 ∷ 3 ∷ []) (0 ∷ 5 ∷ 11 ∷ 17 ∷ []) ∷ [])
-    ∷ (readies 6 1 (0 ∷ 1 ∷ 7 ∷ []) (0 ∷ 5 ∷ 11 ∷ []) ∷ [])
-    ∷ (readies 6 1 (0 ∷ 0 ∷ 0 ∷ []) (0 ∷ 5 ∷ 11 ∷ []) ∷ [])
-    ∷ (readies 6 8 (0 ∷ 0 ∷ 0 ∷ []) (0 ∷ 0 ∷ 4 ∷ []) ∷ [])
-    ∷ (windows (printed 10) (1 ∷ 3 ∷ 0 ∷ []) 1 (0 ∷ 1 ∷ []) (4 ∷ 8 ∷ []) ∷ [])
-    ∷ (judged (printed 10) (1 ∷ 2 ∷ 0 ∷ []) 1 (late 0 (pos 9)) ∷ judged (printed 10) (1 ∷ 3 ∷ 0 ∷ []) 1 (fits (pos 8) 0) ∷ [])
-    ∷ (windows (printed 10) (5 ∷ 7 ∷ 0 ∷ []) 1 (0 ∷ 1 ∷ []) (6 ∷ 10 ∷ []) ∷ judged (printed 10) (5 ∷ 7 ∷ 0 ∷ []) 1 (late 1 (pos 9)) ∷ [])
-    ∷ (judged (printed 10) (1 ∷ 3 ∷ 0 ∷ []) 2 (fits (pos 10) 0) ∷ judged (printed 9) (1 ∷ 3 ∷ 0 ∷ []) 2 (late 0 (pos 10)) ∷ [])
-    ∷ (judged (printed 10) (5 ∷ 7 ∷ 0 ∷ []) 2 (late 0 (pos 16)) ∷ [])
-    ∷ (judged (busy ∷ []) (0 ∷ []) 0 (fits (pos 1) 0) ∷ judged (busy ∷ busy ∷ []) (0 ∷ 0 ∷ []) 1 (horizon 0) ∷ [])
-    ∷ (ran (printed 10) (1 ∷ 3 ∷ 0 ∷ []) [] [] [] ∷ ran (printed 10) (1 ∷ 3 ∷ 0 ∷ []) (record { task = 0; tick = 3; cost = 2 } ∷ []) (3 ∷ []) (5 ∷ []) ∷ [])
-    ∷ []
+use Rattle.model.specs.Sums.{AllSums, busy, pad, sheet, task}
 
 -- sum 11: below a task that takes every tick no demand is ever met
 never : (t : ℕ) → 1 ≤ t → meets (sheet (busy ∷ busy ∷ [])) (column (0 ∷ 0 ∷ [])) 1 0 t ≡ false

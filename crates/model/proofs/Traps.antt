@@ -17,7 +17,7 @@ use Rattle.model.specs.Demand.{aboveLoad, demand, meets}
 use Rattle.model.specs.Bound.{maxZ, minZ, offset, bound}
 use Rattle.model.specs.Verdict.{boundOf, isLate}
 use Rattle.model.specs.Choice.{column}
-use Rattle.model.proofs.Sums.{sheet, task, printed}
+use Rattle.model.specs.Sums.{sheet, task, printed}
 
 -- gaps tested between neighbours only: one gap after the ready tick of the job before, the jobs further back not looked at
 unfoldable pub neighbourNext : ℕ → ℕ → List ℕ → ℕ → ℕ

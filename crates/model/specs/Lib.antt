@@ -2,7 +2,7 @@
 pub mod Search
 pub mod Series
 pub mod Limits
-pub mod Machine
+pub mod Processor
 pub mod Tasks
 pub mod Arrival
 pub mod Gap
@@ -17,3 +17,4 @@ pub mod Claims
 pub mod Refusal
 pub mod Checks
 pub mod Calls
+pub mod Sums

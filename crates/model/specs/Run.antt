@@ -6,7 +6,7 @@ use mathlib.Core.List.{List}
 use lib.ListN.{length}
 use lib.Dec.{leb, ltb, eqb}
 use Rattle.model.specs.Series.{on, sum, most, table}
-use Rattle.model.specs.Machine.{Machine, plain}
+use Rattle.model.specs.Processor.{Processor, plain}
 use Rattle.model.specs.Tasks.{Tasks, Release, releaseAt}
 use Rattle.model.specs.Ready.{readyAt}
 
@@ -68,7 +68,7 @@ unfoldable pub finishOf : Jobs → ℕ → ℕ
 finishOf j p = most (λ t. on (runsIn j p t) (suc t)) (endOf j)
 
 -- the jobs of a list of releases on a processor
-abbrev pub jobsOn : Machine → Tasks → (ℕ → ℕ) → List Release → Jobs
+abbrev pub jobsOn : Processor → Tasks → (ℕ → ℕ) → List Release → Jobs
 jobsOn m s k l = record {
   count = length l;
   task = λ p. releaseAt l p .task;

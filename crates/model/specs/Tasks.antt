@@ -3,7 +3,7 @@ use Prim.Native.Nat.{ℕ, _≤_, _<_}
 use mathlib.Core.List.{List}
 use lib.ListN.{getD}
 use Rattle.model.specs.Limits.{maxTasks, maxTime}
-use Rattle.model.specs.Machine.{plain}
+use Rattle.model.specs.Processor.{plain}
 
 -- "sheet": a count, and P, J, E and D of each task; task 0 has the highest priority
 pub record Tasks : Type 0 where

@@ -7,7 +7,7 @@ ghost use lib.ListN.{length, getD};
 ghost use Rattle.taskset.specs.TaskSet.{viewOf};
 ghost use Rattle.text.specs.Text.{lines};
 ghost use Rattle.report.specs.Report.{choiceFields, choiceLine, choiceText, runFields, runLine, runText, refusalText};
-ghost use Rattle.report.specs.ReportLaws.{PutLine};
+ghost use Rattle.report.specs.PutLine.{PutLine};
 
 // The line of one task: task, P, J, E, D, K, largest R.
 fn put_task(out: &mut [u8], at: usize, i: u32, t: Task, k: u32, w: u32) -> usize

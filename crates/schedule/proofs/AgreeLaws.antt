@@ -8,8 +8,8 @@ use native.Mathlib.Omega.{arith}
 use Rattle.model.specs.Series.{table}
 use Rattle.model.specs.Run.{Jobs, leftAt, runs, finishOf}
 use Rattle.theory.specs.Windows.{AllOurs, Before}
-use Rattle.theory.specs.RunLaws.{Picked, runs-some, runs-none, runs-or, left-zero, left-same, left-other}
-use Rattle.theory.specs.FinishLaws.{LastTick, finish-ran, finish-last}
+use Rattle.theory.proofs.RunLaws.{Picked, runs-some, runs-none, runs-or, left-zero, left-same, left-other}
+use Rattle.theory.proofs.FinishLaws.{LastTick, finish-ran, finish-last}
 use Rattle.schedule.proofs.RunningLaws.{runs-is, runs-nothing}
 
 -- the same jobs in two guises, where every tick is ours

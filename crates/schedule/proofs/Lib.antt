@@ -2,6 +2,6 @@
 pub mod SearchedLaws
 pub mod RunningLaws
 pub mod TickLaws
-pub mod FillLaws
 pub mod AgreeLaws
 pub mod RunCallLaws
+pub mod FinishFillLaws

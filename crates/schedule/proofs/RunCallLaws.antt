@@ -15,12 +15,12 @@ use Rattle.model.specs.Calls.{releasesOf, columnAfter, runInputs}
 use Rattle.model.specs.Run.{jobs, finishOf, finishAt, finishList}
 use Rattle.releases.proofs.ReleaseLaws.{length-releases, release-at}
 use Rattle.model.proofs.TableLaws.{length-table}
-use Rattle.shaper.specs.ShaperLaws.{maxReady}
+use Rattle.shaper.proofs.ShaperLaws.{maxReady}
 use Rattle.trace.specs.TraceCalls.{callInputs, Shapable}
-use Rattle.trace.specs.ReadyAtLaws.{ready-rising}
-use Rattle.trace.proofs.CallLaws.{Callable, callable-of, listed-shapable, run-checks}
-use Rattle.trace.proofs.WalkLaws.{inside, task-is, list-high, ready-high, ready-slot}
-use Rattle.machine.specs.FinishBound.{finish-bound}
+use Rattle.trace.proofs.ReadyAtLaws.{ready-rising}
+use Rattle.trace.proofs.ListCallLaws.{Callable, callable-of, listed-shapable, run-checks}
+use Rattle.trace.proofs.CloseWalkLaws.{inside, task-is, list-high, ready-high, ready-slot}
+use Rattle.processor.proofs.FinishBound.{finish-bound}
 use Rattle.schedule.specs.Schedule.{jobsOf, maxFinish, Runnable}
 use Rattle.schedule.proofs.AgreeLaws.{Agree, finish-agree, table-agree}
 

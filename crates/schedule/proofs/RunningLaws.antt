@@ -12,8 +12,8 @@ use Rattle.model.specs.Limits.{maxTasks, maxReleases}
 use Rattle.model.specs.Run.{Jobs, leftAt, runs, finishOf}
 use Rattle.model.proofs.SeriesLaws.{le-by}
 use Rattle.theory.specs.Windows.{AllOurs, Before}
-use Rattle.theory.specs.RunLaws.{none-some, Picked, runs-some, runs-none, left-same, left-other}
-use Rattle.theory.specs.FinishLaws.{finish-not, finish-late}
+use Rattle.theory.proofs.RunLaws.{none-some, Picked, runs-some, runs-none, left-same, left-other}
+use Rattle.theory.proofs.FinishLaws.{finish-not, finish-late}
 use Rattle.schedule.specs.Schedule.{maxFinish}
 
 -- the job that runs in a tick

@@ -11,7 +11,7 @@ use lib.ListN.{length, getD, set, length-set}
 use lib.Seq.{getD-set-same, getD-set-other}
 use borrow.Author.Tests.{lt-ltb, le-ltb}
 use Rattle.model.specs.Search.{first}
-use Rattle.model.specs.Machine.{plain}
+use Rattle.model.specs.Processor.{plain}
 use Rattle.model.proofs.SearchLaws.{Found, first-found, first-nothing, search-here, search-next, search-end}
 use Rattle.model.proofs.SeriesLaws.{below-suc, le-or-lt}
 use Rattle.schedule.specs.Schedule.{orElse, firstFrom, never, wakeOf, earliest, Holds}

@@ -13,7 +13,7 @@ use lib.Dec.{eqb}
 use borrow.Author.Tests.{eqb-true, eqb-false}
 use Rattle.model.specs.Run.{Jobs, leftAt, runs, finishOf}
 use Rattle.model.proofs.SeriesLaws.{le-by}
-use Rattle.theory.specs.FinishLaws.{finish-last}
+use Rattle.theory.proofs.FinishLaws.{finish-last}
 use Rattle.schedule.specs.Schedule.{maxFinish, firstFrom}
 use Rattle.schedule.proofs.SearchedLaws.{Least, least-is}
 use Rattle.schedule.proofs.RunningLaws.{next-same, next-other, next-none, Ordered, Heads, not-over}

@@ -8,7 +8,7 @@ use lib.ListN.{length, getD}
 use lib.Dec.{leb, ltb, eqb}
 use Rattle.model.specs.Limits.{maxTasks, maxReleases}
 use Rattle.model.specs.Search.{first}
-use Rattle.model.specs.Machine.{plain}
+use Rattle.model.specs.Processor.{plain}
 use Rattle.model.specs.Run.{Jobs, finishOf}
 
 -- the jobs of n releases, given in columns with their ready ticks

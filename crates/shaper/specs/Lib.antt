@@ -1,6 +1,3 @@
 -- The state of the shaper; laws of the gap, of ready ticks, of a task's history and of the state.
 pub mod Shaper
-pub mod GapLaws
-pub mod ReadyLaws
-pub mod History
-pub mod ShaperLaws
+pub mod ReadyTicks

@@ -21,13 +21,13 @@ use Rattle.model.specs.Calls.{releasesOf}
 use Rattle.model.proofs.SearchLaws.{Sought, sought-none, sought-next, sought-here, sought-all}
 use Rattle.shaper.specs.declared.Shaper.{Shaper}
 use Rattle.shaper.specs.declared.Shaped.{Shaped}
-use Rattle.shaper.specs.ReadyLaws.{next-not-before}
-use Rattle.shaper.specs.ShaperLaws.{history-none}
+use Rattle.shaper.proofs.ReadyLaws.{next-not-before}
+use Rattle.shaper.proofs.ShaperLaws.{history-none}
 use Rattle.releases.proofs.ReleaseLaws.{length-releases}
 use Rattle.trace.specs.Standing.{Standing}
 use Rattle.trace.specs.TraceCalls.{Shapable}
 use Rattle.trace.proofs.StandingLaws.{historyAt, history-next, own-next, own-still}
-use Rattle.trace.proofs.WalkLaws.{Walking, walk-fresh, walk-next, walk-history, Step, inside, task-is, tick-is}
+use Rattle.trace.proofs.CloseWalkLaws.{Walking, walk-fresh, walk-next, walk-history, Step, inside, task-is, tick-is}
 
 -- no release before p was too close, so that the shapers with the full jitters have moved none of them
 abbrev pub Still : Tasks → List Release → ℕ → Type 0

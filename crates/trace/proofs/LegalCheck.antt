@@ -17,9 +17,9 @@ use Rattle.model.specs.Ready.{after, readyNext, readyTicks}
 use Rattle.model.specs.Legality.{tooClose, firstClose}
 use Rattle.model.specs.Claims.{Trace}
 use Rattle.model.proofs.SearchLaws.{Found, first-found, first-none, first-nothing}
-use Rattle.shaper.specs.History.{historyOf, legal-ready, ready-legal}
-use Rattle.shaper.specs.ShaperLaws.{history-none}
-use Rattle.trace.specs.PositionLaws.{own-append, Held, held}
+use Rattle.shaper.proofs.History.{historyOf, legal-ready, ready-legal}
+use Rattle.shaper.proofs.ShaperLaws.{history-none}
+use Rattle.trace.proofs.PositionLaws.{own-append, Held, held}
 use Rattle.trace.proofs.StandingLaws.{historyAt, history-next, own-next}
 use Rattle.trace.proofs.CloseLaws.{Still, close-is, close-no, still-next}
 

@@ -17,11 +17,11 @@ use Rattle.model.specs.Ready.{readyNext, readyTicks, readyAt}
 use Rattle.shaper.specs.declared.Shaper.{Shaper}
 use Rattle.shaper.specs.declared.Shaped.{Shaped}
 use Rattle.shaper.specs.Shaper.{stateOf, Small, Shapes}
-use Rattle.shaper.specs.History.{historyOf, history-snoc, ready-here}
-use Rattle.shaper.specs.ShaperLaws.{Within, small-within, history-none, shapes-list}
+use Rattle.shaper.proofs.History.{historyOf, history-snoc, ready-here}
+use Rattle.shaper.proofs.ShaperLaws.{Within, small-within, history-none, shapes-list}
 use Rattle.trace.specs.Standing.{Standing}
-use Rattle.trace.specs.PositionLaws.{own-append, own-same, own-split, own-at, place-of, Held, held}
-use Rattle.trace.specs.ReadyAtLaws.{ready-own}
+use Rattle.trace.proofs.PositionLaws.{own-append, own-same, own-split, own-at, place-of, Held, held}
+use Rattle.trace.proofs.ReadyAtLaws.{ready-own}
 
 -- one release of another task in front
 own-other : (i : ℕ) (r : Release) → (r .task ≡ i → ⊥) → own i (r ∷ []) ≡ []

@@ -9,9 +9,8 @@ ghost use Rattle.model.specs.Verdict as model_verdict;
 ghost use Rattle.model.specs.Calls.{verdictCall};
 ghost use Rattle.taskset.specs.TaskSet.{viewOf};
 ghost use Rattle.demand.specs.Columns.{flatTasks};
-ghost use Rattle.verdict.specs.Answers.{verdictIn};
-ghost use Rattle.verdict.specs.Walking.{Walkable, Met, IsResponse};
-ghost use Rattle.verdict.specs.PeakLaws.{betterOf};
+ghost use Rattle.verdict.specs.VerdictAnswer.{verdictIn};
+ghost use Rattle.verdict.specs.Walking.{Walkable, Met, IsResponse, betterOf};
 use taskset::Checked;
 use taskset::TaskSet;
 

@@ -2,5 +2,3 @@
 pub mod Merge
 pub mod GapTimes
 pub mod Scenario
-pub mod LateRun
-pub mod LateLaw

@@ -1,11 +1,11 @@
-use Rattle.report.specs.ReportLaws.{wider}
+use Rattle.report.proofs.ReportLaws.{wider}
 use Prim.Native.Nat.{_≤_}
 use mathlib.Core.Path.{sym}
 use native.Mathlib.Omega.{arith}
 use lib.ListN.{replicate}
 use Rattle.model.proofs.CheckLaws.{valid-of}
 use Rattle.taskset.specs.TaskSet.{viewOf}
-use Rattle.answers.specs.SaidLaws.{Refusing, refusing, chosen-said}
+use Rattle.answers.proofs.SaidLaws.{Refusing, refusing, chosen-said}
 use borrow.Author.Needs.{needs}
 use Rattle.answers.proofs.put_chosen.Statement.{statement}
 use Rattle.answers.proofs.put_chosen.Tie as tie

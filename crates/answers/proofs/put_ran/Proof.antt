@@ -2,7 +2,7 @@ use native.Mathlib.Omega.{arith}
 use lib.ListN.{replicate}
 use Rattle.taskset.specs.TaskSet.{viewOf}
 use denote.Ref.{now}
-use Rattle.answers.specs.ReplayLaws.{never-refused, ran-said}
+use Rattle.answers.proofs.ReplayLaws.{never-refused, ran-said}
 use borrow.Author.Needs.{needs}
 use Rattle.answers.proofs.put_ran.Statement.{statement}
 use Rattle.answers.proofs.put_ran.Tie as tie

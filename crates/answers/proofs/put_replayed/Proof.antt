@@ -1,4 +1,4 @@
-use Rattle.report.specs.ReportLaws.{wider}
+use Rattle.report.proofs.ReportLaws.{wider}
 use Prim.Native.Nat.{_≤_}
 use mathlib.Core.Path.{sym}
 use native.Mathlib.Omega.{arith}
@@ -8,7 +8,7 @@ use denote.Ref.{now}
 use Rattle.model.specs.Choice.{choice}
 use Rattle.model.specs.Calls.{keptColumn}
 use Rattle.model.proofs.CheckLaws.{valid-of}
-use Rattle.answers.specs.SaidLaws.{Refusing, refusing, keeping, zeros-rest}
+use Rattle.answers.proofs.SaidLaws.{Refusing, refusing, keeping, zeros-rest}
 use borrow.Author.Needs.{needs}
 use Rattle.answers.proofs.put_replayed.Statement.{statement}
 use Rattle.answers.proofs.put_replayed.Tie as tie

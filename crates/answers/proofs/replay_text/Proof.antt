@@ -1,8 +1,8 @@
-use Rattle.report.specs.ReportLaws.{wider}
+use Rattle.report.proofs.ReportLaws.{wider}
 use native.Mathlib.Omega.{arith}
 use lib.ListN.{replicate}
 use denote.Ref.{now}
-use Rattle.answers.specs.ReplayLaws.{halts, holds}
+use Rattle.answers.proofs.ReplayLaws.{halts, holds}
 use borrow.Author.Needs.{needs}
 use Rattle.answers.proofs.replay_text.Statement.{statement}
 use Rattle.answers.proofs.replay_text.Tie as tie

@@ -7,7 +7,7 @@ use denote.Ref.{now}
 use lib.ListN.{length, drop, length-set}
 use Rattle.io.proofs.Counting.{counts}
 use Rattle.cases.specs.Cases.{numberAt, Filled}
-use Rattle.cases.specs.CaseLaws.{filled-next, rest-next}
+use Rattle.cases.proofs.CaseLaws.{filled-next, rest-next}
 use Rattle.cases.proofs.numbers.Statement.{statement}
 use Rattle.cases.proofs.numbers.Tie as tie
 

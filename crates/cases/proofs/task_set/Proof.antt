@@ -6,7 +6,7 @@ use denote.Ref.{now}
 use lib.ListN.{length, length-set}
 use Rattle.taskset.specs.TaskSet.{noTask}
 use Rattle.cases.specs.Cases.{entryOf, Filled}
-use Rattle.cases.specs.CaseLaws.{filled-next}
+use Rattle.cases.proofs.CaseLaws.{filled-next}
 use borrow.Author.Needs.{needs}
 use Rattle.cases.proofs.task_set.Statement.{statement}
 use Rattle.cases.proofs.task_set.Tie as tie

@@ -3,7 +3,7 @@ use Prim.Native.Nat.{_-_}
 use mathlib.Core.Path.{refl}
 use borrow.Author.Needs.{needs}
 use native.Mathlib.Omega.{arith}
-use Rattle.choice.specs.ChoosingLaws.{Choosing, choosing-none, choosing-walk, choosing-unfit, choosing-next, choosing-all}
+use Rattle.choice.proofs.ChoosingLaws.{Choosing, choosing-none, choosing-walk, choosing-unfit, choosing-next, choosing-all}
 use Rattle.choice.proofs.choices_of.Statement.{statement}
 use Rattle.choice.proofs.choices_of.Tie as tie
 

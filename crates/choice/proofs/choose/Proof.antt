@@ -5,7 +5,7 @@ use native.Mathlib.Omega.{arith}
 use Rattle.model.specs.Checks.{checkTasks}
 use Rattle.model.proofs.CheckLaws.{valid-of}
 use Rattle.taskset.specs.TaskSet.{viewOf, refusalIn}
-use Rattle.choice.specs.CallLaws.{refuses-sheet, refuses-kept, refuses-worst, refuses-unfit, answers}
+use Rattle.choice.proofs.ChoiceCallLaws.{refuses-sheet, refuses-kept, refuses-worst, refuses-unfit, answers}
 use borrow.Author.Needs.{needs}
 use Rattle.choice.proofs.choose.Statement.{statement}
 use Rattle.choice.proofs.choose.Tie as tie

@@ -5,7 +5,7 @@ use mathlib.Core.Option.{some}
 use borrow.Author.Needs.{needs}
 use native.Mathlib.Omega.{arith}
 use Rattle.choice.specs.Choices.{windowIn}
-use Rattle.choice.specs.LeastLaws.{windowAt, Walking, Stepping, walking-start, walking-none, stepped, walking-step}
+use Rattle.choice.proofs.LeastLaws.{windowAt, Walking, Stepping, walking-start, walking-none, stepped, walking-step}
 use Rattle.choice.proofs.least_keep.Statement.{statement}
 use Rattle.choice.proofs.least_keep.Tie as tie
 

@@ -2,7 +2,7 @@
 use Prim.Native.Nat.{_-_}
 use borrow.Author.Needs.{needs}
 use native.Mathlib.Omega.{arith}
-use Rattle.choice.specs.CopyLaws.{Copied, copied-none, copied-next, copied-all}
+use Rattle.choice.proofs.CopyLaws.{Copied, copied-none, copied-next, copied-all}
 use Rattle.choice.proofs.put.Statement.{statement}
 use Rattle.choice.proofs.put.Tie as tie
 

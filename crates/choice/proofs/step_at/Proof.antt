@@ -3,7 +3,7 @@ use Prim.Native.Nat.{_+_, _-_, max}
 use mathlib.Core.Path.{_≡_, ap, ap₂, _∙_}
 use native.Mathlib.Omega.{arith}
 use Rattle.choice.specs.Choices.{nextHigh}
-use Rattle.choice.specs.StepLaws.{step-over, step-keep, step-next}
+use Rattle.choice.proofs.ChoiceStepLaws.{step-over, step-keep, step-next}
 use borrow.Author.Needs.{needs}
 use Rattle.choice.proofs.step_at.Statement.{statement}
 use Rattle.choice.proofs.step_at.Tie as tie

@@ -2,7 +2,7 @@
 use Prim.Native.Nat.{_-_}
 use borrow.Author.Needs.{needs}
 use native.Mathlib.Omega.{arith}
-use Rattle.choice.specs.SearchLaws.{Searching, search-start, search-within, search-over, search-next}
+use Rattle.choice.proofs.WindowFromLaws.{Searching, search-start, search-within, search-over, search-next}
 use Rattle.choice.proofs.window_from.Statement.{statement}
 use Rattle.choice.proofs.window_from.Tie as tie
 

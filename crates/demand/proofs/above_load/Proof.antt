@@ -1,7 +1,7 @@
 -- The loop has summed the terms of the tasks below j.
 use Prim.Native.Nat.{_-_}
 use native.Mathlib.Omega.{arith}
-use Rattle.demand.specs.ColumnLaws.{Summed, summed-none, summed-next, summed-all}
+use Rattle.demand.proofs.FlatColumnLaws.{Summed, summed-none, summed-next, summed-all}
 use Rattle.demand.proofs.above_load.Statement.{statement}
 use Rattle.demand.proofs.above_load.Tie as tie
 

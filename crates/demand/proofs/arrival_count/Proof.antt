@@ -8,7 +8,7 @@ use Rattle.model.specs.Checks.{refusalOf}
 use Rattle.model.specs.Calls.{taskInputs, arrivalCall}
 use Rattle.model.proofs.OrderLaws.{answers, refuses}
 use Rattle.taskset.specs.TaskSet.{viewOf, refusalIn}
-use Rattle.demand.specs.CallLaws.{Passed, passed-of}
+use Rattle.demand.proofs.TaskCallLaws.{Passed, passed-of}
 use Rattle.demand.proofs.arrival_count.Statement.{statement}
 use Rattle.demand.proofs.arrival_count.Tie as tie
 

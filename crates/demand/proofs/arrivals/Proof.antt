@@ -2,7 +2,7 @@
 use mathlib.Core.Path.{_≡_, sym}
 use borrow.Author.Needs.{needs}
 use native.Mathlib.Omega.{arith}
-use Rattle.demand.specs.ArrivalLaws.{arrivals-at, arrivals-none}
+use Rattle.demand.proofs.ArrivalCountLaws.{arrivals-at, arrivals-none}
 use Rattle.demand.proofs.arrivals.Statement.{statement}
 use Rattle.demand.proofs.arrivals.Tie as tie
 

@@ -6,7 +6,7 @@ use Rattle.model.specs.Checks.{checkTasks}
 use Rattle.model.proofs.CheckLaws.{valid-of}
 use Rattle.model.proofs.OrderLaws.{refused-tasks}
 use Rattle.taskset.specs.TaskSet.{viewOf, refusalIn}
-use Rattle.demand.specs.CallLaws.{call-task, call-slots, call-kept}
+use Rattle.demand.proofs.TaskCallLaws.{call-task, call-slots, call-kept}
 use Rattle.demand.proofs.check_call.Statement.{statement}
 use Rattle.demand.proofs.check_call.Tie as tie
 

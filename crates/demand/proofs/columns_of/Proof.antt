@@ -3,7 +3,7 @@ use Prim.Native.Nat.{_-_}
 use mathlib.Core.Path.{refl}
 use native.Mathlib.Omega.{arith}
 use Rattle.demand.specs.Columns.{Copied}
-use Rattle.demand.specs.ColumnLaws.{copied-none, copied-next, copied-all}
+use Rattle.demand.proofs.FlatColumnLaws.{copied-none, copied-next, copied-all}
 use Rattle.demand.proofs.columns_of.Statement.{statement}
 use Rattle.demand.proofs.columns_of.Tie as tie
 

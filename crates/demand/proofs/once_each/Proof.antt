@@ -1,7 +1,7 @@
 -- The loop has summed the loads of the tasks below j.
 use Prim.Native.Nat.{_-_, _≤_}
 use native.Mathlib.Omega.{arith}
-use Rattle.demand.specs.ColumnLaws.{Once, once-none, once-next, once-all}
+use Rattle.demand.proofs.FlatColumnLaws.{Once, once-none, once-next, once-all}
 use Rattle.demand.proofs.once_each.Statement.{statement}
 use Rattle.demand.proofs.once_each.Tie as tie
 

@@ -1,7 +1,7 @@
 -- The product is the definition's term, and below 64 bits.
 use borrow.Author.Needs.{needs}
 use native.Mathlib.Omega.{arith}
-use Rattle.demand.specs.ColumnLaws.{term-high, term-is}
+use Rattle.demand.proofs.FlatColumnLaws.{term-high, term-is}
 use Rattle.demand.proofs.term.Statement.{statement}
 use Rattle.demand.proofs.term.Tie as tie
 

@@ -1,7 +1,7 @@
 use Prim.Native.Nat.{_-_}
 use native.Mathlib.Omega.{arith}
 use borrow.Author.Needs.{needs}
-use Rattle.reader.proofs.ColumnLaws.{Putting, putting-none, putting-next, putting-all}
+use Rattle.reader.proofs.ReadColumnLaws.{Putting, putting-none, putting-next, putting-all}
 use Rattle.reader.proofs.put_columns.Statement.{statement}
 use Rattle.reader.proofs.put_columns.Tie as tie
 

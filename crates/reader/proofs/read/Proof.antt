@@ -6,7 +6,7 @@ use Rattle.model.specs.Checks.{Lent, checkSlots}
 use Rattle.model.specs.Calls.{lends}
 use Rattle.taskset.specs.TaskSet.{refusalIn}
 use Rattle.releases.proofs.ReleaseLaws.{columns-of}
-use Rattle.reader.proofs.ColumnLaws.{count-in, reads-refused, reads-short, reads-fine}
+use Rattle.reader.proofs.ReadColumnLaws.{count-in, reads-refused, reads-short, reads-fine}
 use borrow.Author.Needs.{needs}
 use Rattle.reader.proofs.read.Statement.{statement}
 use Rattle.reader.proofs.read.Tie as tie

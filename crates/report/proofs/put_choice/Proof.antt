@@ -1,5 +1,5 @@
 use native.Mathlib.Omega.{arith}
-use Rattle.report.specs.ReportLaws.{choice-page}
+use Rattle.report.proofs.ReportLaws.{choice-page}
 use borrow.Author.Needs.{needs}
 use Rattle.report.proofs.put_choice.Statement.{statement}
 use Rattle.report.proofs.put_choice.Tie as tie

@@ -1,5 +1,5 @@
 use native.Mathlib.Omega.{arith}
-use Rattle.report.specs.ReportLaws.{job-line}
+use Rattle.report.proofs.ReportLaws.{job-line}
 use borrow.Author.Needs.{needs}
 use Rattle.report.proofs.put_job.Statement.{statement}
 use Rattle.report.proofs.put_job.Tie as tie

@@ -5,7 +5,7 @@ use native.Mathlib.Omega.{arith}
 use borrow.Author.Needs.{needs}
 use lib.ListN.{length}
 use Rattle.report.specs.Report.{runLine}
-use Rattle.report.specs.ReportLaws.{PutLines, lines-none, lines-next, lines-all}
+use Rattle.report.proofs.ReportLaws.{PutLines, lines-none, lines-next, lines-all}
 use Rattle.report.proofs.put_jobs.Statement.{statement}
 use Rattle.report.proofs.put_jobs.Tie as tie
 

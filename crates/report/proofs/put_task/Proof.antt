@@ -1,5 +1,5 @@
 use native.Mathlib.Omega.{arith}
-use Rattle.report.specs.ReportLaws.{task-line}
+use Rattle.report.proofs.ReportLaws.{task-line}
 use borrow.Author.Needs.{needs}
 use Rattle.report.proofs.put_task.Statement.{statement}
 use Rattle.report.proofs.put_task.Tie as tie

@@ -5,7 +5,7 @@ use native.Mathlib.Omega.{arith}
 use lib.ListN.{length}
 use Rattle.taskset.specs.TaskSet.{viewOf}
 use Rattle.report.specs.Report.{choiceLine}
-use Rattle.report.specs.ReportLaws.{PutLines, lines-none, lines-next, lines-all}
+use Rattle.report.proofs.ReportLaws.{PutLines, lines-none, lines-next, lines-all}
 use Rattle.report.proofs.put_tasks.Statement.{statement}
 use Rattle.report.proofs.put_tasks.Tie as tie
 

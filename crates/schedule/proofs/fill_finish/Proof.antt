@@ -4,7 +4,7 @@ use mathlib.Core.Path.{refl, sym, _∙_}
 use native.Mathlib.Omega.{arith}
 use denote.Ref.{now}
 use Rattle.schedule.specs.Schedule.{jobsOf, maxFinish}
-use Rattle.schedule.proofs.FillLaws.{Filling, Top, fill-start, fill-sleep, fill-idle, fill-top, fill-run, fill-done, fill-end}
+use Rattle.schedule.proofs.FinishFillLaws.{Filling, Top, fill-start, fill-sleep, fill-idle, fill-top, fill-run, fill-done, fill-end}
 use Rattle.schedule.proofs.fill_finish.Statement.{statement}
 use Rattle.schedule.proofs.fill_finish.Tie as tie
 

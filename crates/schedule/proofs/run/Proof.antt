@@ -5,7 +5,7 @@ use Rattle.model.specs.Checks.{refusalOf}
 use Rattle.model.specs.Calls.{runInputs}
 use Rattle.taskset.specs.TaskSet.{viewOf, refusalIn}
 use Rattle.model.proofs.OrderLaws.{column-kept}
-use Rattle.trace.proofs.CallLaws.{ready-written}
+use Rattle.trace.proofs.ListCallLaws.{ready-written}
 use Rattle.schedule.proofs.RunCallLaws.{checked-run, Cleared, callable, shapable, ready-long, runnable, finish-written}
 use Rattle.schedule.proofs.run.Statement.{statement}
 use Rattle.schedule.proofs.run.Tie as tie

@@ -1,7 +1,7 @@
 -- A number of one digit is that digit; of any other the digits before the last are written first.
 use native.Mathlib.Omega.{arith}
 use borrow.Author.Needs.{needs}
-use Rattle.text.specs.TextLaws.{put-digit, put-digits, decimal-some, decimal-last}
+use Rattle.text.proofs.TextLaws.{put-digit, put-digits, decimal-some, decimal-last}
 use Prim.Native.Nat.{ℕ, _<_}
 use borrow.Fn.Kinds.{In}
 use borrow.Fn.PlainCycle.{Measures, is, falls, and}

@@ -5,7 +5,7 @@ use native.Mathlib.Omega.{arith}
 use borrow.Author.Needs.{needs}
 use lib.ListN.{length, take, length-set}
 use Rattle.text.specs.Text.{Put}
-use Rattle.text.specs.TextLaws.{put-next, put-whole}
+use Rattle.text.proofs.TextLaws.{put-next, put-whole}
 use Rattle.text.proofs.put_bytes.Statement.{statement}
 use Rattle.text.proofs.put_bytes.Tie as tie
 

@@ -1,5 +1,5 @@
 use native.Mathlib.Omega.{arith}
-use Rattle.text.specs.TextLaws.{decimal-length, put-ended, field-put}
+use Rattle.text.proofs.TextLaws.{decimal-length, put-ended, field-put}
 use borrow.Author.Needs.{needs}
 use Rattle.text.proofs.put_field.Statement.{statement}
 use Rattle.text.proofs.put_field.Tie as tie

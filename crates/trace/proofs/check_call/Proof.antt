@@ -10,7 +10,7 @@ use Rattle.model.proofs.CheckLaws.{valid-of}
 use Rattle.taskset.specs.TaskSet.{viewOf, refusalIn}
 use Rattle.model.proofs.OrderLaws.{no-single, no-unfit, refused-tasks, refused-count, refused-slots, refused-kept, releases-decide}
 use Rattle.trace.specs.TraceCalls.{slotsLent}
-use Rattle.trace.proofs.CallLaws.{LongEnough, long-enough}
+use Rattle.trace.proofs.ListCallLaws.{LongEnough, long-enough}
 use borrow.Author.Needs.{needs}
 use Rattle.trace.proofs.check_call.Statement.{statement}
 use Rattle.trace.proofs.check_call.Tie as tie

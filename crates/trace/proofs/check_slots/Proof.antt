@@ -1,7 +1,7 @@
 -- The slices in document 01's order: the column by task, then those by release.
 use mathlib.Core.Path.{sym, ap, _∙_}
 use Rattle.taskset.specs.TaskSet.{refusalIn}
-use Rattle.trace.proofs.CallLaws.{lent-kept, lent-columns, lent-short, lent-fine}
+use Rattle.trace.proofs.ListCallLaws.{lent-kept, lent-columns, lent-short, lent-fine}
 use borrow.Author.Needs.{needs}
 use Rattle.trace.proofs.check_slots.Statement.{statement}
 use Rattle.trace.proofs.check_slots.Tie as tie

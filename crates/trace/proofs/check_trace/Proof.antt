@@ -5,7 +5,7 @@ use Rattle.model.specs.Checks.{refusalOf}
 use Rattle.model.specs.Calls.{listInputs}
 use Rattle.taskset.specs.TaskSet.{viewOf, refusalIn}
 use Rattle.releases.proofs.ReleaseLaws.{listed-of}
-use Rattle.trace.proofs.CallLaws.{listed-shapable, trace-refused, trace-answered}
+use Rattle.trace.proofs.ListCallLaws.{listed-shapable, trace-refused, trace-answered}
 use borrow.Author.Needs.{needs}
 use Rattle.trace.proofs.check_trace.Statement.{statement}
 use Rattle.trace.proofs.check_trace.Tie as tie

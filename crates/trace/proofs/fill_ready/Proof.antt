@@ -10,8 +10,8 @@ use Rattle.model.specs.Choice.{column}
 use Rattle.taskset.specs.TaskSet.{viewOf}
 use Rattle.trace.specs.Standing.{Standing}
 use Rattle.trace.specs.TraceCalls.{Shapable}
-use Rattle.trace.proofs.WalkLaws.{walk-small, walk-fits, Step}
-use Rattle.trace.proofs.FillLaws.{Filling, filling-none, filling-next, filling-all}
+use Rattle.trace.proofs.CloseWalkLaws.{walk-small, walk-fits, Step}
+use Rattle.trace.proofs.ReadyFillLaws.{Filling, filling-none, filling-next, filling-all}
 use Rattle.trace.proofs.fill_ready.Statement.{statement}
 use Rattle.trace.proofs.fill_ready.Tie as tie
 

@@ -9,7 +9,7 @@ use Rattle.model.specs.Tasks.{Tasks}
 use Rattle.taskset.specs.TaskSet.{viewOf}
 use Rattle.trace.specs.Standing.{Standing}
 use Rattle.trace.specs.TraceCalls.{Shapable}
-use Rattle.trace.proofs.WalkLaws.{walk-small, Step}
+use Rattle.trace.proofs.CloseWalkLaws.{walk-small, Step}
 use Rattle.trace.proofs.CloseLaws.{Tracing, tracing-none, tracing-close, tracing-next, tracing-all}
 use Rattle.trace.proofs.first_close.Statement.{statement}
 use Rattle.trace.proofs.first_close.Tie as tie

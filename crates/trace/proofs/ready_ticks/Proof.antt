@@ -6,7 +6,7 @@ use Rattle.model.specs.Checks.{refusalOf}
 use Rattle.taskset.specs.TaskSet.{viewOf, refusalIn}
 use Rattle.trace.specs.TraceCalls.{callInputs}
 use Rattle.model.proofs.OrderLaws.{column-kept}
-use Rattle.trace.proofs.CallLaws.{listed-shapable, callable-of, ready-written}
+use Rattle.trace.proofs.ListCallLaws.{listed-shapable, callable-of, ready-written}
 use borrow.Author.Needs.{needs}
 use Rattle.trace.proofs.ready_ticks.Statement.{statement}
 use Rattle.trace.proofs.ready_ticks.Tie as tie

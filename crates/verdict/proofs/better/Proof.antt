@@ -1,6 +1,6 @@
 -- The test decides as the definition's does.
 use borrow.Author.Tests.{lt-ltb, le-ltb}
-use Rattle.verdict.specs.PeakLaws.{betterOf}
+use Rattle.verdict.specs.Walking.{betterOf}
 use Rattle.verdict.proofs.better.Statement.{statement}
 use Rattle.verdict.proofs.better.Tie as tie
 

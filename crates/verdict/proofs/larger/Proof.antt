@@ -3,7 +3,7 @@ use mathlib.Core.Path.{_≡_, _∙_}
 use mir.Syntax.{w64}
 use mir.Val.{toZ, ofZ}
 use mir.ValLaws.{toZ-ofZ}
-use Rattle.verdict.specs.ResponseLaws.{larger-right, larger-left}
+use Rattle.verdict.proofs.ResponseLaws.{larger-right, larger-left}
 use Rattle.verdict.proofs.larger.Statement.{statement}
 use Rattle.verdict.proofs.larger.Tie as tie
 

@@ -7,7 +7,7 @@ use mir.Syntax.{w64}
 use mir.Val.{toZ, ofZ}
 use mir.ValLaws.{toZ-ofZ}
 use Rattle.model.specs.Bound as model
-use Rattle.verdict.specs.ResponseLaws.{product-fits, offset-sum, offset-mag}
+use Rattle.verdict.proofs.ResponseLaws.{product-fits, offset-sum, offset-mag}
 use Rattle.verdict.proofs.offset.Statement.{statement}
 use Rattle.verdict.proofs.offset.Tie as tie
 

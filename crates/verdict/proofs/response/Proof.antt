@@ -6,8 +6,8 @@ use lib.IntN.{pos, _+ℤ_}
 use mir.Syntax.{w64}
 use mir.Val.{toZ, ofZ}
 use mir.ValLaws.{toZ-ofZ}
-use Rattle.verdict.specs.SignedLaws.{back, plain}
-use Rattle.verdict.specs.ResponseLaws.{offset-less-mag, responseOf, response-is, response-low, response-high, response-sum}
+use Rattle.verdict.proofs.SignedLaws.{back, plain}
+use Rattle.verdict.proofs.ResponseLaws.{offset-less-mag, responseOf, response-is, response-low, response-high, response-sum}
 use Rattle.verdict.proofs.response.Statement.{statement}
 use Rattle.verdict.proofs.response.Tie as tie
 

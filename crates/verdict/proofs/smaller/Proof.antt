@@ -3,7 +3,7 @@ use mathlib.Core.Path.{_≡_, _∙_}
 use mir.Syntax.{w64}
 use mir.Val.{toZ, ofZ}
 use mir.ValLaws.{toZ-ofZ}
-use Rattle.verdict.specs.ResponseLaws.{smaller-left, smaller-right}
+use Rattle.verdict.proofs.ResponseLaws.{smaller-left, smaller-right}
 use Rattle.verdict.proofs.smaller.Statement.{statement}
 use Rattle.verdict.proofs.smaller.Tie as tie
 

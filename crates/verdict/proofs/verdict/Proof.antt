@@ -8,8 +8,8 @@ use Rattle.model.specs.Checks.{refusalOf}
 use Rattle.model.specs.Calls.{taskInputs, verdictCall}
 use Rattle.model.proofs.OrderLaws.{answers, refuses}
 use Rattle.taskset.specs.TaskSet.{viewOf, refusalIn}
-use Rattle.demand.specs.CallLaws.{Passed, passed-of}
-use Rattle.verdict.specs.WalkableLaws.{walkable, judged}
+use Rattle.demand.proofs.TaskCallLaws.{Passed, passed-of}
+use Rattle.verdict.proofs.WalkableLaws.{walkable, judged}
 use Rattle.verdict.proofs.verdict.Statement.{statement}
 use Rattle.verdict.proofs.verdict.Tie as tie
 

@@ -5,13 +5,14 @@ use native.Mathlib.Omega.{arith}
 use lib.ListN.{getD}
 use Rattle.model.specs.Refusal.{answered}
 use Rattle.model.specs.Choice.{column}
-use Rattle.response.specs.WindowLaws.{Window}
+use Rattle.response.proofs.WindowLaws.{Window}
 use Rattle.demand.specs.Columns.{flatTasks}
-use Rattle.demand.specs.DemandLaws.{window-found, window-beyond}
-use Rattle.demand.specs.SearchLaws.{Search, own-high, search-start, search-next, search-found}
-use Rattle.verdict.specs.Walking.{Walk}
-use Rattle.verdict.specs.WalkLaws.{walk-start, says-horizon, says-late, says-fits, walk-on}
-use Rattle.verdict.specs.WalkableLaws.{met-at}
+use Rattle.demand.proofs.DemandLaws.{window-found, window-beyond}
+use Rattle.demand.specs.Searching.{Search}
+use Rattle.demand.proofs.WindowSearchLaws.{own-high, search-start, search-next, search-found}
+use Rattle.verdict.proofs.VerdictWalk.{Walk}
+use Rattle.verdict.proofs.VerdictWalkLaws.{walk-start, says-horizon, says-late, says-fits, walk-on}
+use Rattle.verdict.proofs.WalkableLaws.{met-at}
 use Rattle.verdict.proofs.walk.Statement.{statement}
 use Rattle.verdict.proofs.walk.Tie as tie
 

@@ -2,7 +2,7 @@
 use Prim.Native.Nat.{_-_, max}
 use mathlib.Core.Path.{_≡_, ap, _∙_}
 use Rattle.shaper.specs.Shaper.{readyBy}
-use Rattle.shaper.specs.ShaperLaws.{shapes-by}
+use Rattle.shaper.proofs.ShaperLaws.{shapes-by}
 use borrow.Author.Needs.{needs}
 use Rattle.shaper.proofs.Shaper.shape.Statement.{statement}
 use Rattle.shaper.proofs.Shaper.shape.Tie as tie

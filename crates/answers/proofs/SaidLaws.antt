@@ -1,0 +1,107 @@
+-- The text that follows from what the calls say.
+use Prim.Native.Nat.{ℕ, zero, suc, _+_, _≤_, _<_}
+use mathlib.Core.Path.{_≡_, refl, sym, ap, _∙_}
+use mathlib.Core.Option.{none}
+use mathlib.Core.List.{List, [], _∷_, _++_, map}
+use native.Mathlib.Omega.{arith}
+use lib.ListN.{length, getD, drop, replicate, length-map, length-append}
+use lib.Seq.{getD-drop}
+use lib.IntN.{natAbs}
+use Rattle.model.specs.Tasks.{Tasks}
+use Rattle.model.specs.Checks.{checkTasks, refusalOf}
+use Rattle.model.specs.Choice.{column, choice}
+use Rattle.model.specs.Calls.{columnAfter, choiceInputs, keptColumn, worstColumn}
+use Rattle.model.proofs.CheckLaws.{Chosen}
+use Rattle.taskset.specs.declared.Checked.{Checked}
+use Rattle.taskset.specs.declared.Checked.the-variants.{Fine, Refused}
+use Rattle.taskset.specs.TaskSet.{refusalIn}
+use Rattle.response.proofs.ChoiceLaws.{choice-length, chosen-to}
+use Rattle.report.specs.Report.{choiceText, refusalText}
+use Rattle.answers.specs.Answers.{chosenText, listText}
+use Rattle.answers.proofs.AnswerColumnLaws.{choice-text-same}
+use Rattle.answers.proofs.AcceptedCallLaws.{Unfit, choice-refused, choice-fine, keeps-pass}
+use Rattle.answers.specs.Listed.{Kept, keptText}
+
+-- a column of 0s, as far as it goes
+abbrev pub Zeros : List ℕ → Type 0
+Zeros z = (i : ℕ) → getD z i 0 ≡ 0
+
+pub zeros-rest : (n m : ℕ) → Zeros (drop m (replicate n 0))
+zeros-rest n m i = getD-drop m (replicate n 0) i 0 ∙ zeros n (m + i)
+  where
+    zeros : (k x : ℕ) → _≡_ {A = ℕ} (getD (replicate k 0) x 0) 0
+    zeros zero x = refl
+    zeros (suc k) zero = refl
+    zeros (suc k) (suc x) = zeros k x
+
+pad-zeros : (l z : List ℕ) → Zeros z → (i : ℕ) → getD (l ++ z) i 0 ≡ getD l i 0
+pad-zeros [] z h i = h i
+pad-zeros (x ∷ l) z h zero = refl
+pad-zeros (x ∷ l) z h (suc i) = pad-zeros l z h i
+
+-- kept jitters followed by 0s are the same kept jitters
+same-column : (l z : List ℕ) → Zeros z → column (l ++ z) ≡ column l
+same-column l z h = λ t i. pad-zeros l z h i t
+
+module _ (s : Tasks) (kept worst : List ℕ) (ok : none ≡ checkTasks s) (hk : s .count ≤ length kept) (hw : s .count ≤ length worst) where
+  -- a refused choice
+  pub record Refusing (n p : ℕ) : Type 0 where
+    pub small : p < s .count
+    pub text : refusalText n p ≡ chosenText s (choice s)
+    pub list-text : (m : ℕ) (a b c : List ℕ) → refusalText n p ≡ listText s m a b c (choice s)
+
+  pub refusing : (r : Checked) (n p : ℕ) → r ≡ Refused n p → refusalIn r ≡ refusalOf (choiceInputs s kept worst) → Refusing n p
+  unfolding chosenText listText
+  refusing r n p e h =
+      let u : Unfit s n p = choice-refused s kept worst ok hk hw n p (sym (ap refusalIn e) ∙ h) in
+      record {
+        small = u .small;
+        text = rw (u .number, u .is);
+        list-text = λ m a b c. rw (u .number, u .is);
+      }
+
+  module _ (r : Checked) (k w : List ℕ) (e : r ≡ Fine) (h : refusalIn r ≡ refusalOf (choiceInputs s kept worst)) where
+    fine : none ≡ refusalOf (choiceInputs s kept worst)
+    fine = sym (ap refusalIn e) ∙ h
+
+    -- a choice that was made
+    pub chosen-said
+        : k ≡ columnAfter (refusalOf (choiceInputs s kept worst)) (keptColumn (choice s)) kept
+        → w ≡ columnAfter (refusalOf (choiceInputs s kept worst)) (worstColumn (choice s)) worst → choiceText s k w ≡ chosenText s (choice s)
+    unfolding chosenText columnAfter keptColumn worstColumn
+    chosen-said ek ew = go (choice-fine s kept worst fine)
+      where
+        go : Chosen (choice s) → choiceText s k w ≡ chosenText s (choice s)
+        go c =
+            let ks : List ℕ = c .keeps in
+            let ws : List ℕ = map natAbs (c .worsts) in
+            let ak : k ≡ ks ++ drop (length ks) kept = rw (← fine, c .is) at ek in
+            let aw : w ≡ ws ++ drop (length ws) worst = rw (← fine, c .is) at ew in
+            rw (ak, aw, c .is)
+            (choice-text-same s ks ws (drop (length ks) kept) (drop (length ws) worst) (omega (arith, choice-length s ks (c .worsts) (c .is)))
+            (omega (arith, length-map (c .worsts) natAbs, chosen-to s (s .count) ks (c .worsts) (c .is) .long-worst)))
+
+    -- its kept jitters pass their check, and the text of a run with them
+    pub record Keeping : Type 0 where
+      pub kept-ok : Kept s k
+      pub list-text : (m : ℕ) (a b c : List ℕ) → keptText s k m a b c ≡ listText s m a b c (choice s)
+
+    pub keeping
+        : Zeros (drop (length (keptColumn (choice s))) kept)
+        → k ≡ columnAfter (refusalOf (choiceInputs s kept worst)) (keptColumn (choice s)) kept → Keeping
+    unfolding listText keptText columnAfter keptColumn
+    keeping z ek = go (choice-fine s kept worst fine)
+      where
+        go : Chosen (choice s) → Keeping
+        go c =
+            let ks : List ℕ = c .keeps in
+            let ak : k ≡ ks ++ drop (length ks) kept = rw (← fine, c .is) at ek in
+            let zs : Zeros (drop (length ks) kept) = rw (c .is) at z in
+            let same : column k ≡ column ks = ap column ak ∙ same-column ks (drop (length ks) kept) zs in
+            record {
+              kept-ok = record {
+                long = omega (arith, ap length ak, length-append ks (drop (length ks) kept), choice-length s ks (c .worsts) (c .is));
+                within = rw same (rw (same-column ks (drop (length ks) kept) zs) at (keeps-pass s ks (c .worsts) (drop (length ks) kept) (c .is)));
+              };
+              list-text = λ m a b d. rw (same, c .is);
+            }

@@ -1,0 +1,2 @@
+-- Laws: what follows from the definitions, and why.
+pub mod CaseLaws

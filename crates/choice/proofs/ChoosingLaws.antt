@@ -1,0 +1,147 @@
+-- The loop over the tasks that makes the choice.
+use Prim.Native.Nat.{ℕ, suc, _+_, _≤_, _<_}
+use mathlib.Core.Path.{_≡_, refl, sym}
+use mathlib.Core.Logic.{dite}
+use mathlib.Core.List.{List, [], _∷_, map, map-append}
+use native.Mathlib.Omega.{arith}
+use native.Mathlib.Decide.{decLt}
+use native.Mathlib.Numerals.{add-one}
+use borrow.Author.Tests.{le-leb, lt-leb}
+use lib.ListN.{length, take, set, length-set}
+use lib.Seq.{take-suc-set, getD-set-same, getD-set-other}
+use lib.IntN.{pos}
+use Rattle.model.specs.Limits.{maxTasks, maxTime}
+use Rattle.model.specs.Tasks.{InRange, Valid}
+use Rattle.model.specs.Choice.{column, chosen, choiceOf, choice}
+use Rattle.taskset.specs.declared.TaskSet.{TaskSet}
+use Rattle.taskset.specs.TaskSet.{viewOf}
+use Rattle.response.proofs.ChoiceLaws.{least-keep}
+use Rattle.demand.specs.Columns.{Small, Copied}
+use Rattle.choice.specs.declared.Least.the-variants.{Keep, Unfit}
+use Rattle.choice.specs.Choices.{Flat, Walkable, LeastOf, choiceIn, ChoicesAre}
+use Rattle.choice.proofs.NextChoiceLaws.{choice-start, next-keep, next-unfit, unfit-stays}
+
+-- the choice of the tasks above i is made
+pub record Choosing (s : TaskSet) (loads periods keep worst : List ℕ) (i : ℕ) : Type 0 where
+  pub valid : Valid (viewOf s)
+  pub within : i ≤ s .count
+  pub copied : Copied s (s .count) loads periods
+  pub keep-long : length keep ≡ maxTasks
+  pub worst-long : length worst ≡ maxTasks
+  pub kept-small : (m : ℕ) → m < i → column keep m ≤ maxTime
+  pub so-far : choiceOf (viewOf s) i ≡ chosen (take i keep) (map pos (take i worst))
+
+module _ (s : TaskSet) (loads periods : List ℕ) where
+  pub choosing-none : (keep worst : List ℕ)
+      → Valid (viewOf s)
+      → Copied s (s .count) loads periods
+      → length keep ≡ maxTasks
+      → length worst ≡ maxTasks
+      → Choosing s loads periods keep worst 0
+  choosing-none keep worst v c h g = record {
+    valid = v;
+    within = omega arith;
+    copied = c;
+    keep-long = h;
+    worst-long = g;
+    kept-small = λ m l. absurd (omega arith);
+    so-far = choice-start (viewOf s);
+  }
+
+  module _ (keep worst : List ℕ) (i : ℕ) (f : Choosing s loads periods keep worst i) where
+    module _ (l : i < s .count) where
+      small : (m : ℕ) → m < i → Small (column loads m) (column periods m) (column keep m)
+      small m h =
+          let r = f .valid .in-range m (omega arith) in
+          let e = f .copied .load-is m (omega arith) in
+          let d = f .copied .period-is m (omega arith) in
+          record {
+            load-high = omega (arith, r .cost-period, r .period-high);
+            period-low = omega (arith, r .period-low);
+            period-high = omega (arith, r .period-high);
+            keep-high = f .kept-small m h;
+          }
+
+      -- the walk of task i may start
+      pub choosing-walk : Walkable loads periods keep i (viewOf s .jitter i) (viewOf s .deadline i)
+      choosing-walk = record {
+        columns =
+            record {
+              above =
+                  record {
+                    few = omega (arith, f .valid .few-tasks);
+                    loads-long = omega (arith, f .valid .few-tasks, f .copied .loads-long);
+                    periods-long = omega (arith, f .valid .few-tasks, f .copied .periods-long);
+                    keeps-long = omega (arith, f .valid .few-tasks, f .keep-long);
+                    small = small;
+                  };
+              loads-long = omega (arith, f .valid .few-tasks, f .copied .loads-long);
+              cost-low = omega (arith, own-load, own-range .cost-low);
+              cost-high = omega (arith, own-load, own-range .cost-period, own-range .period-high);
+            };
+        periods-long = omega (arith, f .valid .few-tasks, f .copied .periods-long);
+        own = rw (f .copied .load-is i l, f .copied .period-is i l) (f .valid .in-range i l);
+      }
+        where
+          own-range : InRange (viewOf s .period i) (viewOf s .jitter i) (viewOf s .cost i) (viewOf s .deadline i)
+          own-range = f .valid .in-range i l
+
+          own-load : column loads i ≡ viewOf s .cost i
+          own-load = f .copied .load-is i l
+
+      flat-view : Flat (viewOf s) loads periods i (viewOf s .jitter i) (viewOf s .deadline i)
+      flat-view = record {
+        load-is = λ m h. sym (f .copied .load-is m (omega arith));
+        period-is = λ m h. sym (f .copied .period-is m (omega arith));
+        jitter-is = refl;
+        deadline-is = refl;
+      }
+
+      -- a task that fits at no K
+      pub choosing-unfit : LeastOf loads periods keep i (viewOf s .jitter i) (viewOf s .deadline i) Unfit → ChoicesAre (viewOf s) (record { keep = keep; worst = worst; fitted = i })
+      choosing-unfit h = record {
+        is = rw (choiceIn, lt-leb (s .count) i l) (sym (unfit-stays (viewOf s) i (suc i) (s .count) l (next-unfit (viewOf s) i _ _ (f .so-far) (h (viewOf s) flat-view))));
+        keep-long = f .keep-long;
+        worst-long = f .worst-long;
+      }
+
+      -- a task with a least K
+      pub choosing-next : (K w : ℕ)
+          → LeastOf loads periods keep i (viewOf s .jitter i) (viewOf s .deadline i) (Keep K w)
+          → Choosing s loads periods (set keep i K) (set worst i w) (i + 1)
+      choosing-next K w h = record {
+        valid = f .valid;
+        within = omega arith;
+        copied = f .copied;
+        keep-long = simp length-set (f .keep-long);
+        worst-long = simp length-set (f .worst-long);
+        kept-small = small-next;
+        so-far =
+            rw (add-one, take-suc-set keep i K keep-there, take-suc-set worst i w worst-there, map-append pos (take i worst) (w ∷ []))
+            (next-keep (viewOf s) i K (pos w) _ _ (f .so-far) (h (viewOf s) flat-view .0) (h (viewOf s) flat-view .1));
+      }
+        where
+          keep-there : i < length keep
+          keep-there = omega (arith, f .valid .few-tasks, f .keep-long)
+
+          worst-there : i < length worst
+          worst-there = omega (arith, f .valid .few-tasks, f .worst-long)
+
+          small-next : (m : ℕ) → m < i + 1 → column (set keep i K) m ≤ maxTime
+          small-next m g =
+              dite (decLt m i)
+              (λ b. rw (getD-set-other keep i m K 0 (λ e. omega arith)) (f .kept-small m b))
+              (λ b.
+              let e : m ≡ i = omega arith in
+              rw (e, getD-set-same keep i K 0 keep-there)
+              (omega (arith, least-keep (viewOf s) _ i K (h (viewOf s) flat-view .0) .in-jitter, f .valid .in-range i l .jitter-high)))
+
+    -- every task fits
+    pub choosing-all : s .count ≤ i → ChoicesAre (viewOf s) (record { keep = keep; worst = worst; fitted = s .count })
+    choosing-all h =
+        let e : i ≡ s .count = omega arith in
+        record {
+          is = rw (choiceIn, le-leb (s .count) (s .count) (omega arith)) (sym (rw e at (f .so-far)));
+          keep-long = f .keep-long;
+          worst-long = f .worst-long;
+        }

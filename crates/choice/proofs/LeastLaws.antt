@@ -1,0 +1,152 @@
+-- The walk over q that finds the least kept jitter of a task, over the columns that the code looks at.
+use Prim.Native.Nat.{ℕ, suc, _+_, _-_, _*_, _≤_, _<_, min}
+use mathlib.Core.Path.{_≡_, refl, sym, _∙_}
+use mathlib.Core.Logic.{dite}
+use mathlib.Core.Option.{Option, some, none}
+use mathlib.Core.List.{List}
+use native.Mathlib.Omega.{arith}
+use native.Mathlib.Decide.{decLt}
+use native.Mathlib.Numerals.{add-one}
+use lib.ListN.{length, take, length-take}
+use lib.Seq.{getD-take}
+use Rattle.model.specs.Tasks.{Tasks}
+use Rattle.model.specs.Demand.{window}
+use Rattle.model.specs.Choice.{column, andKeep}
+use Rattle.response.proofs.WindowLaws.{Window, window-some, window-over}
+use Rattle.demand.proofs.DemandLaws.{short-more}
+use Rattle.choice.specs.declared.Least.the-variants.{Keep, Unfit}
+use Rattle.choice.specs.declared.Step.{Step}
+use Rattle.choice.specs.declared.Step.the-variants.{Done, Next}
+use Rattle.choice.specs.Choices.{flat, Searched, Flat, Walkable, LeastOf, nextHigh, stepOf, Stepped}
+use Rattle.choice.proofs.ChoiceStepLaws.{step-over, step-keep, step-next}
+use Rattle.choice.proofs.VerdictOfKeepLaws.{window-same, keep-above}
+use Rattle.choice.proofs.ChoiceWalkLaws.{Walked, walk-start, walk-none, walk-over, walk-next, walk-keep, walk-worst}
+
+-- W(q) of task i, from the columns
+abbrev pub windowAt : List ℕ → List ℕ → List ℕ → ℕ → ℕ → Option ℕ
+windowAt loads periods keeps i q = window (flat loads periods) (column keeps) i q
+
+-- the walk of task i has come to q; high is the largest W(q') + J − q'P of the q' before
+pub record Walking (loads periods keeps : List ℕ) (i J D q high from : ℕ) : Type 0 where
+  pub may : Walkable loads periods keeps i J D
+  pub walked : (s : Tasks) → Flat s loads periods i J D → Walked s (take i keeps) i (windowAt loads periods keeps i) q high
+  pub search : Searched loads periods keeps i q from
+  pub reach : high ≤ D + J
+
+-- what a step leaves: the answer, or the walk at the next q
+abbrev pub Stepping : List ℕ → List ℕ → List ℕ → ℕ → ℕ → ℕ → ℕ → ℕ → Step → Type 0
+Stepping loads periods keeps i J D q w (Done r) = LeastOf loads periods keeps i J D r
+Stepping loads periods keeps i J D q w (Next high) = Walking loads periods keeps i J D (q + 1) high w
+
+module _ (loads periods keeps : List ℕ) (i J D : ℕ) (may : Walkable loads periods keeps i J D) where
+  above-long : length (take i keeps) ≡ i
+  above-long = simp length-take (omega (arith, may .columns .above .keeps-long))
+
+  same : (s : Tasks) → Flat s loads periods i J D → (K q : ℕ) → window s (andKeep (take i keeps) K) i q ≡ windowAt loads periods keeps i q
+  same s f K q =
+      window-same s (flat loads periods) (andKeep (take i keeps) K) (column keeps) i q (f .load-is)
+      (λ m l. f .period-is m (omega arith))
+      (λ m l. keep-above (take i keeps) K m (omega (arith, above-long)) ∙ getD-take i keeps m 0 l)
+
+  pub walking-start : Walking loads periods keeps i J D 0 0 1
+  walking-start = record {
+    may = may;
+    walked = λ s f. walk-start s (take i keeps) i (windowAt loads periods keeps i) above-long (same s f);
+    search =
+        record {
+          columns = may .columns;
+          q-high = omega arith;
+          high = omega arith;
+          search = record { low = omega arith; high = omega arith; short = λ x l h. absurd (omega arith) };
+        };
+    reach = omega arith;
+  }
+
+  module _ (q high from : ℕ) (g : Walking loads periods keeps i J D q high from) where
+    -- W(q) over H, or none
+    pub walking-none : none ≡ windowAt loads periods keeps i q → LeastOf loads periods keeps i J D Unfit
+    walking-none e s f =
+        walk-none s (take i keeps) i (windowAt loads periods keeps i) above-long (same s f) q high (g .walked s f) (sym e)
+
+    module _ (w : ℕ) (is : some w ≡ windowAt loads periods keeps i q) where
+      facts : Window (flat loads periods) (column keeps) i q w
+      facts = window-some (flat loads periods) (column keeps) i q w (sym is)
+
+      long : q < w
+      long = window-over (flat loads periods) (column keeps) i q w (may .own .cost-low) (sym is)
+
+      pub stepped : Stepped (column periods i) J D high q w
+      stepped = record {
+        period-high = may .own .period-high;
+        jitter-high = may .own .jitter-high;
+        deadline-high = may .own .deadline-high;
+        reach = g .reach;
+        q-high = g .search .q-high;
+        w-high = facts .high;
+      }
+
+      -- W(q) + min(0, x) > D
+      over : D + (q * column periods i - J) < w → LeastOf loads periods keeps i J D Unfit
+      over h s f =
+          walk-over s (take i keeps) i (windowAt loads periods keeps i) above-long (same s f) q high (g .walked s f) w (sym is)
+          (rw (f .jitter-is, f .deadline-is, f .period-is i (omega arith)) h)
+
+      module _ (under : w ≤ D + (q * column periods i - J)) where
+        -- the numbers of a task set with these columns
+        abbrev N : ℕ
+        N = nextHigh (column periods i) J high q w
+
+        next-of : (s : Tasks) → Flat s loads periods i J D → N ≡ nextHigh (s .period i) (s .jitter i) high q w
+        next-of s f = rw (f .jitter-is, f .period-is i (omega arith))
+
+        under-of : (s : Tasks) → Flat s loads periods i J D → w ≤ s .deadline i + (q * s .period i - s .jitter i)
+        under-of s f = rw (f .jitter-is, f .deadline-is, f .period-is i (omega arith)) under
+
+        -- the least K so far stops here
+        keeps-it : N - D + w ≤ q * column periods i + column periods i → LeastOf loads periods keeps i J D (Keep (N - D) (min N D))
+        keeps-it h s f = rw (← f .deadline-is) (
+          walk-keep s (take i keeps) i (windowAt loads periods keeps i) above-long (same s f) q high (g .walked s f) w (sym is) N (next-of s f) (under-of s f) stop,
+          walk-worst s (take i keeps) i (windowAt loads periods keeps i) above-long (same s f) q high (g .walked s f) w (sym is) N (next-of s f) (under-of s f) stop,
+        )
+          where
+            stop : N - s .deadline i + w ≤ suc q * s .period i
+            stop = rw (f .deadline-is, f .period-is i (omega arith)) (omega arith)
+
+        -- it does not
+        goes : q * column periods i + column periods i < N - D + w → Walking loads periods keeps i J D (q + 1) N w
+        goes h = record {
+          may = may;
+          walked = walked-next;
+          search =
+              record {
+                columns = may .columns;
+                q-high = omega (arith, long, facts .high);
+                high = facts .high;
+                search =
+                    record {
+                      low = facts .low;
+                      high = omega (arith, facts .high);
+                      short = rw add-one (short-more (flat loads periods) (column keeps) i q w (facts .least));
+                    };
+              };
+          reach = omega (arith, g .reach);
+        }
+          where
+            walked-next : (s : Tasks) → Flat s loads periods i J D → Walked s (take i keeps) i (windowAt loads periods keeps i) (q + 1) N
+            walked-next s f = rw add-one
+                (walk-next s (take i keeps) i (windowAt loads periods keeps i) above-long (same s f) q high (g .walked s f) w (sym is) N
+                (next-of s f) (under-of s f) long (facts .high)
+                (rw (f .deadline-is, f .period-is i (omega arith)) (omega arith)))
+
+      -- one step of the walk
+      pub walking-step : (r : Step) → r ≡ stepOf (column periods i) J D high q w → Stepping loads periods keeps i J D q w r
+      walking-step r e = rw e
+          (dite (decLt (D + (q * column periods i - J)) w)
+          (λ l. rw (← step-over _ _ _ high q w l) (over l))
+          (λ l. inside (omega arith)))
+        where
+          inside : w ≤ D + (q * column periods i - J) → Stepping loads periods keeps i J D q w (stepOf (column periods i) J D high q w)
+          inside u =
+              dite (decLt (q * column periods i + column periods i) (N u - D + w))
+              (λ l. rw (← step-next _ _ _ high q w u (N u) refl l) (goes u l))
+              (λ l. rw (← step-keep _ _ _ high q w u (N u) _ _ refl refl refl (omega arith)) (keeps-it u (omega arith)))

@@ -1,0 +1,36 @@
+-- Limit and share in the run of any trace: document 01's from those of its processor.
+use Prim.Native.Nat.{ℕ, suc, _+_, _-_, _≤_, _<_}
+use mathlib.Core.List.{List}
+use native.Mathlib.Omega.{arith}
+use Rattle.model.specs.Processor.{plain}
+use Rattle.model.specs.Tasks.{Tasks, Release}
+use Rattle.model.specs.Run.{jobs}
+use Rattle.model.specs.Demand.{aboveLoad}
+use Rattle.model.specs.Claims.{Trace, used, leftOver, isTask, isAbove, Limit, Share}
+use Rattle.model.proofs.SeriesLaws.{most-le}
+use Rattle.theory.specs.Windows.{usedBy, spareBy}
+use Rattle.theory.proofs.LimitOfJobs.{idle-spare}
+use Rattle.processor.proofs.PlainDemand.{supply-plain, above-plain}
+use Rattle.processor.specs.ProcessorClaims.{LimitOn, ShareOn}
+use Rattle.guarantee.proofs.PlainRun.{clear}
+
+module _ (s : Tasks) (k : ℕ → ℕ) (i : ℕ) (l : List Release) (tr : Trace s l) where
+  -- "limit": from a tick at which its own jobs that were ready before it are finished, a task runs at most E × σ(t) of the next t ticks
+  pub limit : LimitOn plain s k i l → Limit s k i l
+  unfolding used usedBy
+  limit h u t f = h u t (clear s k l tr (isTask i) u f)
+
+  -- "share": from a tick at which every job of the tasks above that was ready before it is finished, they leave over what the demand bound says
+  pub share : ShareOn plain s k i l → Share s k i l
+  unfolding leftOver spareBy
+  share h u t f = most-le (λ n. n - aboveLoad s k i n) (suc t) (leftOver s k l (isAbove i) u t) enough
+    where
+      enough : (n : ℕ) → n < suc t → n - aboveLoad s k i n ≤ leftOver s k l (isAbove i) u t
+      enough n g =
+          omega (
+            arith,
+            h u t n (omega arith) (clear s k l tr (isAbove i) u f),
+            supply-plain u n,
+            above-plain s k i n,
+            idle-spare (jobs s k l) (isAbove i) u t,
+          )

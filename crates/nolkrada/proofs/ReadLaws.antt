@@ -1,0 +1,293 @@
+-- Laws of a read that lends too few slots: what is wrong with a file has a number below 12, so that a 13 tells how many releases it has.
+use Prim.Native.Nat.{ℕ, zero, suc, _+_, _≤_, _<_}
+use mathlib.Core.Path.{_≡_, refl, sym, ap, _∙_}
+use mathlib.Core.Bool.{Bool, true, false, _||_}
+use mathlib.Core.Option.{Option, some, none}
+use mathlib.Core.List.{List, [], _∷_, _++_}
+use native.Mathlib.Omega.{arith}
+use lib.Dec.{leb, ltb, eqb}
+use lib.ListN.{length, drop}
+use Rattle.model.specs.Limits.{maxTasks, maxTick, maxReleases}
+use Rattle.model.specs.Tasks.{Tasks, Release}
+use Rattle.model.specs.Refusal.{Refusal, Answer, refused, answered}
+use Rattle.model.specs.Checks.{Lent, inRange, checkSlots, releaseFault}
+use Rattle.model.specs.Calls.{lends}
+use Rattle.model.proofs.CheckLaws.{slots-next, slot-of}
+use Rattle.taskset.specs.declared.Task.{Task}
+use Rattle.fileformat.specs.Records.{Record, broken, taskRecord, releaseRecord, endRecord, recordOf, whole, sizeOf}
+use Rattle.fileformat.specs.File.{File, State, Step, stop, next, last, taskFault, listFault, endFault, unless, advance, afterEnd, readFrom, decode}
+use Rattle.fileformat.specs.FileCalls.{readCall, readCount}
+use Rattle.nolkrada.specs.Interface.{refusalCode, codeOf, codeIn, tooFew}
+use Rattle.nolkrada.proofs.AnswerOrderLaws.{slots-extra}
+use Rattle.nolkrada.specs.Files.{readLent, readWithin}
+
+-- both ways of a test
+either : {A : Type 0} (P : A → Type 0) (b : Bool) (x y : A) → P x → P y → P (elim b [ true ↦ x | false ↦ y ])
+either P true x y p q = p
+either P false x y p q = q
+
+-- a number below 12, where there is one
+abbrev LowFault : Option ℕ → Type 0
+LowFault none = 0 ≤ 0
+LowFault (some n) = n < 12
+
+abbrev LowRecord : Record → Type 0
+LowRecord (broken n) = n < 12
+LowRecord (taskRecord t) = 0 ≤ 0
+LowRecord (releaseRecord r) = 0 ≤ 0
+LowRecord endRecord = 0 ≤ 0
+
+abbrev LowStep : Step → Type 0
+LowStep (stop n) = n < 12
+LowStep (next s) = 0 ≤ 0
+LowStep last = 0 ≤ 0
+
+abbrev LowAnswer : Answer File → Type 0
+LowAnswer (refused q) = q .number < 12
+LowAnswer (answered x) = 0 ≤ 0
+
+whole-low : (n : ℕ) (l : List ℕ) (r : Record) → LowRecord r → LowRecord (whole n l r)
+unfolding whole
+whole-low n l r h = either LowRecord (ltb (length l) n) _ _ (omega arith) h
+
+record-low : (f : List ℕ) → LowRecord (recordOf f)
+unfolding recordOf
+record-low [] = omega arith
+record-low (k ∷ l) =
+    either LowRecord (eqb k 1) _ _ (whole-low 16 l _ (omega arith))
+    (either LowRecord (eqb k 2) _ _ (whole-low 9 l _ (omega arith))
+    (either LowRecord (eqb k 3) _ _ (whole-low 0 l _ (omega arith)) (omega arith)))
+
+task-low : (a b : ℕ) (t : Task) → LowFault (taskFault a b t)
+unfolding taskFault
+task-low a b t =
+    either LowFault (ltb 0 b) _ _ (omega arith)
+    (either LowFault (leb maxTasks a) _ _ (omega arith)
+    (either LowFault (inRange (t .period) (t .jitter) (t .cost) (t .deadline)) _ _ (omega arith) (omega arith)))
+
+release-low : (s : Tasks) (before : ℕ) (r : Release) → LowFault (releaseFault s before r)
+unfolding releaseFault
+release-low s before r =
+    either LowFault (leb (s .count) (r .task)) _ _ (omega arith)
+    (either LowFault (ltb (r .tick) before || ltb maxTick (r .tick)) _ _ (omega arith)
+    (either LowFault (eqb (r .cost) 0 || ltb (s .cost (r .task)) (r .cost)) _ _ (omega arith) (omega arith)))
+
+list-low : (s : Tasks) (n before : ℕ) (r : Release) → LowFault (listFault s n before r)
+unfolding listFault
+list-low s n before r = either LowFault (eqb (s .count) 0) _ _ (omega arith) (go (releaseFault s before r) (release-low s before r))
+  where
+    go : (o : Option ℕ) → LowFault o → LowFault (elim o [ some k ↦ some k | none ↦ elim (leb maxReleases n) [ true ↦ some 10 | false ↦ none ] ])
+    go none h = either LowFault (leb maxReleases n) _ _ (omega arith) (omega arith)
+    go (some k) h = h
+
+end-low : (n : ℕ) → LowFault (endFault n)
+unfolding endFault
+end-low n = either LowFault (eqb n 0) _ _ (omega arith) (omega arith)
+
+unless-low : (o : Option ℕ) (t : Step) → LowFault o → LowStep t → LowStep (unless o t)
+unfolding unless
+unless-low none t h g = g
+unless-low (some n) t h g = h
+
+advance-low : (s : State) (r : Record) → LowRecord r → LowStep (advance s r)
+unfolding advance
+advance-low s (broken n) h = h
+advance-low s (taskRecord t) h = unless-low _ _ (task-low _ _ t) (omega arith)
+advance-low s (releaseRecord r) h = unless-low _ _ (list-low _ _ _ r) (omega arith)
+advance-low s endRecord h = unless-low _ _ (end-low _) (omega arith)
+
+end-of-low : (s : State) (at : ℕ) (f : List ℕ) → LowAnswer (afterEnd s at f)
+unfolding afterEnd
+end-of-low s at [] = omega arith
+end-of-low s at (b ∷ l) = omega arith
+
+from-low : (n : ℕ) (s : State) (at : ℕ) (f : List ℕ) → LowAnswer (readFrom n s at f)
+unfolding readFrom
+from-low zero s at f = omega arith
+from-low (suc n) s at f = go (advance s (recordOf f)) (advance-low s (recordOf f) (record-low f)) (λ s′. from-low n s′ (at + sizeOf (recordOf f)) (drop (sizeOf (recordOf f)) f))
+  where
+    go
+        : (t : Step)
+        → LowStep t
+        → ((s′ : State) → LowAnswer (readFrom n s′ (at + sizeOf (recordOf f)) (drop (sizeOf (recordOf f)) f)))
+        → LowAnswer
+        (elim t [
+          | stop k ↦ refused (record { number = k; place = at })
+          | next s′ ↦ readFrom n s′ (at + sizeOf (recordOf f)) (drop (sizeOf (recordOf f)) f)
+          | last ↦ afterEnd s (at + sizeOf (recordOf f)) (drop (sizeOf (recordOf f)) f)
+        ])
+    go (stop k) h g = h
+    go (next s′) h g = g s′
+    go last h g = end-of-low s (at + sizeOf (recordOf f)) (drop (sizeOf (recordOf f)) f)
+
+-- what is wrong with a file has a number below 12
+pub decode-low : (f : List ℕ) → LowAnswer (decode f)
+unfolding decode
+decode-low f = from-low (suc (length f)) _ 0 f
+
+-- three columns that need as many slots each are enough, or 13 tells how many slots
+three-slots : (n : ℕ) (a b c : List ℕ) (q : Refusal) → checkSlots (lends n a ∷ lends n b ∷ lends n c ∷ []) ≡ some q → q ≡ tooFew n
+unfolding checkSlots
+three-slots n a b c q e = go (ltb (length a) n) (ltb (length b) n) (ltb (length c) n) e
+  where
+    go
+        : (x y z : Bool)
+        → elim x [
+          | true ↦ some (tooFew n)
+          | false ↦ elim y [ true ↦ some (tooFew n) | false ↦ elim z [ true ↦ some (tooFew n) | false ↦ none ] ]
+        ]
+        ≡ some q
+        → q ≡ tooFew n
+    go true y z e = cc
+    go false true z e = cc
+    go false false true e = cc
+    go false false false e = let z : _≡_ {A = ℕ} 0 1 = cc in absurd (omega arith)
+
+-- a call to which three columns are lent, by what the file is
+module _ (a b c : List ℕ) where
+  abbrev three : File → Option Refusal
+  three x = checkSlots (lends (length (x .releases)) a ∷ lends (length (x .releases)) b ∷ lends (length (x .releases)) c ∷ [])
+
+  abbrev pub told : Answer File → Answer File
+  told d = elim d [ refused q ↦ refused q | answered x ↦ elim (three x) [ none ↦ answered x | some q ↦ refused q ] ]
+
+  pub call-told : (f : List ℕ) → readCall f a b c ≡ told (decode f)
+  unfolding readCall
+  call-told f = refl
+
+  told-read : (d : Answer File) (m : ℕ) → answered m ≡ readCount (told d) → answered m ≡ readCount d
+  unfolding readCount
+  told-read (refused q) m e = e
+  told-read (answered x) m e = go (three x) e
+    where
+      go : (o : Option Refusal) → answered m ≡ readCount (elim o [ none ↦ answered x | some q ↦ refused q ]) → answered m ≡ readCount (answered x)
+      go none e = e
+      go (some q) e = let z : _≡_ {A = ℕ} 0 1 = cc in absurd (omega arith)
+
+  told-few : (d : Answer File) (m : ℕ) → LowAnswer d → refused (tooFew m) ≡ readCount (told d) → answered m ≡ readCount d
+  unfolding readCount
+  told-few (refused q) m l e = let g : tooFew m ≡ q = cc in absurd (omega (arith, ap (λ (r : Refusal). r .number) g))
+  told-few (answered x) m l e = go (three x) refl e
+    where
+      go
+          : (o : Option Refusal)
+          → three x ≡ o
+          → refused (tooFew m) ≡ readCount (elim o [ none ↦ answered x | some q ↦ refused q ])
+          → answered m ≡ readCount (answered x)
+      go none i e = let z : _≡_ {A = ℕ} 0 1 = cc in absurd (omega arith)
+      go (some q) i e =
+          let g : tooFew m ≡ q = cc in
+          let h : q ≡ tooFew (length (x .releases)) = three-slots (length (x .releases)) a b c q i in
+          ap answered (ap (λ (r : Refusal). r .place) (g ∙ h))
+
+  told-refused
+      : (d : Answer File) (number place : ℕ)
+      → (number ≡ 13 → ⊥)
+      → refused (record { number = number; place = place }) ≡ readCount (told d)
+      → refused (record { number = number; place = place }) ≡ readCount d
+  unfolding readCount
+  told-refused (refused q) number place h e = e
+  told-refused (answered x) number place h e = go (three x) refl e
+    where
+      go
+          : (o : Option Refusal)
+          → three x ≡ o
+          → refused (record { number = number; place = place }) ≡ readCount (elim o [ none ↦ answered x | some q ↦ refused q ])
+          → refused (record { number = number; place = place }) ≡ readCount (answered x)
+      go none i e = let z : _≡_ {A = ℕ} 0 1 = cc in absurd (omega arith)
+      go (some q) i e =
+          let g : record { number = number; place = place } ≡ q = cc in
+          absurd (h (ap (λ (r : Refusal). r .number) (g ∙ three-slots (length (x .releases)) a b c q i)))
+
+-- what a read with any columns tells of the file
+module _ (f a b c : List ℕ) where
+  pub count-read : (m : ℕ) → answered m ≡ readCount (readCall f a b c) → answered m ≡ readCount (decode f)
+  count-read m e = told-read a b c (decode f) m (e ∙ ap readCount (call-told a b c f))
+
+  pub count-few
+      : (number m : ℕ)
+      → number ≡ 13
+      → refused (record { number = number; place = m }) ≡ readCount (readCall f a b c)
+      → answered m ≡ readCount (decode f)
+  count-few number m h e =
+      let e′ : refused (tooFew m) ≡ readCount (readCall f a b c) = rw h at e in
+      told-few a b c (decode f) m (decode-low f) (e′ ∙ ap readCount (call-told a b c f))
+
+  pub count-refused
+      : (number place : ℕ)
+      → (number ≡ 13 → ⊥)
+      → refused (record { number = number; place = place }) ≡ readCount (readCall f a b c)
+      → refused (record { number = number; place = place }) ≡ readCount (decode f)
+  count-refused number place h e = told-refused a b c (decode f) number place h (e ∙ ap readCount (call-told a b c f))
+
+-- a read that is refused
+abbrev pub Halts : Answer File → Type 0
+Halts (refused q) = 0 ≤ 0
+Halts (answered x) = ⊥
+
+halting : (o : Option Refusal) (x : File) → (none ≡ o → ⊥) → Halts (elim o [ none ↦ answered x | some q ↦ refused q ])
+halting none x h = h refl
+halting (some q) x h = omega arith
+
+-- it is where the sheet or the words are too few
+module _ (sheet task tick cost answer : ℕ) where
+  abbrev lent : ℕ → Option Refusal
+  lent m = checkSlots (readLent m sheet task tick cost answer)
+
+  sheet-enough : (m : ℕ) → none ≡ lent m → 128 ≤ sheet
+  sheet-enough m e = slot-of _ _ e .0
+
+  answer-enough : (m : ℕ) → none ≡ lent m → 2 ≤ answer
+  answer-enough m e = slot-of _ _ (slot-of _ _ (slot-of _ _ (slot-of _ _ (slot-of _ _ e .1) .1) .1) .1) .0
+
+  pub sheet-halts : (a : Answer File) → sheet < 128 → Halts (readWithin a sheet task tick cost answer)
+  unfolding readWithin
+  sheet-halts (refused q) h = omega arith
+  sheet-halts (answered x) h = halting (lent (length (x .releases))) x (λ e. omega (arith, sheet-enough (length (x .releases)) e))
+
+  pub answer-halts : (a : Answer File) → answer < 2 → Halts (readWithin a sheet task tick cost answer)
+  unfolding readWithin
+  answer-halts (refused q) h = omega arith
+  answer-halts (answered x) h = halting (lent (length (x .releases))) x (λ e. omega (arith, answer-enough (length (x .releases)) e))
+
+  -- the code of a read, by what is wrong with the file or by the slices
+  pub code-refused
+      : (a : Answer File) (r number place : ℕ)
+      → refused (record { number = number; place = place }) ≡ readCount a
+      → r ≡ refusalCode number place
+      → r ≡ codeIn (readWithin a sheet task tick cost answer)
+  unfolding readCount readWithin codeIn
+  code-refused (refused q) r number place h e = let g : record { number = number; place = place } ≡ q = cc in rw (← g) e
+  code-refused (answered x) r number place h e = let z : _≡_ {A = ℕ} 0 1 = cc in absurd (omega arith)
+
+  code-stopped : (o : Option Refusal) (x : File) → codeOf o ≡ codeIn {A = File} (elim o [ none ↦ answered x | some q ↦ refused q ])
+  unfolding codeOf codeIn
+  code-stopped none x = refl
+  code-stopped (some q) x = refl
+
+  pub code-slots
+      : (a : Answer File) (m r : ℕ) (o : Option Refusal)
+      → answered m ≡ readCount a
+      → o ≡ lent m
+      → r ≡ codeOf o
+      → r ≡ codeIn (readWithin a sheet task tick cost answer)
+  unfolding readCount readWithin
+  code-slots (refused q) m r o h g e = let z : _≡_ {A = ℕ} 0 1 = cc in absurd (omega arith)
+  code-slots (answered x) m r o h g e =
+      let i : m ≡ length (x .releases) = cc in
+      e ∙ ap codeOf (g ∙ ap lent i) ∙ code-stopped (lent (length (x .releases))) x
+
+-- where both are enough, the columns decide
+pub within-enough
+    : (d : Answer File) (sheet answer : ℕ) (task tick cost : List ℕ)
+    → 128 ≤ sheet
+    → 2 ≤ answer
+    → readWithin d sheet (length task) (length tick) (length cost) answer ≡ told task tick cost d
+unfolding readWithin
+within-enough (refused q) sheet answer task tick cost g h = refl
+within-enough (answered x) sheet answer task tick cost g h =
+    let m = length (x .releases) in
+    let columns = lends m task ∷ lends m tick ∷ lends m cost ∷ [] in
+    let words : Lent = record { needed = 2; slots = answer } in
+    ap (λ (o : Option Refusal). elim o [ none ↦ answered x | some q ↦ refused q ])
+    (slots-next (record { needed = 128; slots = sheet }) (columns ++ (words ∷ [])) g ∙ slots-extra columns words h)

@@ -1,0 +1,457 @@
+// The calls for C: numbers and slices in, a code back. A slice is passed as a pointer and a length.
+// Every call returns 0 where it answered, else number · 2^32 + place of its refusal, and a refusal leaves every lent slot as it was.
+ghost use mathlib.Core.Path.{_≡_};
+ghost use Prim.Native.Nat.{_+_, _≤_, _<_};
+ghost use mathlib.Core.Option.{some};
+ghost use mathlib.Core.List.{[], _∷_, _++_};
+ghost use lib.ListN.{length, getD, drop};
+ghost use lib.Seq.{sets};
+ghost use Rattle.model.specs.Refusal.{answered};
+ghost use Rattle.model.specs.Checks.{refusalOf};
+ghost use Rattle.model.specs.Choice.{choice, column};
+ghost use Rattle.model.specs.Ready.{readyList};
+ghost use Rattle.model.specs.Run.{finishList};
+ghost use Rattle.model.specs.Calls.{
+  arrivalCall,
+  verdictCall,
+  traceCall,
+  choiceInputs,
+  keptColumn,
+  worstColumn,
+  readyInputs,
+  runInputs,
+  releasesOf,
+  columnAfter,
+};
+ghost use Rattle.taskset.specs.TaskSet.{viewOf, refusalIn};
+ghost use Rattle.fileformat.specs.File.{decode};
+ghost use Rattle.fileformat.specs.FileCalls.{readCount};
+ghost use Rattle.reader.specs.Reader.{outcomeIn};
+ghost use Rattle.nolkrada.specs.Interface.{
+  taskAt,
+  sheetFrom,
+  refusalCode,
+  codeOf,
+  codeIn,
+  asWords,
+  afterSlots,
+  orTooFew,
+  Ends,
+  oneWord,
+  verdictWords,
+  traceWords,
+};
+ghost use Rattle.nolkrada.specs.Files.{taskNumbers, numbersOf, readWithin, readAnswer, ReadEnds, writeAnswer, WriteEnds};
+use demand::ArrivalAnswer;
+use reader::ReadOutcome;
+use taskset::Checked;
+use taskset::Task;
+use taskset::TaskSet;
+use trace::TraceAnswer;
+use verdict::VerdictAnswer;
+use writer::WriteAnswer;
+
+// The number at a place, or 0 past the end.
+fn number_at(numbers: &[u32], at: usize) -> u32
+    ensures { λ r. ⌜ r ≡ getD (now (numbers .entry)) at 0 ⌝ }
+{
+    if at < numbers.len() {
+        return numbers[at];
+    }
+    0
+}
+
+// The entry of task i in a sheet passed as numbers.
+fn task_at(sheet: &[u32], i: usize) -> Task
+    requires { ⌜ i < 32 ⌝ }
+    ensures { λ r. ⌜ r ≡ taskAt (now (sheet .entry)) i ⌝ }
+{
+    let period = number_at(sheet, 4 * i);
+    let jitter = number_at(sheet, 4 * i + 1);
+    let cost = number_at(sheet, 4 * i + 2);
+    let deadline = number_at(sheet, 4 * i + 3);
+    Task {
+        period: period,
+        jitter: jitter,
+        cost: cost,
+        deadline: deadline,
+    }
+}
+
+// The sheet of numbers and a count.
+fn sheet_from(sheet: &[u32], count: u32) -> TaskSet
+    ensures { λ r. ⌜ r ≡ sheetFrom (now (sheet .entry)) count ⌝ }
+{
+    let none = Task {
+        period: 0,
+        jitter: 0,
+        cost: 0,
+        deadline: 0,
+    };
+    let mut tasks = [none; 32];
+    let mut i = 0;
+    while i < 32 {
+        let t = task_at(sheet, i);
+        tasks[i] = t;
+        i += 1;
+    }
+    TaskSet {
+        tasks: tasks,
+        count: count as usize,
+    }
+}
+
+// A refusal as one number.
+fn refusal_code(number: u32, place: usize) -> u64
+    ensures { λ r. ⌜ r ≡ refusalCode number place ⌝ }
+{
+    (number as u64) * 4294967296 + (place as u64) % 4294967296
+}
+
+// What a call returns that answers in columns.
+fn code_of(checked: Checked) -> u64
+    ensures { λ r. ⌜ r ≡ codeOf (refusalIn checked) ⌝ }
+{
+    match checked {
+        Checked::Fine => 0,
+        Checked::Refused { number, place } => refusal_code(number, place),
+    }
+}
+
+// Whether a call on values checks a refusal of this number after its lent slices.
+fn after_slots(number: u32) -> bool
+    ensures { λ r. ⌜ r ≡ afterSlots number ⌝ }
+{
+    if number < 7 {
+        return false;
+    }
+    if number <= 9 {
+        return true;
+    }
+    if number == 12 {
+        return true;
+    }
+    number == 15
+}
+
+// The code of a refused call that also needs so many slots for its answer.
+fn slots_code(number: u32, place: usize, needed: usize, slots: usize) -> u64
+    ensures { λ r. ⌜ r ≡ codeOf (some (orTooFew needed slots (record { number = number; place = place }))) ⌝ }
+{
+    if needed <= slots {
+        return refusal_code(number, place);
+    }
+    if after_slots(number) {
+        return refusal_code(13, needed);
+    }
+    refusal_code(number, place)
+}
+
+// Puts an answer of one word, or refuses 13.
+fn put_one(answer: &mut [u64], a: u64) -> u64
+    ensures { λ r. ⌜ Ends 1 (answered (a ∷ [])) (now (answer .entry)) r (now (answer .exit)) ⌝ }
+{
+    if answer.len() < 1 {
+        return refusal_code(13, 1);
+    }
+    answer[0] = a;
+    0
+}
+
+// Puts an answer of two words, or refuses 13.
+fn put_two(answer: &mut [u64], a: u64, b: u64) -> u64
+    ensures { λ r. ⌜ Ends 2 (answered (a ∷ b ∷ [])) (now (answer .entry)) r (now (answer .exit)) ⌝ }
+{
+    if answer.len() < 2 {
+        return refusal_code(13, 2);
+    }
+    answer[0] = a;
+    answer[1] = b;
+    0
+}
+
+// Puts an answer of three words, or refuses 13.
+fn put_three(answer: &mut [u64], a: u64, b: u64, c: u64) -> u64
+    ensures { λ r. ⌜ Ends 3 (answered (a ∷ b ∷ c ∷ [])) (now (answer .entry)) r (now (answer .exit)) ⌝ }
+{
+    if answer.len() < 3 {
+        return refusal_code(13, 3);
+    }
+    answer[0] = a;
+    answer[1] = b;
+    answer[2] = c;
+    0
+}
+
+// Arrival count of one task in t ticks, with kept jitters: one word.
+#[no_mangle]
+pub extern "C" fn nolkrada_arrival_count(
+    sheet: &[u32],
+    count: u32,
+    task: u32,
+    kept: &[u32],
+    t: u32,
+    answer: &mut [u64],
+) -> u64
+    ensures { λ r. ⌜
+        Ends 1 (asWords oneWord (arrivalCall (viewOf (sheetFrom (now (sheet .entry)) count)) task (now (kept .entry)) t))
+        (now (answer .entry)) r (now (answer .exit))
+        ⌝ }
+{
+    let s = sheet_from(sheet, count);
+    let got = demand::arrival_count(s, task as usize, kept, t);
+    match got {
+        ArrivalAnswer::Refused { number, place } => slots_code(number, place, 1, answer.len()),
+        ArrivalAnswer::Count(n) => put_one(answer, n),
+    }
+}
+
+// The verdict of one task, with kept jitters: three words.
+#[no_mangle]
+pub extern "C" fn nolkrada_verdict(
+    sheet: &[u32],
+    count: u32,
+    task: u32,
+    kept: &[u32],
+    answer: &mut [u64],
+) -> u64
+    ensures { λ r. ⌜
+        Ends 3 (asWords verdictWords (verdictCall (viewOf (sheetFrom (now (sheet .entry)) count)) task (now (kept .entry))))
+        (now (answer .entry)) r (now (answer .exit))
+        ⌝ }
+{
+    let s = sheet_from(sheet, count);
+    let got = verdict::verdict(s, task as usize, kept);
+    match got {
+        VerdictAnswer::Refused { number, place } => slots_code(number, place, 3, answer.len()),
+        VerdictAnswer::Horizon { q } => put_three(answer, 0, q as u64, 0),
+        VerdictAnswer::Late { q, bound } => put_three(answer, 1, q as u64, bound as u64),
+        VerdictAnswer::Fits { worst, q } => put_three(answer, 2, q as u64, worst as u64),
+    }
+}
+
+// The choice of kept jitters: a kept jitter and a worst value for each task.
+#[no_mangle]
+pub extern "C" fn nolkrada_choice(
+    sheet: &[u32],
+    count: u32,
+    kept: &mut [u32],
+    worst: &mut [u32],
+) -> u64
+    ensures code { λ r. ⌜ r ≡ codeOf (refusalOf (choiceInputs (viewOf (sheetFrom (now (sheet .entry)) count)) (now (kept .entry)) (now (worst .entry)))) ⌝ }
+    ensures keeps { λ _. ⌜ now (kept .exit) ≡ columnAfter (refusalOf (choiceInputs (viewOf (sheetFrom (now (sheet .entry)) count)) (now (kept .entry)) (now (worst .entry)))) (keptColumn (choice (viewOf (sheetFrom (now (sheet .entry)) count)))) (now (kept .entry)) ⌝ }
+    ensures worsts { λ _. ⌜ now (worst .exit) ≡ columnAfter (refusalOf (choiceInputs (viewOf (sheetFrom (now (sheet .entry)) count)) (now (kept .entry)) (now (worst .entry)))) (worstColumn (choice (viewOf (sheetFrom (now (sheet .entry)) count)))) (now (worst .entry)) ⌝ }
+{
+    let s = sheet_from(sheet, count);
+    let checked = choice::choose(s, kept, worst);
+    code_of(checked)
+}
+
+// The trace check of n releases: two words.
+#[no_mangle]
+pub extern "C" fn nolkrada_trace_check(
+    sheet: &[u32],
+    count: u32,
+    n: u32,
+    task: &[u32],
+    tick: &[u32],
+    cost: &[u32],
+    answer: &mut [u64],
+) -> u64
+    ensures { λ r. ⌜
+        Ends 2 (asWords traceWords (traceCall (viewOf (sheetFrom (now (sheet .entry)) count)) n (now (task .entry)) (now (tick .entry)) (now (cost .entry))))
+        (now (answer .entry)) r (now (answer .exit))
+        ⌝ }
+{
+    let s = sheet_from(sheet, count);
+    let got = trace::check_trace(s, n as usize, task, tick, cost);
+    match got {
+        TraceAnswer::Refused { number, place } => slots_code(number, place, 2, answer.len()),
+        TraceAnswer::Legal => put_two(answer, 0, 0),
+        TraceAnswer::TooClose { release } => put_two(answer, 1, release as u64),
+    }
+}
+
+// The ready ticks of n releases, with kept jitters.
+#[no_mangle]
+pub extern "C" fn nolkrada_ready(
+    sheet: &[u32],
+    count: u32,
+    kept: &[u32],
+    n: u32,
+    task: &[u32],
+    tick: &[u32],
+    cost: &[u32],
+    ready: &mut [u32],
+) -> u64
+    ensures code { λ r. ⌜ r ≡ codeOf (refusalOf (readyInputs (viewOf (sheetFrom (now (sheet .entry)) count)) (now (kept .entry)) n (now (task .entry)) (now (tick .entry)) (now (cost .entry)) (now (ready .entry)))) ⌝ }
+    ensures ticks { λ _. ⌜ now (ready .exit) ≡ columnAfter (refusalOf (readyInputs (viewOf (sheetFrom (now (sheet .entry)) count)) (now (kept .entry)) n (now (task .entry)) (now (tick .entry)) (now (cost .entry)) (now (ready .entry)))) (readyList (viewOf (sheetFrom (now (sheet .entry)) count)) (column (now (kept .entry))) (releasesOf n (now (task .entry)) (now (tick .entry)) (now (cost .entry)))) (now (ready .entry)) ⌝ }
+{
+    let s = sheet_from(sheet, count);
+    let checked = trace::ready_ticks(s, kept, n as usize, task, tick, cost, ready);
+    code_of(checked)
+}
+
+// The run of n releases, with kept jitters: ready and finish ticks.
+#[no_mangle]
+pub extern "C" fn nolkrada_run(
+    sheet: &[u32],
+    count: u32,
+    kept: &[u32],
+    n: u32,
+    task: &[u32],
+    tick: &[u32],
+    cost: &[u32],
+    ready: &mut [u32],
+    finish: &mut [u32],
+) -> u64
+    ensures code { λ r. ⌜ r ≡ codeOf (refusalOf (runInputs (viewOf (sheetFrom (now (sheet .entry)) count)) (now (kept .entry)) n (now (task .entry)) (now (tick .entry)) (now (cost .entry)) (now (ready .entry)) (now (finish .entry)))) ⌝ }
+    ensures ticks { λ _. ⌜ now (ready .exit) ≡ columnAfter (refusalOf (runInputs (viewOf (sheetFrom (now (sheet .entry)) count)) (now (kept .entry)) n (now (task .entry)) (now (tick .entry)) (now (cost .entry)) (now (ready .entry)) (now (finish .entry)))) (readyList (viewOf (sheetFrom (now (sheet .entry)) count)) (column (now (kept .entry))) (releasesOf n (now (task .entry)) (now (tick .entry)) (now (cost .entry)))) (now (ready .entry)) ⌝ }
+    ensures ends { λ _. ⌜ now (finish .exit) ≡ columnAfter (refusalOf (runInputs (viewOf (sheetFrom (now (sheet .entry)) count)) (now (kept .entry)) n (now (task .entry)) (now (tick .entry)) (now (cost .entry)) (now (ready .entry)) (now (finish .entry)))) (finishList (viewOf (sheetFrom (now (sheet .entry)) count)) (column (now (kept .entry))) (releasesOf n (now (task .entry)) (now (tick .entry)) (now (cost .entry)))) (now (finish .entry)) ⌝ }
+{
+    let s = sheet_from(sheet, count);
+    let checked = schedule::run(s, kept, n as usize, task, tick, cost, ready, finish);
+    code_of(checked)
+}
+
+// Writes the four numbers of a task.
+fn put_task(sheet: &mut [u32], at: usize, t: Task)
+    requires { ⌜ at + 4 ≤ length (now sheet) ⌝ }
+    ensures { λ _. ⌜ now (sheet .exit) ≡ sets (now (sheet .entry)) at (taskNumbers t) ⌝ }
+{
+    sheet[at] = t.period;
+    sheet[at + 1] = t.jitter;
+    sheet[at + 2] = t.cost;
+    sheet[at + 3] = t.deadline;
+}
+
+// Writes the 128 numbers of a sheet.
+fn put_sheet(s: TaskSet, sheet: &mut [u32])
+    requires { ⌜ 128 ≤ length (now sheet) ⌝ }
+    ensures { λ _. ⌜ now (sheet .exit) ≡ numbersOf (s .tasks) ++ drop (length (numbersOf (s .tasks))) (now (sheet .entry)) ⌝ }
+{
+    let mut i = 0;
+    while i < 32 {
+        let t = s.tasks[i];
+        put_task(sheet, 4 * i, t);
+        i += 1;
+    }
+}
+
+// How many releases a file has, or what is wrong with it. The reader tells the number even where its columns are too short: as the place of its 13.
+fn releases_in(file: &[u8]) -> ReadOutcome
+    ensures { λ r. ⌜ outcomeIn r ≡ readCount (decode (now (file .entry))) ⌝ }
+{
+    let mut task = [0; 1];
+    let mut tick = [0; 1];
+    let mut cost = [0; 1];
+    let got = reader::read(file, &mut task, &mut tick, &mut cost);
+    let outcome = got.outcome;
+    if let ReadOutcome::Refused { number, place } = outcome {
+        if number == 13 {
+            return ReadOutcome::Read { releases: place };
+        }
+    }
+    outcome
+}
+
+// What a read returns, given how many slots are lent for the sheet, each column and the answer. It changes none of them.
+fn read_code(file: &[u8], sheet: usize, task: usize, tick: usize, cost: usize, answer: usize) -> u64
+    ensures { λ r. ⌜ r ≡ codeIn (readWithin (decode (now (file .entry))) sheet task tick cost answer) ⌝ }
+{
+    let found = releases_in(file);
+    match found {
+        ReadOutcome::Refused { number, place } => refusal_code(number, place),
+        ReadOutcome::Read { releases } => {
+            if sheet < 128 {
+                return refusal_code(13, 128);
+            }
+            if task < releases {
+                return refusal_code(13, releases);
+            }
+            if tick < releases {
+                return refusal_code(13, releases);
+            }
+            if cost < releases {
+                return refusal_code(13, releases);
+            }
+            if answer < 2 {
+                return refusal_code(13, 2);
+            }
+            0
+        }
+    }
+}
+
+// Reads a file: the 128 numbers of its sheet, three columns of releases, and two words.
+#[no_mangle]
+pub extern "C" fn nolkrada_read(
+    file: &[u8],
+    sheet: &mut [u32],
+    task: &mut [u32],
+    tick: &mut [u32],
+    cost: &mut [u32],
+    answer: &mut [u64],
+) -> u64
+    ensures { λ r. ⌜ ReadEnds (readAnswer (now (file .entry)) (now (sheet .entry)) (now (task .entry)) (now (tick .entry)) (now (cost .entry)) (now (answer .entry))) (now (sheet .entry)) (now (task .entry)) (now (tick .entry)) (now (cost .entry)) (now (answer .entry)) r (now (sheet .exit)) (now (task .exit)) (now (tick .exit)) (now (cost .exit)) (now (answer .exit)) ⌝ }
+{
+    if sheet.len() < 128 {
+        return read_code(
+            file,
+            sheet.len(),
+            task.len(),
+            tick.len(),
+            cost.len(),
+            answer.len(),
+        );
+    }
+    if answer.len() < 2 {
+        return read_code(
+            file,
+            sheet.len(),
+            task.len(),
+            tick.len(),
+            cost.len(),
+            answer.len(),
+        );
+    }
+    let got = reader::read(file, task, tick, cost);
+    let outcome = got.outcome;
+    let tasks = got.tasks;
+    match outcome {
+        ReadOutcome::Refused { number, place } => refusal_code(number, place),
+        ReadOutcome::Read { releases } => {
+            put_sheet(tasks, sheet);
+            put_two(answer, tasks.count as u64, releases as u64)
+        }
+    }
+}
+
+// Writes a file: its bytes, and how many as one word.
+#[no_mangle]
+pub extern "C" fn nolkrada_write(
+    sheet: &[u32],
+    count: u32,
+    n: u32,
+    task: &[u32],
+    tick: &[u32],
+    cost: &[u32],
+    out: &mut [u8],
+    answer: &mut [u64],
+) -> u64
+    ensures { λ r. ⌜ WriteEnds (writeAnswer (now (sheet .entry)) count n (now (task .entry)) (now (tick .entry)) (now (cost .entry)) (now (out .entry)) (now (answer .entry))) (now (out .entry)) (now (answer .entry)) r (now (out .exit)) (now (answer .exit)) ⌝ }
+{
+    let s = sheet_from(sheet, count);
+    if answer.len() < 1 {
+        let checked = writer::check_write(s, n as usize, task, tick, cost, out.len());
+        if let Checked::Refused { number, place } = checked {
+            return slots_code(number, place, 1, answer.len());
+        }
+        return refusal_code(13, 1);
+    }
+    let got = writer::write(s, n as usize, task, tick, cost, out);
+    match got {
+        WriteAnswer::Refused { number, place } => refusal_code(number, place),
+        WriteAnswer::Written { bytes } => put_one(answer, bytes as u64),
+    }
+}

@@ -1,0 +1,43 @@
+-- A bound of every finish of document 01's run of a list.
+use Prim.Native.Nat.{ℕ, _+_, _-_, _*_, _≤_, _<_}
+use mathlib.Core.Path.{refl}
+use mathlib.Core.List.{List}
+use native.Mathlib.Nat.{mul-le-mul}
+use native.Mathlib.Omega.{arith}
+use lib.ListN.{length}
+use Rattle.model.specs.Tasks.{Tasks, Release, releaseAt}
+use Rattle.model.specs.Ready as Model
+use Rattle.model.specs.Run.{jobs, finishAt}
+use Rattle.model.specs.Claims.{Trace}
+use Rattle.shaper.proofs.GapLaws.{gap-le}
+use Rattle.trace.proofs.ReadyAtLaws.{Since, ready-at-closed}
+use Rattle.theory.specs.Windows.{place}
+use Rattle.theory.proofs.EndLaws.{start-high, finish-high}
+use Rattle.processor.proofs.SamePlace.{same-place}
+
+-- a list whose releases are at tick T or before, of tasks whose period and cost are at most X
+module _ (s : Tasks) (k : ℕ → ℕ) (l : List Release) (tr : Trace s l) (T X : ℕ)
+    (ticks : (p : ℕ) → p < length l → releaseAt l p .tick ≤ T) (small : (i : ℕ) → i < s .count → (s .period i ≤ X) × (s .cost i ≤ X)) where
+  -- a ready tick is at most T and X for each earlier release of the task
+  pub ready-bound : (p : ℕ) → p < length l → Model.readyAt s k l p ≤ T + X * place (λ n. releaseAt l n .task) (releaseAt l p .task) p
+  ready-bound p h = go (ready-at-closed s k l (releaseAt l p .task) p h refl)
+    where
+      go : Since s k l (releaseAt l p .task) p → Model.readyAt s k l p ≤ T + X * place (λ n. releaseAt l n .task) (releaseAt l p .task) p
+      go c =
+          rw (same-place l (releaseAt l p .task) p h refl)
+          (omega (
+            arith,
+            c .is,
+            ticks (c .from) (omega (arith, c .not-after)),
+            gap-le (s .period (releaseAt l p .task)) (k (releaseAt l p .task)) (Model.place l p - Model.place l (c .from)),
+            mul-le-mul {n₁ = Model.place l p - Model.place l (c .from)} {n₂ = Model.place l p} (omega arith) (small (releaseAt l p .task) (tr .sound p h .known) .0),
+          ))
+
+  -- every finish is at most T and X for each release
+  pub finish-bound : (p : ℕ) → p < length l → finishAt s k l p ≤ T + X * length l
+  unfolding finishAt
+  finish-bound p h =
+      omega (arith, finish-high (jobs s k l) T X (λ t. refl) cost-le (start-high (jobs s k l) T X ready-bound) p h (tr .sound p h .cost-low))
+    where
+      cost-le : (q : ℕ) → q < length l → releaseAt l q .cost ≤ X
+      cost-le q g = omega (arith, tr .sound q g .cost-high, small (releaseAt l q .task) (tr .sound q g .known) .1)

@@ -1,0 +1,22 @@
+-- What the walk over q needs of its task, and what it knows on the way.
+use Prim.Native.Nat.{ℕ, zero, suc, _+_, _*_, _≤_, _<_}
+use mathlib.Core.Path.{_≡_}
+use lib.IntN.{ℤ, pos}
+use Rattle.model.specs.Limits.{horizonTick}
+use Rattle.model.specs.Tasks.{Tasks}
+use Rattle.model.specs.Demand.{demand}
+use Rattle.model.specs.Verdict.{peak, stops, boundAt}
+use Rattle.model.proofs.SearchLaws.{Sought}
+use Rattle.verdict.specs.declared.Best.{Best}
+
+-- the largest of f 0, .., f (q - 1) and the first place that has it; 0 at 0 where q is 0
+abbrev pub BestOf : (ℕ → ℤ) → ℕ → Best → Type 0
+BestOf f zero b = b ≡ record { worst = 0; first = 0 }
+BestOf f (suc n) b = peak f n ≡ record { value = pos (b .worst); at = b .first }
+
+-- at the head of the walk: it has stopped at no q so far; no t up to d_K(q) is long enough; the best so far
+pub record Walk (s : Tasks) (k : ℕ → ℕ) (i q : ℕ) (b : Best) : Type 0 where
+  pub q-high : q ≤ horizonTick
+  pub sought : Sought (stops s k i) (suc horizonTick) q
+  pub behind : (t : ℕ) → 1 ≤ t → t + k i ≤ q * s .period i → t < demand s k i q t
+  pub best : BestOf (boundAt s k i) q b

@@ -1,0 +1,85 @@
+-- A task of a sheet that passed its checks can be judged by its columns.
+use Prim.Native.Nat.{ℕ, _+_, _*_, _<_}
+use mathlib.Core.Path.{_≡_, refl}
+use mathlib.Core.List.{List}
+use mathlib.Core.Logic.{dite}
+use native.Mathlib.Omega.{arith}
+use native.Mathlib.Decide.{decLt}
+use Rattle.model.specs.Choice.{column}
+use Rattle.model.specs.Verdict.{verdict}
+use Rattle.response.proofs.WindowLaws.{Window}
+use Rattle.taskset.specs.declared.TaskSet.{TaskSet}
+use Rattle.taskset.specs.TaskSet.{viewOf}
+use Rattle.demand.specs.Columns.{flatTasks, Small, Copied}
+use Rattle.demand.proofs.TaskCallLaws.{Passed}
+use Rattle.verdict.specs.declared.Best.{Best}
+use Rattle.verdict.specs.Walking.{Walkable, Met}
+use Rattle.verdict.proofs.VerdictWalk.{Walk}
+use Rattle.verdict.proofs.SameVerdict.{verdict-same}
+
+-- R(q) is a natural number where the walk comes
+pub met-at : (loads periods keeps : List ℕ) (i J D q t : ℕ) (b : Best)
+    → Walkable loads periods keeps i J
+    → Walk (flatTasks loads periods J D) (column keeps) i q b
+    → Window (flatTasks loads periods J D) (column keeps) i q t
+    → Met (column periods i) J (column keeps i) q t
+met-at loads periods keeps i J D q t b r w f =
+    record {
+      period-high = r .period-high;
+      jitter-high = r .jitter-high;
+      keep-high = r .keep-high;
+      q-high = w .q-high;
+      w-low = f .low;
+      w-high = f .high;
+      behind =
+          dite (decLt (q * column periods i) (t + column keeps i)) (λ h. h) (λ h. absurd (omega (arith, w .behind t (f .low) (omega arith), f .met)));
+    }
+
+module _ (s : TaskSet) (i : ℕ) (kept loads periods : List ℕ) (p : Passed (viewOf s) i kept) (c : Copied s (s .count) loads periods) where
+  -- the numbers of a task in its columns
+  small : (j : ℕ) → j < s .count → Small (column loads j) (column periods j) (column kept j)
+  small j l =
+      let r = p .valid .in-range j l in
+      record {
+        load-high = omega (arith, c .load-is j l);
+        period-low = omega (arith, c .period-is j l);
+        period-high = omega (arith, c .period-is j l);
+        keep-high = omega (arith, p .kept-in j l);
+      }
+
+  -- the columns of the task and of those above it
+  pub walkable : Walkable loads periods kept i (viewOf s .jitter i)
+  walkable =
+      let r = p .valid .in-range i (p .known) in
+      record {
+        search =
+            record {
+              above =
+                  record {
+                    few = omega (arith, p .known, p .valid .few-tasks);
+                    loads-long = omega (arith, p .known, p .valid .few-tasks, c .loads-long);
+                    periods-long = omega (arith, p .known, p .valid .few-tasks, c .periods-long);
+                    keeps-long = omega (arith, p .known, p .long);
+                    small = λ j l. small j (omega (arith, p .known));
+                  };
+              loads-long = omega (arith, p .known, p .valid .few-tasks, c .loads-long);
+              cost-low = omega (arith, c .load-is i (p .known));
+              cost-high = small i (p .known) .load-high;
+            };
+        periods-long = omega (arith, p .known, p .valid .few-tasks, c .periods-long);
+        keeps-long = omega (arith, p .known, p .long);
+        period-high = small i (p .known) .period-high;
+        jitter-high = r .jitter-high;
+        keep-high = p .kept-in i (p .known);
+      }
+
+  -- the verdict by the columns is the sheet's
+  pub judged : verdict (flatTasks loads periods (viewOf s .jitter i) (viewOf s .deadline i)) (column kept) i ≡ verdict (viewOf s) (column kept) i
+  judged =
+      verdict-same (flatTasks loads periods (viewOf s .jitter i) (viewOf s .deadline i)) (viewOf s) (column kept) i
+      (record {
+        loads = λ j l. c .load-is j (omega (arith, p .known));
+        periods = λ j l. c .period-is j (omega (arith, p .known));
+        jitter = refl;
+        deadline = refl;
+      })
