@@ -11,6 +11,7 @@ use lib.Seq.{take-take}
 use Rattle.model.specs.Limits.{maxTasks, maxReleases}
 use Rattle.fileformat.specs.Records.{Record, taskRecord, releaseRecord, taskFrom, releaseFrom, whole, recordOf, sizeOf}
 use Rattle.fileformat.specs.File.{State, Step, next, withTask, withRelease, advance, afterEnd, readFrom, empty, decode}
+use Rattle.fileformat.specs.RoundTrips.{FirstBytesDecide}
 use Rattle.fileformat.proofs.NumberLaws.{by-order, drop-take, field-take}
 use Rattle.fileformat.proofs.RecordLaws.{shape, size-in, whole-is, whole-cut, record-unknown}
 use Rattle.fileformat.proofs.StepLaws.{Moves, stops, takes-task, takes-release, ends, moves, read-stop, read-next, read-last}
@@ -124,5 +125,5 @@ decode-prefix f =
     (record { offset = refl; few-tasks = omega arith; few-releases = omega arith; ahead = refl }) (omega arith) (omega arith)
 
 -- and so do more bytes
-pub decode-first : (n : ℕ) (f : List ℕ) → 10801 ≤ n → decode (take n f) ≡ decode f
+pub decode-first : FirstBytesDecide
 decode-first n f h = sym (decode-prefix (take n f)) ∙ ap decode (take-take 10801 n f h) ∙ decode-prefix f

@@ -21,6 +21,7 @@ use Rattle.taskset.specs.TaskSet.{noTask, viewOf}
 use Rattle.fileformat.specs.Numbers.{Bytes}
 use Rattle.fileformat.specs.File.{File, sheetOf, encode, decode, ValidFile}
 use Rattle.fileformat.specs.FileCalls.{tasksIn, setOf, writeInputs, fileOf}
+use Rattle.fileformat.specs.RoundTrips.{WriteIsValid, WriteIsRead, ReadPasses, ReadWrites}
 use Rattle.fileformat.proofs.SheetLaws.{Agree, same-sheet, valid-agrees, releases-agree}
 use Rattle.fileformat.proofs.RoundTrips.{decode-encode, encode-decode, decode-valid}
 
@@ -36,19 +37,18 @@ covers s v =
     (λ l. omega (arith, v .in-range (length (s .tasks)) l .period-low, ap (λ (t : Task). t .period) (past (s .tasks))))
 
 -- a write that is not refused writes a valid file, which is read again
-module _ (s : TaskSet) (n : ℕ) (task tick cost : List ℕ) (room : ℕ) (e : none ≡ refusalOf (writeInputs (viewOf s) n task tick cost room)) where
-  pub written-valid : ValidFile (fileOf s n task tick cost)
-  written-valid =
-      let a = accepted-of _ e in
-      let v : Valid (viewOf s) = valid-of (viewOf s) (sym (a .tasks)) in
-      record {
-        tasks = sym (valid-passes _ (valid-agrees _ _ (same-sheet s (covers s v)) v));
-        releases = sym (a .releases ∙ releases-agree _ _ 0 0 _ (same-sheet s (covers s v)));
-        few = omega (arith, count-of n (a .count), length-releases n task tick cost);
-      }
+pub written-valid : WriteIsValid
+written-valid s n task tick cost room e =
+    let a = accepted-of _ e in
+    let v : Valid (viewOf s) = valid-of (viewOf s) (sym (a .tasks)) in
+    record {
+      tasks = sym (valid-passes _ (valid-agrees _ _ (same-sheet s (covers s v)) v));
+      releases = sym (a .releases ∙ releases-agree _ _ 0 0 _ (same-sheet s (covers s v)));
+      few = omega (arith, count-of n (a .count), length-releases n task tick cost);
+    }
 
-  pub written-read : decode (encode (fileOf s n task tick cost)) ≡ answered (fileOf s n task tick cost)
-  written-read = decode-encode (fileOf s n task tick cost) written-valid
+pub written-read : WriteIsRead
+written-read s n task tick cost room e = decode-encode (fileOf s n task tick cost) (written-valid s n task tick cost room e)
 
 -- the tasks of the set that is returned
 pub tasks-of-set : (l : List Task) → tasksIn (setOf l) ≡ l
@@ -92,7 +92,7 @@ module _ (l : List Release) (a b c : List ℕ) where
       ∙ rw (entry (λ r. r .task) a i h, entry (λ r. r .tick) b i h, entry (λ r. r .cost) c i h))
 
 -- what is read passes the check of a list, on the set and the columns that a read gives
-pub read-passes : (f : List ℕ) (x : File) (a b c : List ℕ) → decode f ≡ answered x → none ≡ refusalOf (listInputs (viewOf (setOf (x .tasks))) (length (x .releases)) (map (λ r. r .task) (x .releases) ++ a) (map (λ r. r .tick) (x .releases) ++ b) (map (λ r. r .cost) (x .releases) ++ c))
+pub read-passes : ReadPasses
 read-passes f x a b c e =
     let v = decode-valid f x e in
     let l = x .releases in
@@ -109,7 +109,7 @@ read-passes f x a b c e =
     })
 
 -- what is read and written again is the accepted file
-pub read-written : (f : List ℕ) (x : File) (a b c : List ℕ) → Bytes f → decode f ≡ answered x → encode (fileOf (setOf (x .tasks)) (length (x .releases)) (map (λ r. r .task) (x .releases) ++ a) (map (λ r. r .tick) (x .releases) ++ b) (map (λ r. r .cost) (x .releases) ++ c)) ≡ f
+pub read-written : ReadWrites
 read-written f x a b c h e =
     ap encode (ap₂ (λ t l. record { tasks = t; releases = l }) (tasks-of-set (x .tasks)) (releases-of-columns (x .releases) a b c))
     ∙ encode-decode f x h e

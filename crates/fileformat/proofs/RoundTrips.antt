@@ -17,6 +17,7 @@ use Rattle.taskset.specs.TaskSet.{noTask}
 use Rattle.fileformat.specs.Numbers.{Bytes}
 use Rattle.fileformat.specs.Records.{Record, taskRecord, releaseRecord, endRecord, recordOf, taskBytes, releaseBytes, recordBytes, sizeOf}
 use Rattle.fileformat.specs.File.{File, State, Step, sheetOf, recordsOf, joined, encode, withTask, withRelease, advance, afterEnd, readFrom, empty, decode, ValidFile}
+use Rattle.fileformat.specs.RoundTrips.{WrittenIsRead, ReadIsWritten, ReadIsValid}
 use Rattle.fileformat.proofs.RecordLaws.{shape, TaskFits, ReleaseFits, length-task, length-release, task-read, release-read, record-end, bytes-read}
 use Rattle.fileformat.proofs.StepLaws.{task-fine, list-fine, end-fine, Ranged, Moves, stops, takes-task, takes-release, ends, moves, task-taken, release-taken, end-taken, read-stop, read-next, read-last}
 
@@ -128,7 +129,7 @@ written (suc n) s at f x b e =
     (λ s′ e′. written n s′ _ _ x (bytes-drop (sizeOf (recordOf f)) f b) e′)
 
 -- an accepted file is what its contents are written as
-pub encode-decode : (f : List ℕ) (x : File) → Bytes f → decode f ≡ answered x → encode x ≡ f
+pub encode-decode : ReadIsWritten
 unfolding decode joined
 encode-decode f x b e = written (suc (length f)) empty 0 f x b e
 
@@ -203,7 +204,7 @@ unfolding sizeOf afterEnd
 reads-end n ts rs b k l = read-last n (readTo ts rs b) k (3 ∷ []) endRecord (record-end []) (end-taken (readTo ts rs b) (end-fine _ l))
 
 -- what is written is read again
-pub decode-encode : (x : File) → ValidFile x → decode (encode x) ≡ answered x
+pub decode-encode : WrittenIsRead
 unfolding decode
 decode-encode x h =
     let v = valid-of (sheetOf (x .tasks)) (h .tasks) in
@@ -282,7 +283,7 @@ valid-from (suc n) s at f x g e =
     (λ s′ g′ e′. valid-from n s′ _ _ x g′ e′)
 
 -- what is read is within document 01's limits
-pub decode-valid : (f : List ℕ) (x : File) → decode f ≡ answered x → ValidFile x
+pub decode-valid : ReadIsValid
 unfolding decode
 decode-valid f x e =
     valid-from (suc (length f)) empty 0 f x

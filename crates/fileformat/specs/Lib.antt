@@ -3,3 +3,4 @@ pub mod Numbers
 pub mod Records
 pub mod File
 pub mod FileCalls
+pub mod RoundTrips

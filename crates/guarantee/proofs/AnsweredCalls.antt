@@ -17,11 +17,10 @@ use Rattle.model.proofs.TraceLaws.{trace-of, ticks-of}
 use Rattle.trace.proofs.LegalCheck.{trace-check}
 use Rattle.guarantee.proofs.ChoiceSafe.{choice-safe}
 use Rattle.guarantee.proofs.Demand3.{demand3}
-use Rattle.guarantee.specs.AnsweredCalls.{RunHolds, SafeChoice}
+use Rattle.guarantee.specs.AnsweredCalls.{VerdictAnswers, MissedLegal, ChoiceAnswers, RunAnswers}
 
 -- an answered verdict is the verdict defined, and demand 3 holds with the kept jitters given
-pub verdict-answers : (s : Tasks) (i : ℕ) (kept : List ℕ) (v : Verdict) → verdictCall s i kept ≡ answered v
-    → (verdict s (column kept) i ≡ v) × Demand3 s (column kept) i
+pub verdict-answers : VerdictAnswers
 unfolding verdictCall
 verdict-answers s i kept v h =
     let d = answered-of (taskInputs s i kept) (verdict s (column kept) i) v h in
@@ -29,20 +28,18 @@ verdict-answers s i kept v h =
     (d .1, demand3 s (valid-of s (sym (a .tasks))) (column kept) (kept-of s (column kept) (sym (a .kept))) i (task-of s i (a .single)))
 
 -- the list that a "late" verdict promises passes the trace check
-pub missed-legal : (s : Tasks) (k : ℕ → ℕ) (i : ℕ) (d : Missed s k i) → firstClose s (d .list) ≡ none
+pub missed-legal : MissedLegal
 missed-legal s k i d = trace-check s (d .list) (d .trace) (d .legal)
 
 -- a choice that is not refused is safe
-pub choice-answers : (s : Tasks) (kept worst : List ℕ) → refusalOf (choiceInputs s kept worst) ≡ none → SafeChoice s
+pub choice-answers : ChoiceAnswers
 choice-answers s kept worst h =
     let a = accepted-of _ (sym h) in
     let c = chosen-of (choice s) (a .unfit) in
     record { kept = c .keeps; worst = c .worsts; is = c .is; safe = choice-safe s (valid-of s (sym (a .tasks))) (c .keeps) (c .worsts) (c .is) }
 
 -- a run that is not refused: its sheet, kept jitters and list are such, so demand 3 holds of its list
-pub run-answers
-    : (s : Tasks) (kept : List ℕ) (n : ℕ) (task tick cost ready finish : List ℕ) → refusalOf (runInputs s kept n task tick cost ready finish) ≡ none
-    → RunHolds s (column kept) (releasesOf n task tick cost)
+pub run-answers : RunAnswers
 run-answers s kept n task tick cost ready finish h =
     let a = accepted-of _ (sym h) in
     let v = valid-of s (sym (a .tasks)) in

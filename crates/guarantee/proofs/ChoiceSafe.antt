@@ -11,10 +11,10 @@ use Rattle.model.specs.Choice.{column, chosen, choice}
 use Rattle.model.specs.Claims.{Trace, OnTime}
 use Rattle.response.proofs.ChoiceLaws.{choice-keeps, choice-fits, choice-least}
 use Rattle.guarantee.proofs.Demand3.{demand3}
-use Rattle.guarantee.specs.ChoiceSafe.{Safe}
+use Rattle.guarantee.specs.ChoiceSafe.{ChoiceIsSafe}
 
 -- those of a choice
-pub choice-safe : (s : Tasks) → Valid s → (ks : List ℕ) (ws : List ℤ) → choice s ≡ chosen ks ws → Safe s ks
+pub choice-safe : ChoiceIsSafe
 choice-safe s v ks ws h = record {
   on-time = λ i g l tr legal. go i g l tr legal (choice-fits s ks ws h i g);
   least = choice-least s ks ws h;

@@ -9,16 +9,15 @@ use Rattle.response.specs.VerdictSays.{Walked, Missing}
 use Rattle.response.proofs.VerdictLaws.{fits-says, late-says}
 use Rattle.processor.proofs.PlainDemand.{regular}
 use Rattle.processor.specs.ProcessorClaims.{MetOn, DemandOn}
+use Rattle.guarantee.specs.Demand3.{Demand3Holds}
 use Rattle.guarantee.proofs.OnProcessor.{demand-on}
 use Rattle.guarantee.proofs.LimitShareOfRun.{limit, share}
 use Rattle.guarantee.specs.RunBounds.{windowOf}
 use Rattle.guarantee.proofs.FitsOfVerdict.{walk-of, on-time}
 use Rattle.guarantee.proofs.LateOfVerdict.{late-of, late-end, missed}
 
--- every task of a task set within the limits, with kept jitters up to the tasks' jitters: demand 3 on a processor with pickup 0, load E and every tick ours
-pub demand3
-    : (s : Tasks) → Valid s → (k : ℕ → ℕ) → ((j : ℕ) → j < s .count → k j ≤ s .jitter j)
-    → (i : ℕ) → i < s .count → Demand3 s k i
+-- demand 3 on a processor with pickup 0, load E and every tick ours
+pub demand3 : Demand3Holds
 unfolding late-of
 demand3 s v k kept i h = go (demand-on plain regular s (λ j g. v .in-range j g .period-low) (λ j g. v .in-range j g .cost-low) k kept i h)
   where

@@ -1,10 +1,10 @@
--- Laws: what follows from the definitions, and why.
-pub mod AnsweredCalls
-pub mod ChoiceSafe
-pub mod Demand3
-pub mod FitsOfVerdict
-pub mod LateOfVerdict
-pub mod LimitShareOfRun
+-- Demand 3 and what follows from it, proved.
 pub mod OnProcessor
 pub mod PlainRun
+pub mod LimitShareOfRun
+pub mod FitsOfVerdict
+pub mod LateOfVerdict
+pub mod Demand3
 pub mod RunBounds
+pub mod ChoiceSafe
+pub mod AnsweredCalls

@@ -5,15 +5,13 @@ use Rattle.model.specs.Processor.{Processor}
 use Rattle.model.specs.Tasks.{Tasks}
 use Rattle.processor.specs.ProcessorDemand.{Regular}
 use Rattle.processor.specs.ProcessorClaims.{DemandOn}
+use Rattle.guarantee.specs.OnProcessor.{DemandOnHolds}
 use Rattle.processor.proofs.LimitShareOnProcessor.{limit-on, share-on}
 use Rattle.processor.proofs.FitsOnProcessor.{fits-on}
 use Rattle.witness.proofs.LateLaw.{missed-on}
 
--- every task of a task set whose tasks have a period and a cost, with kept jitters up to the tasks' jitters
-pub demand-on
-    : (m : Processor) (r : Regular m) (s : Tasks) → ((j : ℕ) → j < s .count → 1 ≤ s .period j) → ((j : ℕ) → j < s .count → 1 ≤ s .cost j)
-    → (k : ℕ → ℕ) → ((j : ℕ) → j < s .count → k j ≤ s .jitter j)
-    → (i : ℕ) → i < s .count → DemandOn m r s k i
+-- limit, share and "fits" by the crate `processor`, the list of a late verdict by `witness`
+pub demand-on : DemandOnHolds
 demand-on m r s periods costs k kept i h = record {
   limit = λ l tr. limit-on m r s k i l tr (periods i h);
   share = λ l tr. share-on m r s k i l tr (λ j g. periods j (omega arith));

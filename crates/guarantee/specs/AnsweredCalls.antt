@@ -1,14 +1,31 @@
--- The calls: where one answers with a verdict or a run, demand 3 holds of it; where one answers with a choice, the choice is safe.
+-- The calls: where one answers with a verdict or a run, demand 3 holds of it; where one answers with a choice, the choice is safe. proofs/AnsweredCalls.antt proves it
+-- (`verdict-answers`, `missed-legal`, `choice-answers`, `run-answers`).
 use Prim.Native.Nat.{ℕ, _≤_, _<_}
 use mathlib.Core.Path.{_≡_}
+use mathlib.Core.Option.{none}
 use mathlib.Core.List.{List}
 use lib.ListN.{length}
 use lib.IntN.{ℤ}
 use Rattle.model.specs.Limits.{maxTick}
 use Rattle.model.specs.Tasks.{Tasks, Release, releaseAt, Valid}
-use Rattle.model.specs.Choice.{chosen, choice}
-use Rattle.model.specs.Claims.{Trace, Demand3}
+use Rattle.model.specs.Legality.{firstClose}
+use Rattle.model.specs.Verdict.{Verdict, verdict}
+use Rattle.model.specs.Choice.{column, chosen, choice}
+use Rattle.model.specs.Claims.{Trace, Missed, Demand3}
+use Rattle.model.specs.Refusal.{answered}
+use Rattle.model.specs.Checks.{refusalOf}
+use Rattle.model.specs.Calls.{releasesOf, verdictCall, choiceInputs, runInputs}
 use Rattle.guarantee.specs.ChoiceSafe.{Safe}
+
+-- an answered verdict is the verdict defined, and demand 3 holds with the kept jitters given
+abbrev pub VerdictAnswers : Type 0
+VerdictAnswers =
+    (s : Tasks) (i : ℕ) (kept : List ℕ) (v : Verdict) → verdictCall s i kept ≡ answered v
+    → (verdict s (column kept) i ≡ v) × Demand3 s (column kept) i
+
+-- the list that a "late" verdict promises passes the trace check
+abbrev pub MissedLegal : Type 0
+MissedLegal = (s : Tasks) (k : ℕ → ℕ) (i : ℕ) (d : Missed s k i) → firstClose s (d .list) ≡ none
 
 -- a choice that succeeds, and what it is worth
 pub record SafeChoice (s : Tasks) : Type 0 where
@@ -17,6 +34,10 @@ pub record SafeChoice (s : Tasks) : Type 0 where
   pub is : choice s ≡ chosen kept worst
   pub safe : Safe s kept
 
+-- a choice that is not refused is safe
+abbrev pub ChoiceAnswers : Type 0
+ChoiceAnswers = (s : Tasks) (kept worst : List ℕ) → refusalOf (choiceInputs s kept worst) ≡ none → SafeChoice s
+
 -- what demand 3 asks of a sheet, kept jitters and a list, and what it says of every task
 pub record RunHolds (s : Tasks) (k : ℕ → ℕ) (l : List Release) : Type 0 where
   pub valid : Valid s
@@ -24,3 +45,9 @@ pub record RunHolds (s : Tasks) (k : ℕ → ℕ) (l : List Release) : Type 0 wh
   pub trace : Trace s l
   pub ticks : (p : ℕ) → p < length l → releaseAt l p .tick ≤ maxTick
   pub demand3 : (i : ℕ) → i < s .count → Demand3 s k i
+
+-- a run that is not refused: its sheet, kept jitters and list are such, so demand 3 holds of its list
+abbrev pub RunAnswers : Type 0
+RunAnswers =
+    (s : Tasks) (kept : List ℕ) (n : ℕ) (task tick cost ready finish : List ℕ)
+    → refusalOf (runInputs s kept n task tick cost ready finish) ≡ none → RunHolds s (column kept) (releasesOf n task tick cost)

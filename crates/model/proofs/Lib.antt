@@ -6,4 +6,3 @@ pub mod CheckLaws
 pub mod OrderLaws
 pub mod TraceLaws
 pub mod Sums
-pub mod Traps

@@ -13,6 +13,7 @@ use Rattle.shaper.proofs.GapLaws.{gap-le}
 use Rattle.trace.proofs.ReadyAtLaws.{Since, ready-at-closed}
 use Rattle.theory.specs.Windows.{place}
 use Rattle.theory.proofs.EndLaws.{start-high, finish-high}
+use Rattle.processor.specs.FinishBound.{FinishBounded}
 use Rattle.processor.proofs.SamePlace.{same-place}
 
 -- a list whose releases are at tick T or before, of tasks whose period and cost are at most X
@@ -33,11 +34,14 @@ module _ (s : Tasks) (k : ℕ → ℕ) (l : List Release) (tr : Trace s l) (T X 
             mul-le-mul {n₁ = Model.place l p - Model.place l (c .from)} {n₂ = Model.place l p} (omega arith) (small (releaseAt l p .task) (tr .sound p h .known) .0),
           ))
 
-  -- every finish is at most T and X for each release
-  pub finish-bound : (p : ℕ) → p < length l → finishAt s k l p ≤ T + X * length l
-  unfolding finishAt
-  finish-bound p h =
-      omega (arith, finish-high (jobs s k l) T X (λ t. refl) cost-le (start-high (jobs s k l) T X ready-bound) p h (tr .sound p h .cost-low))
-    where
-      cost-le : (q : ℕ) → q < length l → releaseAt l q .cost ≤ X
-      cost-le q g = omega (arith, tr .sound q g .cost-high, small (releaseAt l q .task) (tr .sound q g .known) .1)
+-- every finish is at most T and X for each release
+pub finish-bound : FinishBounded
+unfolding finishAt
+finish-bound s k l tr T X ticks small p h =
+    omega (
+      arith,
+      finish-high (jobs s k l) T X (λ t. refl) cost-le (start-high (jobs s k l) T X (ready-bound s k l tr T X ticks small)) p h (tr .sound p h .cost-low),
+    )
+  where
+    cost-le : (q : ℕ) → q < length l → releaseAt l q .cost ≤ X
+    cost-le q g = omega (arith, tr .sound q g .cost-high, small (releaseAt l q .task) (tr .sound q g .known) .1)

@@ -1,4 +1,5 @@
 -- The list of releases that a late verdict promises.
-pub mod Merge
 pub mod GapTimes
+pub mod Merge
 pub mod Scenario
+pub mod LateList

@@ -1,0 +1,63 @@
+-- The two round trips, what is read being valid, and how many bytes decide a read: the statements. proofs/RoundTrips.antt, proofs/Prefix.antt and, for the calls,
+-- proofs/RoundTripCalls.antt prove them under the names given here.
+use Prim.Native.Nat.{ℕ, _≤_}
+use mathlib.Core.Path.{_≡_}
+use mathlib.Core.Option.{none}
+use mathlib.Core.List.{List, _++_, map}
+use lib.ListN.{length, take}
+use Rattle.model.specs.Tasks.{Release}
+use Rattle.model.specs.Refusal.{answered}
+use Rattle.model.specs.Checks.{refusalOf}
+use Rattle.model.specs.Calls.{listInputs}
+use Rattle.taskset.specs.declared.TaskSet.{TaskSet}
+use Rattle.taskset.specs.TaskSet.{viewOf}
+use Rattle.fileformat.specs.Numbers.{Bytes}
+use Rattle.fileformat.specs.File.{File, encode, decode, ValidFile}
+use Rattle.fileformat.specs.FileCalls.{setOf, writeInputs, fileOf}
+
+-- `decode-encode`: a valid sheet with its releases, written and read back, is the same
+abbrev pub WrittenIsRead : Type 0
+WrittenIsRead = (x : File) → ValidFile x → decode (encode x) ≡ answered x
+
+-- `encode-decode`: an accepted file is rewritten byte for byte
+abbrev pub ReadIsWritten : Type 0
+ReadIsWritten = (f : List ℕ) (x : File) → Bytes f → decode f ≡ answered x → encode x ≡ f
+
+-- `decode-valid`: what is read is within document 01's limits
+abbrev pub ReadIsValid : Type 0
+ReadIsValid = (f : List ℕ) (x : File) → decode f ≡ answered x → ValidFile x
+
+-- the bytes that decide a read: 32 tasks, 1,024 releases and one more record
+abbrev pub decidingBytes : ℕ
+decidingBytes = 10801
+
+-- `decode-first`: so many of the first bytes decide what a file answers
+abbrev pub FirstBytesDecide : Type 0
+FirstBytesDecide = (n : ℕ) (f : List ℕ) → decidingBytes ≤ n → decode (take n f) ≡ decode f
+
+-- `written-valid`, `written-read`: a write that is not refused writes a valid file, which is read again
+abbrev pub WriteIsValid : Type 0
+WriteIsValid =
+    (s : TaskSet) (n : ℕ) (task tick cost : List ℕ) (room : ℕ) → none ≡ refusalOf (writeInputs (viewOf s) n task tick cost room)
+    → ValidFile (fileOf s n task tick cost)
+
+abbrev pub WriteIsRead : Type 0
+WriteIsRead =
+    (s : TaskSet) (n : ℕ) (task tick cost : List ℕ) (room : ℕ) → none ≡ refusalOf (writeInputs (viewOf s) n task tick cost room)
+    → decode (encode (fileOf s n task tick cost)) ≡ answered (fileOf s n task tick cost)
+
+-- a column that holds a number of each release of a file, and then what it held past them
+abbrev pub filled : (Release → ℕ) → File → List ℕ → List ℕ
+filled g x held = map g (x .releases) ++ held
+
+-- `read-passes`: what a read gives passes the checks of a call with a list
+abbrev pub ReadPasses : Type 0
+ReadPasses =
+    (f : List ℕ) (x : File) (a b c : List ℕ) → decode f ≡ answered x
+    → none ≡ refusalOf (listInputs (viewOf (setOf (x .tasks))) (length (x .releases)) (filled (λ r. r .task) x a) (filled (λ r. r .tick) x b) (filled (λ r. r .cost) x c))
+
+-- `read-written`: what a read gives, written again, is the accepted file
+abbrev pub ReadWrites : Type 0
+ReadWrites =
+    (f : List ℕ) (x : File) (a b c : List ℕ) → Bytes f → decode f ≡ answered x
+    → encode (fileOf (setOf (x .tasks)) (length (x .releases)) (filled (λ r. r .task) x a) (filled (λ r. r .tick) x b) (filled (λ r. r .cost) x c)) ≡ f
