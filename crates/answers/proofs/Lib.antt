@@ -1,4 +1,4 @@
--- Laws: what follows from the definitions, and why.
+-- Laws of the printed answers: what the programs hand from call to call. From the ground up.
 pub mod AcceptedCallLaws
 pub mod AnswerColumnLaws
 pub mod AnswerLaws

@@ -1,2 +1,3 @@
+-- What each program prints for the bytes of a file.
 pub mod Answers
 pub mod Listed

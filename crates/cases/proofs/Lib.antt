@@ -1,2 +1,2 @@
--- Laws: what follows from the definitions, and why.
+-- Laws that the proofs of this crate's functions use.
 pub mod CaseLaws

@@ -1,11 +1,11 @@
--- Laws: what follows from the definitions, and why.
+-- Laws of the choice: one walk over q finds the least K. From the ground up.
 pub mod ChoiceCallLaws
 pub mod ChoiceStepLaws
+pub mod VerdictOfKeepLaws
+pub mod WorstPeakLaws
 pub mod ChoiceWalkLaws
+pub mod NextChoiceLaws
 pub mod ChoosingLaws
 pub mod CopyLaws
 pub mod LeastLaws
-pub mod NextChoiceLaws
-pub mod VerdictOfKeepLaws
 pub mod WindowFromLaws
-pub mod WorstPeakLaws

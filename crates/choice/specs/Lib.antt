@@ -1,2 +1,2 @@
--- Laws of the choice of kept jitters: one walk over q finds the least K.
+-- The choice of kept jitters: what the functions of this crate take and answer.
 pub mod Choices

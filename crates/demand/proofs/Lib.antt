@@ -1,4 +1,4 @@
--- Laws: what follows from the definitions, and why.
+-- Laws of arrival counts, of the demand and of the search for W(q). From the ground up.
 pub mod ArrivalCountLaws
 pub mod DemandLaws
 pub mod FlatColumnLaws

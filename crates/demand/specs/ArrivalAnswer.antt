@@ -1,4 +1,4 @@
--- What the answers of this crate's calls mean.
+-- What an answer of the call "arrival count" means.
 use Prim.Native.Nat.{ℕ}
 use Rattle.model.specs.Refusal.{Answer, refused, answered}
 use Rattle.demand.specs.declared.ArrivalAnswer.{ArrivalAnswer}

@@ -1,4 +1,4 @@
--- Arrival counts, demand and W(q): what the calls of this crate answer, and laws.
+-- Arrival counts, demand and W(q): what the functions of this crate take and answer.
 pub mod Columns
 pub mod ArrivalAnswer
 pub mod Searching

@@ -1,8 +1,7 @@
--- Laws of the demand, and of the search for W(q) by a rising list.
+-- The search for W(q) by a rising list: what holds at its head.
 use Prim.Native.Nat.{ℕ, _-_, _≤_, _<_}
 use Rattle.model.specs.Tasks.{Tasks}
 use Rattle.model.specs.Demand.{demand}
-use Prim.Native.Nat.{ℕ, _≤_, _<_}
 
 -- every number of ticks from 1 to below t is too short: the demand in it is not met
 abbrev pub TooShort : Tasks → (ℕ → ℕ) → ℕ → ℕ → ℕ → Type 0

@@ -1,16 +1,14 @@
 -- Laws of the two calls together: what is written is read again, and what is read passes the checks of the calls on values.
 use Prim.Native.Nat.{ℕ, _-_, _≤_, _<_}
 use mathlib.Core.Path.{_≡_, refl, sym, ap, ap₂, _∙_}
-use mathlib.Core.Option.{none}
 use mathlib.Core.List.{List, [], _∷_, _++_, map}
 use native.Mathlib.Omega.{arith}
 use lib.ListN.{length, getD, replicate, length-map, length-append, List·getD-append, List·getD-map}
 use lib.Seq.{take-at, ext-getD}
 use Rattle.model.specs.Limits.{maxTasks}
 use Rattle.model.specs.Tasks.{Release, noRelease, Valid}
-use Rattle.model.specs.Refusal.{answered}
-use Rattle.model.specs.Checks.{checkReleases, refusalOf}
-use Rattle.model.specs.Calls.{releasesOf, listInputs}
+use Rattle.model.specs.Checks.{checkReleases}
+use Rattle.model.specs.Calls.{releasesOf}
 use Rattle.model.proofs.SeriesLaws.{le-by}
 use Rattle.model.proofs.CheckLaws.{valid-of, valid-passes, count-few, count-of, slots-next, slots-none}
 use Rattle.model.proofs.OrderLaws.{accepted-of, accepts, no-single, no-kept, no-unfit}
@@ -18,9 +16,8 @@ use Rattle.releases.proofs.ReleaseLaws.{length-releases, release-at}
 use Rattle.taskset.specs.declared.Task.{Task}
 use Rattle.taskset.specs.declared.TaskSet.{TaskSet}
 use Rattle.taskset.specs.TaskSet.{noTask, viewOf}
-use Rattle.fileformat.specs.Numbers.{Bytes}
-use Rattle.fileformat.specs.File.{File, sheetOf, encode, decode, ValidFile}
-use Rattle.fileformat.specs.FileCalls.{tasksIn, setOf, writeInputs, fileOf}
+use Rattle.fileformat.specs.File.{sheetOf, encode}
+use Rattle.fileformat.specs.FileCalls.{tasksIn, setOf, fileOf}
 use Rattle.fileformat.specs.RoundTrips.{WriteIsValid, WriteIsRead, ReadPasses, ReadWrites}
 use Rattle.fileformat.proofs.SheetLaws.{Agree, same-sheet, valid-agrees, releases-agree}
 use Rattle.fileformat.proofs.RoundTrips.{decode-encode, encode-decode, decode-valid}

@@ -1,16 +1,9 @@
 -- The calls: where one answers with a verdict or a run, demand 3 holds of it; where one answers with a choice, the choice is safe.
-use Prim.Native.Nat.{ℕ}
-use mathlib.Core.Path.{_≡_, sym}
-use mathlib.Core.Option.{none}
-use mathlib.Core.List.{List}
-use Rattle.model.specs.Tasks.{Tasks}
-use Rattle.model.specs.Legality.{firstClose}
-use Rattle.model.specs.Verdict.{Verdict, verdict}
+use mathlib.Core.Path.{sym}
+use Rattle.model.specs.Verdict.{verdict}
 use Rattle.model.specs.Choice.{column, choice}
-use Rattle.model.specs.Claims.{Missed, Demand3}
 use Rattle.model.specs.Refusal.{answered}
-use Rattle.model.specs.Checks.{refusalOf}
-use Rattle.model.specs.Calls.{releasesOf, taskInputs, verdictCall, choiceInputs, runInputs}
+use Rattle.model.specs.Calls.{releasesOf, taskInputs, verdictCall}
 use Rattle.model.proofs.CheckLaws.{valid-of, kept-of, task-of, chosen-of}
 use Rattle.model.proofs.OrderLaws.{accepted-of, answered-of}
 use Rattle.model.proofs.TraceLaws.{trace-of, ticks-of}

@@ -3,11 +3,11 @@ use Prim.Native.Nat.{ℕ, _<_}
 use mathlib.Core.Path.{_≡_}
 use mathlib.Core.List.{List}
 use lib.ListN.{getD}
-use lib.IntN.{ℤ, pos}
-use Rattle.model.specs.Tasks.{Tasks, Release, Valid}
+use lib.IntN.{pos}
+use Rattle.model.specs.Tasks.{Release}
 use Rattle.model.specs.Gap.{Legal}
 use Rattle.model.specs.Verdict.{fits, verdict}
-use Rattle.model.specs.Choice.{column, chosen, choice}
+use Rattle.model.specs.Choice.{column, choice}
 use Rattle.model.specs.Claims.{Trace, OnTime}
 use Rattle.response.proofs.ChoiceLaws.{choice-keeps, choice-fits, choice-least}
 use Rattle.guarantee.proofs.Demand3.{demand3}

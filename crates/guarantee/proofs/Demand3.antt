@@ -1,8 +1,8 @@
 -- Demand 3: limit and share hold in the run of every trace, a verdict of "fits" is kept by every trace, and one of "late" is shown by a trace.
-use Prim.Native.Nat.{ℕ, _+_, _*_, _≤_, _<_}
+use Prim.Native.Nat.{ℕ}
 use mathlib.Core.List.{List}
 use Rattle.model.specs.Processor.{plain}
-use Rattle.model.specs.Tasks.{Tasks, Release, Valid}
+use Rattle.model.specs.Tasks.{Release}
 use Rattle.model.specs.Gap.{Legal}
 use Rattle.model.specs.Claims.{Trace, Missed, Demand3}
 use Rattle.response.specs.VerdictSays.{Walked, Missing}

@@ -1,6 +1,5 @@
 -- "late": the verdict's late q is one of document 01's processor, and a job that is not finished D ticks after its release is late.
 use Prim.Native.Nat.{ℕ, suc, _+_, _-_, _*_, _≤_, _<_}
-use mathlib.Core.Path.{_≡_}
 use native.Mathlib.Omega.{arith}
 use Rattle.model.specs.Limits.{maxTick}
 use Rattle.model.specs.Processor.{plain}

@@ -1,10 +1,10 @@
--- Demand 3 and what follows from it, proved.
-pub mod OnProcessor
+-- Demand 3 and what follows from it, proved. From the ground up.
 pub mod PlainRun
-pub mod LimitShareOfRun
 pub mod FitsOfVerdict
 pub mod LateOfVerdict
+pub mod LimitShareOfRun
+pub mod OnProcessor
 pub mod Demand3
-pub mod RunBounds
 pub mod ChoiceSafe
 pub mod AnsweredCalls
+pub mod RunBounds

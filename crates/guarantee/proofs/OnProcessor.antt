@@ -1,10 +1,5 @@
 -- Demand 3 on any processor, for every pickup, load and supply.
-use Prim.Native.Nat.{ℕ, _≤_, _<_}
 use native.Mathlib.Omega.{arith}
-use Rattle.model.specs.Processor.{Processor}
-use Rattle.model.specs.Tasks.{Tasks}
-use Rattle.processor.specs.ProcessorDemand.{Regular}
-use Rattle.processor.specs.ProcessorClaims.{DemandOn}
 use Rattle.guarantee.specs.OnProcessor.{DemandOnHolds}
 use Rattle.processor.proofs.LimitShareOnProcessor.{limit-on, share-on}
 use Rattle.processor.proofs.FitsOnProcessor.{fits-on}

@@ -1,14 +1,9 @@
--- The bounds of demand 3, written out.
-use Prim.Native.Nat.{ℕ, suc, _+_, _-_, _*_, _≤_, _<_}
-use mathlib.Core.Path.{_≡_}
-use mathlib.Core.List.{List}
+-- The bounds of demand 3 in numbers.
+use Prim.Native.Nat.{ℕ, suc, _+_, _-_, _≤_, _<_}
 use native.Mathlib.Omega.{arith}
 use lib.ListN.{length}
 use Rattle.model.specs.Processor.{plain}
-use Rattle.model.specs.Tasks.{Tasks, Release, releaseAt, load, Valid}
-use Rattle.model.specs.Arrival.{arrivals}
 use Rattle.model.specs.Demand.{aboveLoad}
-use Rattle.model.specs.Claims.{Trace, Finished, used, leftOver, isTask, isAbove}
 use Rattle.model.proofs.SeriesLaws.{most-ge}
 use Rattle.response.specs.VerdictSays.{Walked}
 use Rattle.processor.proofs.PlainDemand.{regular}

@@ -1,8 +1,8 @@
--- Laws of the general definitions, and the twelve sums.
+-- Laws of the definitions: searches, sums and tables, checks and their order, traces; the twelve sums proved. From the ground up.
 pub mod SearchLaws
-pub mod SeriesLaws
-pub mod TableLaws
 pub mod CheckLaws
 pub mod OrderLaws
-pub mod TraceLaws
+pub mod SeriesLaws
 pub mod Sums
+pub mod TableLaws
+pub mod TraceLaws

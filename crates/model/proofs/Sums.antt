@@ -1,4 +1,4 @@
--- Document 01's twelve sums: one statement about one table.
+-- Document 01's twelve sums hold.
 use Prim.Native.Nat.{ℕ, zero, suc, _+_, _-_, _*_, _/_, _≤_, _<_}
 use mathlib.Core.Path.{_≡_, refl}
 use mathlib.Core.Bool.{true, false}

@@ -1,4 +1,4 @@
--- Document 01's twelve sums: one statement about one table.
+-- Document 01's twelve sums as one table, and what it means that they hold; proofs/Sums.antt proves it (`sums`).
 use Prim.Native.Nat.{ℕ, _-_}
 use mathlib.Core.Path.{_≡_}
 use mathlib.Core.Option.{some}

@@ -12,7 +12,7 @@ use Rattle.model.specs.Tasks.{Tasks, Release}
 use Rattle.model.specs.Refusal.{Refusal, Answer, refused, answered, firstOf}
 use Rattle.model.specs.Checks.{Lent, Inputs, refuseAt, refuseIf, checkRanges, checkTasks, checkTask, checkCount, checkSlots, checkKept, releaseFault, checkReleases, checkChoice, refusalOf, answerOf}
 use Rattle.model.proofs.CheckLaws.{slots-short, slots-next, slots-none, slots-first, slots-rest}
-use Rattle.nolkrada.specs.Interface.{afterSlots, tooFew, orTooFew, withSlots}
+use Rattle.nolkrada.specs.Interface.{afterSlots, tooFew, withSlots}
 use Rattle.nolkrada.proofs.InterfaceLaws.{with-enough, with-few, kept-before, few-before}
 
 -- the inputs of a call to which one more slice is lent, the last of its slices

@@ -1,6 +1,6 @@
--- Laws: what follows from the definitions, and why.
-pub mod AnswerOrderLaws
-pub mod FileLaws
+-- Laws of the C interface: order of checks, what stands in the lent slices afterwards. From the ground up.
 pub mod InterfaceLaws
+pub mod AnswerOrderLaws
 pub mod ReadLaws
+pub mod FileLaws
 pub mod WriteEndLaws

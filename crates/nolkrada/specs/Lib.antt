@@ -1,2 +1,3 @@
+-- The C interface: numbers and words for sheets, answers and files.
 pub mod Interface
 pub mod Files

@@ -1,8 +1,8 @@
--- Laws: what follows from the definitions, and why.
+-- Runs of a list on any processor: demand, limit, share and fits; a bound of every finish. From the ground up.
+pub mod SamePlace
 pub mod FinishBound
-pub mod FitsOnProcessor
 pub mod JobLaws
+pub mod FitsOnProcessor
 pub mod LimitShareOnProcessor
 pub mod PlainDemand
 pub mod ProcessorDemandLaws
-pub mod SamePlace

@@ -1,4 +1,4 @@
--- What the mathematics leaves open of a processor: pickup, load and supply.
+-- Document 01's processor is regular: pickup 0, load E, every tick ours; its demand and supply are document 01's.
 use Prim.Native.Nat.{ℕ, zero, suc}
 use mathlib.Core.Path.{_≡_, refl}
 use native.Mathlib.Omega.{arith}

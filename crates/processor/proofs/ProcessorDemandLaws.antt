@@ -1,5 +1,5 @@
 -- Demand and supply on any processor: the demand rises with q and t, a larger q is met later, and demands met one after the other are met together.
-use Prim.Native.Nat.{ℕ, zero, suc, _+_, _-_, _*_, _≤_, _<_}
+use Prim.Native.Nat.{ℕ, zero, suc, _+_, _-_, _≤_, _<_}
 use mathlib.Core.Path.{_≡_}
 use native.Mathlib.Omega.{arith}
 use native.Mathlib.Nat.{add-suc, add-assoc, add-zero, mul-le-mul-right}

@@ -1,2 +1,3 @@
+-- The lines that the programs print.
 pub mod Report
 pub mod PutLine

@@ -1,4 +1,4 @@
--- Laws of written lines.
+-- What it means that a line was written.
 use Prim.Native.Nat.{ℕ, _+_, _≤_}
 use mathlib.Core.Path.{_≡_}
 use mathlib.Core.List.{List}

@@ -1,2 +1,2 @@
--- Laws of the response-time analysis.
+-- What a verdict says of its walk over q.
 pub mod VerdictSays

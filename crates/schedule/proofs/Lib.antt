@@ -1,7 +1,7 @@
 -- Laws of the run: its searches, the job that runs in a tick, the state from tick to tick, the columns, and the call.
-pub mod SearchedLaws
 pub mod RunningLaws
-pub mod TickLaws
 pub mod AgreeLaws
-pub mod RunCallLaws
+pub mod SearchedLaws
+pub mod TickLaws
 pub mod FinishFillLaws
+pub mod RunCallLaws

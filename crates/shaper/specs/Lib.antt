@@ -1,3 +1,3 @@
--- The state of the shaper; laws of the gap, of ready ticks, of a task's history and of the state.
+-- The state of the shaper, and document 01's ready ticks in words.
 pub mod Shaper
 pub mod ReadyTicks

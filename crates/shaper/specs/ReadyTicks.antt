@@ -1,4 +1,4 @@
--- Laws of ready ticks: the least ticks that keep every gap, their closed form, and what a longer list adds.
+-- Ready ticks in the words of document 01. `ready-is` and `ready-only` (proofs/ReadyLaws.antt): the computed list meets this, and no other list does.
 use Prim.Native.Nat.{ℕ, _+_, _-_, _≤_, _<_}
 use mathlib.Core.Path.{_≡_}
 use mathlib.Core.List.{List}

@@ -1,12 +1,12 @@
--- Laws: what follows from the definitions, and why.
+-- Laws of a run of any jobs, on any ticks of ours: what runs, what is left, when jobs finish; limit, share, fits and late over jobs. From the ground up.
+pub mod RunLaws
+pub mod WorkLaws
+pub mod FinishLaws
+pub mod PlaceLaws
+pub mod LoadLaws
+pub mod UptoLaws
+pub mod FitsOfJobs
 pub mod EndLaws
 pub mod Facts
-pub mod FinishLaws
-pub mod FitsOfJobs
 pub mod LateOfJobs
 pub mod LimitOfJobs
-pub mod LoadLaws
-pub mod PlaceLaws
-pub mod RunLaws
-pub mod UptoLaws
-pub mod WorkLaws

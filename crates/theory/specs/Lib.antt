@@ -1,2 +1,2 @@
--- Laws of the run, of windows of ticks and of the demand in them, over any jobs.
+-- Windows of ticks in a run of any jobs: what is used, left over and asked for in them.
 pub mod Windows

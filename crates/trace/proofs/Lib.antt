@@ -1,10 +1,10 @@
--- Laws of the shapers along a list of releases, of the two loops over it, and of the checks of a call with kept jitters and a list.
-pub mod StandingLaws
-pub mod CloseLaws
-pub mod LegalCheck
-pub mod CloseWalkLaws
-pub mod LegalLaws
-pub mod ListCallLaws
+-- Laws of a list by positions, of its ready ticks and of the trace check. From the ground up.
 pub mod PositionLaws
 pub mod ReadyAtLaws
+pub mod StandingLaws
+pub mod CloseWalkLaws
+pub mod CloseLaws
+pub mod LegalCheck
+pub mod LegalLaws
+pub mod ListCallLaws
 pub mod ReadyFillLaws

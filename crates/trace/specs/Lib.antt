@@ -1,3 +1,3 @@
--- Laws of a list of releases by positions.
+-- The calls with a list: what they look at, and the shapers of the tasks.
 pub mod Standing
 pub mod TraceCalls

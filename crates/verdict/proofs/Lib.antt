@@ -1,9 +1,9 @@
--- Laws: what follows from the definitions, and why.
+-- Laws of the walk over q and of the response bound in signed numbers. From the ground up.
+pub mod VerdictWalk
 pub mod BestLaws
+pub mod SignedLaws
 pub mod PastStop
 pub mod ResponseLaws
 pub mod SameVerdict
-pub mod SignedLaws
-pub mod VerdictWalk
 pub mod VerdictWalkLaws
 pub mod WalkableLaws

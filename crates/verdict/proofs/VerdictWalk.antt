@@ -1,4 +1,4 @@
--- What the walk over q needs of its task, and what it knows on the way.
+-- What the walk over q knows on the way.
 use Prim.Native.Nat.{ℕ, zero, suc, _+_, _*_, _≤_, _<_}
 use mathlib.Core.Path.{_≡_}
 use lib.IntN.{ℤ, pos}

@@ -1,3 +1,3 @@
--- The verdict of one task: what the call answers, and the laws of its walk.
+-- The verdict of one task: what its call answers, and what its walk takes.
 pub mod Walking
 pub mod VerdictAnswer

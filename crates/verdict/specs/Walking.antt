@@ -1,12 +1,10 @@
--- The best value so far is the peak.
-use Prim.Native.Nat.{ℕ, _≤_}
+-- What the walk over q needs of its task, and the best value so far.
+use Prim.Native.Nat.{ℕ, _≤_, _+_, _*_, _<_}
 use mathlib.Core.Path.{_≡_}
 use mathlib.Core.Bool.{cond}
 use lib.Dec.{ltb}
 use lib.IntN.{pos}
 use Rattle.verdict.specs.declared.Best.{Best}
-use Prim.Native.Nat.{ℕ, _+_, _*_, _≤_, _<_}
-use mathlib.Core.Path.{_≡_}
 use mathlib.Core.List.{List}
 use lib.ListN.{length}
 use Rattle.model.specs.Limits.{maxTime, horizonTick}

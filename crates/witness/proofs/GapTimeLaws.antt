@@ -1,4 +1,4 @@
--- Releases of one task, the x-th of them d_S(x) ticks after a base tick.
+-- Releases at gap times: legal, and ready where the window asks for them.
 use Prim.Native.Nat.{ℕ, _+_, _-_, _≤_, _<_}
 use mathlib.Core.Path.{_≡_}
 use native.Mathlib.Omega.{arith}

@@ -1,18 +1,14 @@
 -- On any processor: where R(q) > D there is a list in whose run a job of the task is late.
-use Prim.Native.Nat.{ℕ, suc, _+_, _-_, _*_, _/_, _≤_, _<_}
+use Prim.Native.Nat.{ℕ, _+_, _-_, _*_, _/_, _≤_, _<_}
 use mathlib.Core.Path.{_≡_}
 use mathlib.Core.Logic.{dite}
 use native.Mathlib.Omega.{arith}
 use native.Mathlib.Decide.{decLe}
 use borrow.Author.Tests.{le-leb, lt-leb}
 use native.Mathlib.Nat.{lt-div-mul-add, div-mul-le-self}
-use Rattle.model.specs.Processor.{Processor}
-use Rattle.model.specs.Tasks.{Tasks}
 use Rattle.model.specs.Gap.{gap}
 use Rattle.shaper.proofs.GapLaws.{gap-le}
 use Rattle.trace.proofs.PositionLaws.{Held}
-use Rattle.processor.specs.ProcessorDemand.{Regular}
-use Rattle.processor.specs.ProcessorClaims.{LateOn, MissedOn}
 use Rattle.witness.specs.LateList.{leadOf, leadIn, baseOf, firstOf, lateList, LateShown}
 use Rattle.witness.proofs.ScenarioLaws.{scenario-trace, scenario-legal, scenario-ticks, last-job, last-release}
 use Rattle.witness.proofs.LateRun.{not-finished}

@@ -1,6 +1,6 @@
--- Laws: what follows from the definitions, and why.
+-- Why the late list is a trace, legal, and late. From the ground up.
 pub mod GapTimeLaws
-pub mod LateLaw
-pub mod LateRun
 pub mod MergeLaws
 pub mod ScenarioLaws
+pub mod LateRun
+pub mod LateLaw

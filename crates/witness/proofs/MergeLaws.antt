@@ -1,4 +1,4 @@
--- The releases of several tasks in one list: task by task and in each task's order, each is put in by its tick.
+-- Laws of the merged list: in order of ticks, each task with its own releases.
 use Prim.Native.Nat.{ℕ, zero, suc, _+_, _≤_, _<_}
 use mathlib.Core.Path.{_≡_, refl, sym, ap, _∙_}
 use mathlib.Core.Bool.{Bool, true, false}

@@ -1,5 +1,4 @@
--- The list of releases in which a job of task i is late. From a tick `base` on each task above brings as many jobs as its kept jitter lets through in w ticks;
--- from a tick `first` on task i has its jobs 0 .. last as close as its jitter allows. No processor is needed to say this.
+-- Laws of the late list: a trace, all legal, with ready ticks as the window asks for.
 use Prim.Native.Nat.{ℕ, suc, _+_, _*_, _≤_, _<_}
 use mathlib.Core.Path.{_≡_, refl, sym, ap, _∙_}
 use mathlib.Core.List.{List, []}
