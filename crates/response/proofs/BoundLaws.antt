@@ -13,10 +13,11 @@ use Rattle.model.specs.Bound.{maxZ, minZ, offset, bound}
 use Rattle.model.specs.Tasks.{Tasks}
 use Rattle.model.specs.Verdict.{boundOf, isLate}
 
-sub-ge : (a b : ℕ) → b ≤ a → subℕ a b ≡ pos (a - b)
+-- a difference of natural numbers, by its sign
+pub sub-ge : (a b : ℕ) → b ≤ a → subℕ a b ≡ pos (a - b)
 sub-ge a b h = rw (le-ltb a b h)
 
-sub-lt : (a b : ℕ) → a < b → subℕ a b ≡ negsuc (b - suc a)
+pub sub-lt : (a b : ℕ) → a < b → subℕ a b ≡ negsuc (b - suc a)
 sub-lt a b h = rw (lt-ltb a b h)
 
 -- a difference of two natural numbers

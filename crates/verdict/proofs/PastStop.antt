@@ -15,10 +15,9 @@ use Rattle.model.specs.Bound.{bound}
 use Rattle.model.specs.Verdict.{boundOf}
 use Rattle.model.proofs.SeriesLaws.{le-by}
 use Rattle.response.proofs.LoadSums.{loads-add}
-use Rattle.response.proofs.BoundLaws.{bound-up, bound-down}
+use Rattle.response.proofs.BoundLaws.{bound-up, bound-down, sub-ge, sub-lt}
 use Rattle.response.proofs.WindowLaws.{Window}
 use Rattle.demand.proofs.DemandLaws.{Periodic}
-use Rattle.verdict.proofs.SignedLaws.{sub-ge, sub-lt}
 
 module _ (s : Tasks) (k : ℕ → ℕ) (i : ℕ) (p : Periodic s i) where
   -- the tasks above bring no more in t + u ticks than in t and in u

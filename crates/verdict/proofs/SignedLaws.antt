@@ -5,13 +5,12 @@ use mathlib.Core.Logic.{dite}
 use native.Mathlib.Omega.{arith}
 use native.Mathlib.Nat.{mul-le-mul}
 use native.Mathlib.Decide.{decLe}
-use borrow.Author.Tests.{lt-ltb, le-ltb}
 use lib.IntN.{ℤ, pos, negsuc, subℕ, _+ℤ_, _-ℤ_, _*ℤ_, negℤ, +ℤ-assoc, negℤ-+ℤ, pos-+ℤ-pos, pos-*ℤ-pos}
 use lib.Signed.{mag}
 use mir.Syntax.{w64}
 use mir.Val.{toZ, ofZ}
 use mir.ValLaws.{toZ-pos, toZ-ofZ}
-use Rattle.response.proofs.BoundLaws.{minus}
+use Rattle.response.proofs.BoundLaws.{minus, sub-ge, sub-lt}
 
 -- what is read back of an integer that fits is the integer
 pub back : (z : ℤ) → mag z < 9223372036854775808 → toZ w64 (ofZ w64 z) ≡ z
@@ -20,13 +19,6 @@ back z h = toZ-ofZ w64 z (record { sfits = h })
 -- a natural number that fits
 pub plain : (n : ℕ) → n < 9223372036854775808 → toZ w64 n ≡ pos n
 plain n h = toZ-pos w64 n h
-
--- a difference by its sign
-pub sub-ge : (a b : ℕ) → b ≤ a → subℕ a b ≡ pos (a - b)
-sub-ge a b h = rw (le-ltb a b h)
-
-pub sub-lt : (a b : ℕ) → a < b → subℕ a b ≡ negsuc (b - suc a)
-sub-lt a b h = rw (lt-ltb a b h)
 
 -- a difference of numbers that fit fits
 sub-mag : (a b : ℕ) → a < 9223372036854775808 → b ≤ 9223372036854775808 → mag (subℕ a b) < 9223372036854775808
