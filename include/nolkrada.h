@@ -2,8 +2,8 @@
  * Nolkrada for C: kept jitters and verdicts for a fixed-priority sheet.
  *
  * Build the archive with `rt staticlib exports` and link target/staticlib/libexports.a (x86-64 Linux). Of the C library the archive
- * calls memcpy and memset alone; it allocates nothing and keeps no state, so any number of threads may call it. A read takes some
- * 27 kilobytes of stack, any other call below 8.
+ * calls memcpy and memset alone; it allocates nothing and keeps no state, so any number of threads may call it. A call takes less
+ * than 8 kilobytes of stack, a read some 2.
  *
  * WHAT A CALL RETURNS
  *   0 where it answered. Otherwise a refusal, number * 2^32 + place; nolkrada_number and nolkrada_place take it apart.

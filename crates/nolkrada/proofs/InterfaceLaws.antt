@@ -1,6 +1,6 @@
 -- Laws of codes, lent words and sheets passed as numbers.
-use Prim.Native.Nat.{ℕ, _+_, _≤_, _<_}
-use mathlib.Core.Path.{_≡_, refl, sym, ap, _∙_}
+use Prim.Native.Nat.{ℕ, suc, _+_, _-_, _≤_, _<_, min}
+use mathlib.Core.Path.{_≡_, refl, sym, ap, ap₂, _∙_}
 use mathlib.Core.Bool.{true, false}
 use mathlib.Core.Option.{some}
 use mathlib.Core.List.{List, [], _∷_, _++_}
@@ -8,42 +8,48 @@ use native.Mathlib.Omega.{arith}
 use native.Mathlib.Numerals.{add-one}
 use borrow.Author.Tests.{lt-ltb, le-ltb, le-leb, lt-leb, eq-eqb, ne-eqb}
 use lib.Dec.{eqb}
-use lib.ListN.{length, take, drop, set, length-set}
-use lib.Seq.{take-suc-set, take-all}
+use lib.ListN.{length, take, drop, set, replicate, length-set, take-append-drop}
+use lib.Seq.{take-suc-set, drop-set-lt, drop-drop}
 use Rattle.model.specs.Series.{table}
 use Rattle.model.specs.Refusal.{Refusal, Answer, refused, answered}
 use Rattle.taskset.specs.declared.Task.{Task}
 use Rattle.taskset.specs.declared.TaskSet.{TaskSet}
+use Rattle.taskset.specs.TaskSet.{noTask}
 use Rattle.nolkrada.specs.Interface.{taskAt, sheetFrom, refusalCode, codeOf, codeIn, wordsAfter, asWords, afterSlots, tooFew, orTooFew, withSlots, Ends}
 
--- the first i of 32 entries are those of the numbers
-pub record Entries (l : List ℕ) (tasks : List Task) (i : ℕ) : Type 0 where
+-- of 32 entries the first i are those of the numbers, the others 0
+pub record Entries (l : List ℕ) (used : ℕ) (tasks : List Task) (i : ℕ) : Type 0 where
   pub long : length tasks ≡ 32
-  pub within : i ≤ 32
+  pub few : used ≤ 32
+  pub within : i ≤ used
   pub front : take i tasks ≡ table (taskAt l) i
+  pub padded : drop i tasks ≡ replicate (32 - i) noTask
 
-pub entries-none : (l : List ℕ) (tasks : List Task) → length tasks ≡ 32 → Entries l tasks 0
+pub entries-none : (l : List ℕ) (used : ℕ) (tasks : List Task) → used ≤ 32 → tasks ≡ replicate 32 noTask → Entries l used tasks 0
 unfolding table
-entries-none l tasks h = record { long = h; within = omega arith; front = refl }
+entries-none l used tasks h e = record { long = ap length e; few = h; within = omega arith; front = refl; padded = e }
 
-pub entries-next
-    : (l : List ℕ) (tasks : List Task) (i : ℕ) (t : Task)
-    → Entries l tasks i
-    → i < 32
-    → t ≡ taskAt l i
-    → Entries l (set tasks i t) (i + 1)
+pub entries-next : (l : List ℕ) (used : ℕ) (tasks : List Task) (i : ℕ) (t : Task) → Entries l used tasks i → i < used → t ≡ taskAt l i → Entries l used (set tasks i t) (i + 1)
 unfolding table
-entries-next l tasks i t f h e = record {
-  long = simp length-set (f .long);
-  within = omega arith;
-  front = rw (add-one, take-suc-set tasks i t (omega (arith, f .long)), f .front, e);
-}
+entries-next l used tasks i t f h e =
+    let k : 32 - i ≡ suc (32 - (i + 1)) = omega arith in
+    record {
+      long = simp length-set (f .long);
+      few = f .few;
+      within = omega arith;
+      front = rw (add-one, take-suc-set tasks i t (omega (arith, f .long)), f .front, e);
+      padded =
+          drop-set-lt (i + 1) tasks i t (omega arith) ∙ sym (drop-drop 1 i tasks)
+          ∙ ap (drop 1) (f .padded ∙ ap (λ n. replicate n noTask) k);
+    }
 
-pub entries-all : (l : List ℕ) (tasks : List Task) (i : ℕ) → Entries l tasks i → 32 ≤ i → tasks ≡ table (taskAt l) 32
-entries-all l tasks i f h = let e : i ≡ 32 = omega arith in sym (take-all 32 tasks (omega (arith, f .long))) ∙ (rw e at (f .front))
-
-pub entries-sheet : (l : List ℕ) (tasks : List Task) (i n : ℕ) → Entries l tasks i → 32 ≤ i → _≡_ {A = TaskSet} (record { tasks = tasks; count = n }) (sheetFrom l n)
-entries-sheet l tasks i n f h = ap (λ (ts : List Task). record { tasks = ts; count = n }) (entries-all l tasks i f h)
+pub entries-sheet : (l : List ℕ) (n used : ℕ) (tasks : List Task) (i : ℕ) → Entries l used tasks i → used ≡ min n 32 → used ≤ i → _≡_ {A = TaskSet} (record { tasks = tasks; count = n }) (sheetFrom l n)
+entries-sheet l n used tasks i f u h =
+    let e : i ≡ min n 32 = omega (arith, f .within) in
+    let k : 32 - i ≡ 32 - n = omega arith in
+    ap (λ (ts : List Task). record { tasks = ts; count = n })
+    (sym (take-append-drop i tasks)
+    ∙ ap₂ _++_ (f .front ∙ ap (table (taskAt l)) e) (f .padded ∙ ap (λ m. replicate m noTask) k))
 
 -- where the slots are enough, the call without them answers
 pub with-enough : {A : Type 0} (n slots : ℕ) (a : Answer A) → n ≤ slots → withSlots n slots a ≡ a

@@ -1,10 +1,10 @@
 -- The C interface: a sheet passed as numbers, refusals as codes, answers as words in a lent slice.
-use Prim.Native.Nat.{ℕ, _+_, _*_, _%_}
+use Prim.Native.Nat.{ℕ, _+_, _-_, _*_, _%_, min}
 use mathlib.Core.Path.{_≡_}
 use mathlib.Core.Bool.{Bool, true, false, _&&_, _||_}
 use mathlib.Core.Option.{Option, some, none}
 use mathlib.Core.List.{List, [], _∷_, _++_}
-use lib.ListN.{length, getD, drop}
+use lib.ListN.{length, getD, drop, replicate}
 use lib.Dec.{leb, ltb, eqb}
 use lib.IntN.{natAbs}
 use Rattle.model.specs.Series.{table}
@@ -12,14 +12,15 @@ use Rattle.model.specs.Verdict.{Verdict, horizon, late, fits}
 use Rattle.model.specs.Refusal.{Refusal, Answer, refused, answered}
 use Rattle.taskset.specs.declared.Task.{Task}
 use Rattle.taskset.specs.declared.TaskSet.{TaskSet}
+use Rattle.taskset.specs.TaskSet.{noTask}
 
 -- the entry of task i in a sheet passed as numbers: P, J, E and D of task 0, then of task 1, ..; numbers past the end count as 0
 unfoldable pub taskAt : List ℕ → ℕ → Task
 taskAt l i = record { period = getD l (4 * i) 0; jitter = getD l (4 * i + 1) 0; cost = getD l (4 * i + 2) 0; deadline = getD l (4 * i + 3) 0 }
 
--- the sheet of such numbers and a count
+-- the sheet of such numbers and a count: entries past the count are 0
 abbrev pub sheetFrom : List ℕ → ℕ → TaskSet
-sheetFrom l n = record { tasks = table (taskAt l) 32; count = n }
+sheetFrom l n = record { tasks = table (taskAt l) (min n 32) ++ replicate (32 - n) noTask; count = n }
 
 -- a refusal as one number: number · 2^32 + place
 unfoldable pub refusalCode : ℕ → ℕ → ℕ

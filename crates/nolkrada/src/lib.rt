@@ -1,7 +1,7 @@
 // The calls for C: numbers and slices in, a code back. A slice is passed as a pointer and a length.
 // Every call returns 0 where it answered, else number · 2^32 + place of its refusal, and a refusal leaves every lent slot as it was.
 ghost use mathlib.Core.Path.{_≡_};
-ghost use Prim.Native.Nat.{_+_, _≤_, _<_};
+ghost use Prim.Native.Nat.{_+_, _≤_, _<_, min};
 ghost use mathlib.Core.Option.{some};
 ghost use mathlib.Core.List.{[], _∷_, _++_};
 ghost use lib.ListN.{length, getD, drop};
@@ -78,7 +78,17 @@ fn task_at(sheet: &[u32], i: usize) -> Task
     }
 }
 
-// The sheet of numbers and a count.
+// How many entries of a sheet a count uses: at most all 32.
+fn entries_used(count: u32) -> usize
+    ensures { λ r. ⌜ r ≡ min count 32 ⌝ }
+{
+    if count < 32 {
+        return count as usize;
+    }
+    32
+}
+
+// The sheet of numbers and a count. Entries past the count are 0.
 fn sheet_from(sheet: &[u32], count: u32) -> TaskSet
     ensures { λ r. ⌜ r ≡ sheetFrom (now (sheet .entry)) count ⌝ }
 {
@@ -89,8 +99,9 @@ fn sheet_from(sheet: &[u32], count: u32) -> TaskSet
         deadline: 0,
     };
     let mut tasks = [none; 32];
+    let used = entries_used(count);
     let mut i = 0;
-    while i < 32 {
+    while i < used {
         let t = task_at(sheet, i);
         tasks[i] = t;
         i += 1;

@@ -1,3 +1,3 @@
 -- Laws of the scan of a file.
-pub mod ReadColumnLaws
 pub mod ScanLaws
+pub mod ReadColumnLaws

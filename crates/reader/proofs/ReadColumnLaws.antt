@@ -1,26 +1,27 @@
 -- Laws of the columns that a read writes, and of its answer.
-use Prim.Native.Nat.{ℕ, _+_, _≤_, _<_}
+use Prim.Native.Nat.{ℕ, _+_, _*_, _≤_, _<_}
 use mathlib.Core.Path.{_≡_, refl, sym, ap, ap₂, _∙_}
 use mathlib.Core.Option.{some, none}
 use mathlib.Core.List.{List, [], _∷_, _++_, map}
 use native.Mathlib.Omega.{arith}
 use native.Mathlib.Numerals.{add-one}
 use lib.ListN.{length, getD, take, drop, set, length-set, length-map, take-append-drop, List·getD-map}
-use lib.Seq.{take-suc, take-suc-set, take-length, drop-set-lt, drop-drop, getD-take, length-take-le}
-use Rattle.model.specs.Limits.{maxReleases}
-use Rattle.model.specs.Tasks.{Release}
+use lib.Seq.{take-suc, take-suc-set, take-length, drop-set-lt, drop-drop}
+use Rattle.model.specs.Tasks.{Release, noRelease}
 use Rattle.model.specs.Refusal.{Refusal, refuse, refused, answered}
-use Rattle.model.specs.Checks.{checkSlots}
+use Rattle.model.specs.Checks.{Lent, checkSlots}
 use Rattle.model.specs.Calls.{lends, columnAfter}
+use Rattle.model.proofs.TableLaws.{getD-table}
 use Rattle.reader.specs.declared.Job.{Job}
-use Rattle.reader.specs.declared.Jobs.{Jobs}
 use Rattle.reader.specs.declared.Scanned.{Scanned}
 use Rattle.reader.specs.declared.ReadOutcome.the-variants.{Read, Refused as Halted}
 use Rattle.taskset.specs.declared.TaskSet.{TaskSet}
 use Rattle.taskset.specs.declared.Checked.the-variants.{Fine, Refused}
+use Rattle.fileformat.specs.Records.{releaseFrom}
 use Rattle.fileformat.specs.File.{File, decode}
-use Rattle.fileformat.specs.FileCalls.{tasksIn, setOf, readCall, readCount, readSheet, readColumn}
-use Rattle.reader.specs.Reader.{releaseOf, releasesIn, listed, answerWith, ScanSays, ReadSays}
+use Rattle.fileformat.specs.FileCalls.{setOf, readCall, readCount, readSheet, readColumn}
+use Rattle.reader.specs.Reader.{releaseOf, releasesAt, Listed, answerWith, fileIn, ScanSays, ReadSays}
+use Rattle.reader.proofs.ScanLaws.{length-releases}
 
 -- a column of which the first i slots are written
 pub record Copied (vals held now : List ℕ) (i : ℕ) : Type 0 where
@@ -49,43 +50,49 @@ module _ (vals held now : List ℕ) (i : ℕ) (c : Copied vals held now i) where
       let e : i ≡ length vals = omega arith in
       sym (take-append-drop i now) ∙ ap₂ _++_ (c .front ∙ ap (λ n. take n vals) e ∙ take-length vals) (c .kept ∙ ap (λ n. drop n held) e)
 
--- the members of a list's column
-module _ (l : Jobs) (g : Release → ℕ) (h : l .count ≤ length (l .jobs)) where
-  pub length-column : length (map g (releasesIn l)) ≡ l .count
-  unfolding releasesIn
-  length-column = simp length-map (length-take-le (l .count) (l .jobs) h)
+-- a column of the releases from an offset on
+module _ (f : List ℕ) (start count : ℕ) (g : Release → ℕ) where
+  abbrev column : List ℕ
+  column = map g (releasesAt f start count)
 
-  pub column-at : (i : ℕ) (d : Job) → i < l .count → g (releaseOf (getD (l .jobs) i d)) ≡ getD (map g (releasesIn l)) i (g (releaseOf d))
-  unfolding releasesIn
-  column-at i d k =
-      sym
-      (List·getD-map g (map releaseOf (take (l .count) (l .jobs))) i (releaseOf d)
-      ∙ ap g (List·getD-map releaseOf (take (l .count) (l .jobs)) i d ∙ ap releaseOf (getD-take (l .count) (l .jobs) i d k)))
+  length-column : length column ≡ count
+  length-column = simp length-map (length-releases f start count)
 
-abbrev noJob : Job
-noJob = record { task = 0; tick = 0; cost = 0 }
+  column-at : (i : ℕ) → i < count → g (releaseFrom (drop (start + 10 * i + 1) f)) ≡ getD column i (g noRelease)
+  unfolding releasesAt
+  column-at i h = sym (List·getD-map g (releasesAt f start count) i noRelease ∙ ap g (getD-table _ noRelease count i h))
 
--- the three columns of a list, of which the first i slots are written
-pub record Putting (l : Jobs) (task₀ tick₀ cost₀ : List ℕ) (count : ℕ) (task tick cost : List ℕ) (i : ℕ) : Type 0 where
-  pub same : count ≡ l .count
-  pub within : i ≤ l .count
-  pub few : l .count ≤ maxReleases
-  pub jobs-long : l .count ≤ length (l .jobs)
-  pub task-long : l .count ≤ length task
-  pub tick-long : l .count ≤ length tick
-  pub cost-long : l .count ≤ length cost
-  pub task-copied : Copied (map (λ r. r .task) (releasesIn l)) task₀ task i
-  pub tick-copied : Copied (map (λ r. r .tick) (releasesIn l)) tick₀ tick i
-  pub cost-copied : Copied (map (λ r. r .cost) (releasesIn l)) cost₀ cost i
+  column-next
+      : (held now : List ℕ) (i : ℕ) (r : Release)
+      → Copied column held now i
+      → i < count
+      → count ≤ length now
+      → r ≡ releaseFrom (drop (start + 10 * i + 1) f)
+      → g noRelease ≡ 0
+      → Copied column held (set now i (g r)) (i + 1)
+  column-next held now i r c h k e z =
+      copied-next _ _ _ i c _ (omega (arith, length-column)) (omega arith) (ap g e ∙ column-at i h ∙ ap (getD column i) z)
 
-module _ (l : Jobs) (task₀ tick₀ cost₀ : List ℕ) where
-  pub putting-none : l .count ≤ maxReleases → l .count ≤ length (l .jobs) → l .count ≤ length task₀ → l .count ≤ length tick₀ → l .count ≤ length cost₀ → Putting l task₀ tick₀ cost₀ (l .count) task₀ tick₀ cost₀ 0
-  putting-none f j a b c =
+  column-all : (held now : List ℕ) (i : ℕ) → Copied column held now i → count ≤ i → i ≤ count → now ≡ columnAfter none column held
+  column-all held now i c h k = copied-all _ _ _ i c (omega (arith, length-column)) (omega (arith, length-column))
+
+-- the three columns, of which the first i slots are written
+pub record Putting (f : List ℕ) (start count : ℕ) (task₀ tick₀ cost₀ task tick cost : List ℕ) (i : ℕ) : Type 0 where
+  pub in-file : start + 10 * count ≤ length f
+  pub within : i ≤ count
+  pub task-long : count ≤ length task
+  pub tick-long : count ≤ length tick
+  pub cost-long : count ≤ length cost
+  pub task-copied : Copied (map (λ r. r .task) (releasesAt f start count)) task₀ task i
+  pub tick-copied : Copied (map (λ r. r .tick) (releasesAt f start count)) tick₀ tick i
+  pub cost-copied : Copied (map (λ r. r .cost) (releasesAt f start count)) cost₀ cost i
+
+module _ (f : List ℕ) (start count : ℕ) (task₀ tick₀ cost₀ : List ℕ) where
+  pub putting-none : start + 10 * count ≤ length f → count ≤ length task₀ → count ≤ length tick₀ → count ≤ length cost₀ → Putting f start count task₀ tick₀ cost₀ task₀ tick₀ cost₀ 0
+  putting-none h a b c =
       record {
-        same = refl;
+        in-file = h;
         within = omega arith;
-        few = f;
-        jobs-long = j;
         task-long = a;
         tick-long = b;
         cost-long = c;
@@ -94,40 +101,27 @@ module _ (l : Jobs) (task₀ tick₀ cost₀ : List ℕ) where
         cost-copied = copied-none _ _;
       }
 
-  module _ (count : ℕ) (task tick cost : List ℕ) (i : ℕ) (p : Putting l task₀ tick₀ cost₀ count task tick cost i) where
-    pub putting-next : i < count → Putting l task₀ tick₀ cost₀ count (set task i (getD (l .jobs) i noJob .task)) (set tick i (getD (l .jobs) i noJob .tick)) (set cost i (getD (l .jobs) i noJob .cost)) (i + 1)
-    putting-next h =
-        let k : i < l .count = omega (arith, p .same) in
+  module _ (task tick cost : List ℕ) (i : ℕ) (p : Putting f start count task₀ tick₀ cost₀ task tick cost i) where
+    pub putting-next : (j : Job) → i < count → releaseOf j ≡ releaseFrom (drop (start + 10 * i + 1) f) → Putting f start count task₀ tick₀ cost₀ (set task i (j .task)) (set tick i (j .tick)) (set cost i (j .cost)) (i + 1)
+    putting-next j h e =
         record {
-          same = p .same;
+          in-file = p .in-file;
           within = omega arith;
-          few = p .few;
-          jobs-long = p .jobs-long;
           task-long = simp length-set (p .task-long);
           tick-long = simp length-set (p .tick-long);
           cost-long = simp length-set (p .cost-long);
-          task-copied =
-              copied-next _ _ _ i (p .task-copied) _ (omega (arith, length-column l (λ r. r .task) (p .jobs-long))) (omega (arith, p .task-long))
-              (column-at l (λ r. r .task) (p .jobs-long) i noJob k);
-          tick-copied =
-              copied-next _ _ _ i (p .tick-copied) _ (omega (arith, length-column l (λ r. r .tick) (p .jobs-long))) (omega (arith, p .tick-long))
-              (column-at l (λ r. r .tick) (p .jobs-long) i noJob k);
-          cost-copied =
-              copied-next _ _ _ i (p .cost-copied) _ (omega (arith, length-column l (λ r. r .cost) (p .jobs-long))) (omega (arith, p .cost-long))
-              (column-at l (λ r. r .cost) (p .jobs-long) i noJob k);
+          task-copied = column-next f start count (λ r. r .task) task₀ task i (releaseOf j) (p .task-copied) h (p .task-long) e refl;
+          tick-copied = column-next f start count (λ r. r .tick) tick₀ tick i (releaseOf j) (p .tick-copied) h (p .tick-long) e refl;
+          cost-copied = column-next f start count (λ r. r .cost) cost₀ cost i (releaseOf j) (p .cost-copied) h (p .cost-long) e refl;
         }
 
-    whole : (g : Release → ℕ) (held now : List ℕ) → count ≤ i → Copied (map g (releasesIn l)) held now i → now ≡ listed g l held
-    unfolding listed
-    whole g held now h c =
-        copied-all _ _ _ i c (omega (arith, length-column l g (p .jobs-long), p .same)) (omega (arith, length-column l g (p .jobs-long), p .within))
-
-    pub putting-all : count ≤ i → (task ≡ listed (λ r. r .task) l task₀) × (tick ≡ listed (λ r. r .tick) l tick₀) × (cost ≡ listed (λ r. r .cost) l cost₀)
-    putting-all h = (whole _ _ _ h (p .task-copied), whole _ _ _ h (p .tick-copied), whole _ _ _ h (p .cost-copied))
-
--- a scan's count of releases is within its array
-pub count-in : (f : List ℕ) (r : Scanned) → ScanSays f r → r .jobs .count ≤ length (r .jobs .jobs)
-count-in f r h = omega (arith, h .few, h .long)
+    pub putting-all : count ≤ i → Listed (releasesAt f start count) task₀ tick₀ cost₀ task tick cost
+    putting-all h =
+        record {
+          task-column = column-all f start count _ _ _ i (p .task-copied) h (p .within);
+          tick-column = column-all f start count _ _ _ i (p .tick-copied) h (p .within);
+          cost-column = column-all f start count _ _ _ i (p .cost-copied) h (p .within);
+        }
 
 -- the answer of a read: the file's own refusal, then 13, else what the file holds
 module _ (f task tick cost : List ℕ) where
@@ -155,33 +149,39 @@ module _ (f task tick cost : List ℕ) where
         cost-column = ap (λ a. readColumn (λ y. y .cost) a cost) e;
       }
 
-  module _ (r : Scanned) (h : ScanSays f r) where
-    abbrev held : File
-    held = record { tasks = tasksIn (r .tasks); releases = releasesIn (r .jobs) }
+  -- the columns by the number of slots that are needed
+  abbrev pub slots : ℕ → List Lent
+  slots k = lends k task ∷ lends k tick ∷ lends k cost ∷ []
 
-    length-in : r .jobs .count ≡ length (releasesIn (r .jobs))
-    length-in = sym (simp length-map at (length-column (r .jobs) (λ y. y .task) (count-in f r h)))
+  module _ (r : Scanned) (h : ScanSays f r) where
+    length-in : r .releases ≡ length (fileIn f r .releases)
+    length-in = sym (length-releases f (17 * r .tasks .count) (r .releases))
+
+    found : r .answer ≡ Fine → answered (fileIn f r) ≡ decode f
+    found e = ap (answerWith (fileIn f r)) (sym e) ∙ h .answer
 
     pub reads-refused : (n p : ℕ) → r .answer ≡ Refused n p → ReadSays f task tick cost (record { outcome = Halted n p; tasks = r .tasks }) task tick cost
     unfolding readSheet
     reads-refused n p e =
-        let d : refused (record { number = n; place = p }) ≡ decode f = ap (answerWith held) (sym e) ∙ h .answer in
+        let d : refused (record { number = n; place = p }) ≡ decode f = ap (answerWith (fileIn f r)) (sym e) ∙ h .answer in
         says-refused n p (r .tasks) (h .sheet ∙ ap readSheet (sym d)) (call-refused _ d)
 
-    pub reads-short : (n p : ℕ) (s : TaskSet) → r .answer ≡ Fine → s ≡ setOf [] → refuse n p ≡ checkSlots (lends (r .jobs .count) task ∷ lends (r .jobs .count) tick ∷ lends (r .jobs .count) cost ∷ []) → ReadSays f task tick cost (record { outcome = Halted n p; tasks = s }) task tick cost
-    reads-short n p s e z g =
-        says-refused n p s z
-        (call-short held _ (ap (answerWith held) (sym e) ∙ h .answer) (g ∙ ap (λ k. checkSlots (lends k task ∷ lends k tick ∷ lends k cost ∷ [])) length-in))
+    pub reads-short : (n p : ℕ) (s : TaskSet) → r .answer ≡ Fine → s ≡ setOf [] → refuse n p ≡ checkSlots (slots (r .releases)) → ReadSays f task tick cost (record { outcome = Halted n p; tasks = s }) task tick cost
+    reads-short n p s e z g = says-refused n p s z (call-short (fileIn f r) _ (found e) (g ∙ ap (λ k. checkSlots (slots k)) length-in))
 
-    pub reads-fine : (task′ tick′ cost′ : List ℕ) → r .answer ≡ Fine → none ≡ checkSlots (lends (r .jobs .count) task ∷ lends (r .jobs .count) tick ∷ lends (r .jobs .count) cost ∷ []) → (task′ ≡ listed (λ y. y .task) (r .jobs) task) × (tick′ ≡ listed (λ y. y .tick) (r .jobs) tick) × (cost′ ≡ listed (λ y. y .cost) (r .jobs) cost) → ReadSays f task tick cost (record { outcome = Read (r .jobs .count); tasks = r .tasks }) task′ tick′ cost′
-    unfolding readCount readSheet readColumn listed
+    pub reads-fine
+        : (task′ tick′ cost′ : List ℕ)
+        → r .answer ≡ Fine
+        → none ≡ checkSlots (slots (r .releases))
+        → Listed (fileIn f r .releases) task tick cost task′ tick′ cost′
+        → ReadSays f task tick cost (record { outcome = Read (r .releases); tasks = r .tasks }) task′ tick′ cost′
+    unfolding readCount readSheet readColumn
     reads-fine task′ tick′ cost′ e g c =
-        let d : answered held ≡ decode f = ap (answerWith held) (sym e) ∙ h .answer in
-        let a : answered held ≡ readCall f task tick cost = call-fine held d (g ∙ ap (λ k. checkSlots (lends k task ∷ lends k tick ∷ lends k cost ∷ [])) length-in) in
+        let a : answered (fileIn f r) ≡ readCall f task tick cost = call-fine (fileIn f r) (found e) (g ∙ ap (λ k. checkSlots (slots k)) length-in) in
         record {
           outcome = ap answered length-in ∙ ap readCount a;
-          sheet = h .sheet ∙ ap readSheet (sym d) ∙ ap readSheet a;
-          task-column = c .0 ∙ ap (λ b. readColumn (λ y. y .task) b task) a;
-          tick-column = c .1 ∙ ap (λ b. readColumn (λ y. y .tick) b tick) a;
-          cost-column = c .2 ∙ ap (λ b. readColumn (λ y. y .cost) b cost) a;
+          sheet = h .sheet ∙ ap readSheet (sym (found e)) ∙ ap readSheet a;
+          task-column = c .task-column ∙ ap (λ b. readColumn (λ y. y .task) b task) a;
+          tick-column = c .tick-column ∙ ap (λ b. readColumn (λ y. y .tick) b tick) a;
+          cost-column = c .cost-column ∙ ap (λ b. readColumn (λ y. y .cost) b cost) a;
         }

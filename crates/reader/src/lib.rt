@@ -4,27 +4,22 @@ use taskset::Task;
 use taskset::TaskSet;
 ghost use mathlib.Core.Path.{_≡_};
 ghost use mathlib.Core.List.{[]};
-ghost use Prim.Native.Nat.{_≤_, _<_, _+_};
+ghost use Prim.Native.Nat.{_≤_, _<_, _+_, _*_};
 ghost use lib.ListN.{length, drop};
-ghost use Rattle.taskset.specs.TaskSet.{viewOf, refusalIn};
+ghost use Rattle.model.specs.Tasks.{Tasks};
+ghost use Rattle.taskset.specs.TaskSet.{refusalIn};
 ghost use Rattle.releases.specs.Releases.{faultAt};
 ghost use Rattle.fileformat.specs.Numbers.{field};
 ghost use Rattle.fileformat.specs.Records.{taskFrom, releaseFrom, recordOf};
 ghost use Rattle.fileformat.specs.File.{taskFault, listFault};
 ghost use Rattle.fileformat.specs.FileCalls.{setOf};
-ghost use Rattle.reader.specs.Reader.{releaseOf, recordIn, listed, ScanSays, Refuses, ReadSays};
+ghost use Rattle.reader.specs.Reader.{releaseOf, recordIn, releasesAt, Listed, ScanSays, Refuses, ReadSays};
 
 // A release as it stands in a file.
 pub struct Job {
     pub task: u32,
     pub tick: u32,
     pub cost: u32,
-}
-
-// A list of releases: a count and 1,024 entries.
-pub struct Jobs {
-    pub jobs: [Job; 1024],
-    pub count: usize,
 }
 
 // The record at an offset, or what is wrong with it.
@@ -35,11 +30,11 @@ pub enum Found {
     End,
 }
 
-// What the scan of a whole file gives: a refusal and nothing, or the tasks and the releases.
+// What the scan of a whole file gives: a refusal and no task, or the tasks and the number of releases.
 pub struct Scanned {
     pub answer: Checked,
     pub tasks: TaskSet,
-    pub jobs: Jobs,
+    pub releases: usize,
 }
 
 fn wide(b: u8) -> u32
@@ -147,18 +142,11 @@ fn check_task(tasks: usize, releases: usize, at: usize, t: Task) -> Checked
     Checked::Fine
 }
 
-// What is wrong with a release record after so many releases: 5, 7, 8, 9 or 10, with the offset given.
-fn check_job(s: TaskSet, releases: usize, at: usize, before: u32, j: Job) -> Checked
-    requires { ⌜ s .count ≤ 32 ⌝ }
-    ensures { λ r. ⌜ refusalIn r ≡ faultAt at (listFault (viewOf s) releases before (releaseOf j)) ⌝ }
+// What is wrong with a release record of a task whose cost is `most`, after so many releases: 8, 9 or 10, with the offset given.
+fn check_job(releases: usize, at: usize, before: u32, most: u32, j: Job) -> Checked
+    ensures { λ r. ⌜ ((s : Tasks) → j .task < s .count → s .cost (j .task) ≡ most → refusalIn r ≡ faultAt at (listFault s releases before (releaseOf j))) ⌝ }
 {
-    if s.count == 0 {
-        return Checked::Refused {
-            number: 5,
-            place: at,
-        };
-    }
-    let k = releases::check_release(s, at, before, j.task, j.tick, j.cost);
+    let k = releases::check_release(at, before, most, j.tick, j.cost);
     let Checked::Fine = k else {
         return k;
     };
@@ -187,43 +175,27 @@ fn no_tasks() -> TaskSet
     }
 }
 
-// No releases.
-fn no_jobs() -> Jobs
-    ensures { λ r. ⌜ (r .count ≡ 0) × (length (r .jobs) ≡ 1024) ⌝ }
-{
-    let j = Job {
-        task: 0,
-        tick: 0,
-        cost: 0,
-    };
-    Jobs {
-        jobs: [j; 1024],
-        count: 0,
-    }
-}
-
 // A refusal of the scan.
 fn refused(number: u32, place: usize) -> Scanned
     ensures { λ r. ⌜ Refuses number place r ⌝ }
 {
     let tasks = no_tasks();
-    let jobs = no_jobs();
     Scanned {
         answer: Checked::Refused {
             number: number,
             place: place,
         },
         tasks: tasks,
-        jobs: jobs,
+        releases: 0,
     }
 }
 
-// The whole file, record by record.
+// The whole file, record by record. The releases are checked and counted.
 fn scan(f: &[u8]) -> Scanned
     ensures { λ r. ⌜ ScanSays (now (f .entry)) r ⌝ }
 {
     let mut tasks = no_tasks();
-    let mut jobs = no_jobs();
+    let mut releases = 0;
     let mut before = 0;
     let mut at = 0;
     loop {
@@ -232,7 +204,7 @@ fn scan(f: &[u8]) -> Scanned
             Found::Broken { number } => return refused(number, at),
             Found::OfTask { task } => {
                 let n = tasks.count;
-                let k = check_task(n, jobs.count, at, task);
+                let k = check_task(n, releases, at, task);
                 if let Checked::Refused { number, place } = k {
                     return refused(number, place);
                 }
@@ -241,13 +213,19 @@ fn scan(f: &[u8]) -> Scanned
                 at += 17;
             }
             Found::OfRelease { job } => {
-                let n = jobs.count;
-                let k = check_job(tasks, n, at, before, job);
+                if tasks.count == 0 {
+                    return refused(5, at);
+                }
+                let i = job.task as usize;
+                if tasks.count <= i {
+                    return refused(7, at);
+                }
+                let own = tasks.tasks[i];
+                let k = check_job(releases, at, before, own.cost, job);
                 if let Checked::Refused { number, place } = k {
                     return refused(number, place);
                 }
-                jobs.jobs[n] = job;
-                jobs.count = n + 1;
+                releases += 1;
                 before = job.tick;
                 at += 10;
             }
@@ -261,7 +239,7 @@ fn scan(f: &[u8]) -> Scanned
                 return Scanned {
                     answer: Checked::Fine,
                     tasks: tasks,
-                    jobs: jobs,
+                    releases: releases,
                 };
             }
         }
@@ -280,15 +258,24 @@ pub struct ReadAnswer {
     pub tasks: TaskSet,
 }
 
-// Writes a list of releases to three columns; slots past it keep what they held.
-fn put_columns(l: Jobs, task: &mut [u32], tick: &mut [u32], cost: &mut [u32])
-    requires { ⌜ (l .count ≤ 1024) × (l .count ≤ length (l .jobs)) × (l .count ≤ length (now task)) × (l .count ≤ length (now tick)) × (l .count ≤ length (now cost)) ⌝ }
-    ensures { λ _. ⌜ (now (task .exit) ≡ listed (λ r. r .task) l (now (task .entry))) × (now (tick .exit) ≡ listed (λ r. r .tick) l (now (tick .entry))) × (now (cost .exit) ≡ listed (λ r. r .cost) l (now (cost .entry))) ⌝ }
+// Writes to three columns the releases whose records stand one after another from an offset on; slots past them keep what they held.
+fn put_columns(
+    f: &[u8],
+    start: usize,
+    count: usize,
+    task: &mut [u32],
+    tick: &mut [u32],
+    cost: &mut [u32],
+)
+    requires { ⌜ (start + 10 * count ≤ length (now f)) × (count ≤ length (now task)) × (count ≤ length (now tick)) × (count ≤ length (now cost)) ⌝ }
+    ensures { λ _. ⌜
+        Listed (releasesAt (now (f .entry)) start count) (now (task .entry)) (now (tick .entry)) (now (cost .entry))
+        (now (task .exit)) (now (tick .exit)) (now (cost .exit))
+        ⌝ }
 {
-    let count = l.count;
     let mut i = 0;
     while i < count {
-        let j = l.jobs[i];
+        let j = job_at(f, start + 10 * i + 1);
         task[i] = j.task;
         tick[i] = j.tick;
         cost[i] = j.cost;
@@ -303,7 +290,6 @@ pub fn read(f: &[u8], task: &mut [u32], tick: &mut [u32], cost: &mut [u32]) -> R
     let s = scan(f);
     let answer = s.answer;
     let tasks = s.tasks;
-    let jobs = s.jobs;
     if let Checked::Refused { number, place } = answer {
         return ReadAnswer {
             outcome: ReadOutcome::Refused {
@@ -313,7 +299,7 @@ pub fn read(f: &[u8], task: &mut [u32], tick: &mut [u32], cost: &mut [u32]) -> R
             tasks: tasks,
         };
     }
-    let count = jobs.count;
+    let count = s.releases;
     let room = releases::check_columns(count, task, tick, cost);
     if let Checked::Refused { number, place } = room {
         let none = no_tasks();
@@ -325,7 +311,7 @@ pub fn read(f: &[u8], task: &mut [u32], tick: &mut [u32], cost: &mut [u32]) -> R
             tasks: none,
         };
     }
-    put_columns(jobs, task, tick, cost);
+    put_columns(f, 17 * tasks.count, count, task, tick, cost);
     ReadAnswer {
         outcome: ReadOutcome::Read { releases: count },
         tasks: tasks,

@@ -8,7 +8,7 @@ use native.Mathlib.Numerals.{add-one}
 use lib.ListN.{length, getD, drop}
 use lib.Seq.{drop-length}
 use Rattle.model.specs.Limits.{maxReleases, maxTick}
-use Rattle.model.specs.Tasks.{Tasks, releaseAt, noRelease, Valid}
+use Rattle.model.specs.Tasks.{Tasks, Release, releaseAt, noRelease, Valid}
 use Rattle.model.specs.Refusal.{Refusal, refuse}
 use Rattle.model.specs.Checks.{checkTasks, checkCount, checkSlots, releaseFault, checkReleases, refusalOf}
 use Rattle.model.specs.Calls.{lends, releasesOf, listInputs}
@@ -60,17 +60,21 @@ pub record Checking (s : Tasks) (n : ℕ) (task tick cost : List ℕ) (before i 
   pub rest : checkReleases s 0 0 (releasesOf n task tick cost) ≡ checkReleases s before i (drop i (releasesOf n task tick cost))
 
 module _ (s : Tasks) (n : ℕ) (task tick cost : List ℕ) where
+  -- the release at a place of the columns
+  abbrev pub placed : ℕ → Release
+  placed i = release (getD task i 0) (getD tick i 0) (getD cost i 0)
+
   pub checking-none : Checking s n task tick cost 0 0
   checking-none = record { within = omega arith; rest = refl }
 
-  pub checking-fault : (before i : ℕ) (q : Refusal) → Checking s n task tick cost before i → i < n → some q ≡ faultAt i (releaseFault s before (release (getD task i 0) (getD tick i 0) (getD cost i 0))) → some q ≡ checkReleases s 0 0 (releasesOf n task tick cost)
+  pub checking-fault : (before i : ℕ) (q : Refusal) → Checking s n task tick cost before i → i < n → some q ≡ faultAt i (releaseFault s before (placed i)) → some q ≡ checkReleases s 0 0 (releasesOf n task tick cost)
   checking-fault before i q c h e =
       let w = fault-of i _ q e in
       ap some (w .1)
       ∙ releases-fault s before i _ (drop (suc i) (releasesOf n task tick cost)) (q .number) (w .0)
       ∙ sym (c .rest ∙ ap (checkReleases s before i) (drop-releases n task tick cost i h))
 
-  pub checking-next : (before i : ℕ) → Checking s n task tick cost before i → i < n → none ≡ faultAt i (releaseFault s before (release (getD task i 0) (getD tick i 0) (getD cost i 0))) → Checking s n task tick cost (getD tick i 0) (i + 1)
+  pub checking-next : (before i : ℕ) → Checking s n task tick cost before i → i < n → none ≡ faultAt i (releaseFault s before (placed i)) → Checking s n task tick cost (getD tick i 0) (i + 1)
   checking-next before i c h e =
       record {
         within = omega arith;

@@ -2,7 +2,8 @@
 use taskset::Checked;
 use taskset::TaskSet;
 ghost use mathlib.Core.Path.{_≡_};
-ghost use Prim.Native.Nat.{_≤_};
+ghost use Prim.Native.Nat.{ℕ, _≤_, _<_};
+ghost use Rattle.model.specs.Tasks.{Tasks};
 ghost use mathlib.Core.Option.{some};
 ghost use mathlib.Core.List.{[], _∷_};
 ghost use lib.ListN.{length};
@@ -11,25 +12,10 @@ ghost use Rattle.model.specs.Calls.{lends, releasesOf, listInputs};
 ghost use Rattle.taskset.specs.TaskSet.{viewOf, refusalIn};
 ghost use Rattle.releases.specs.Releases.{faultAt, release};
 
-// One release, given the tick before it: 7, 8 or 9 with the place given, or nothing wrong.
-pub fn check_release(
-    s: TaskSet,
-    place: usize,
-    before: u32,
-    task: u32,
-    tick: u32,
-    cost: u32,
-) -> Checked
-    requires { ⌜ s .count ≤ 32 ⌝ }
-    ensures { λ r. ⌜ refusalIn r ≡ faultAt place (releaseFault (viewOf s) before (release task tick cost)) ⌝ }
+// One release of a task whose cost is `most`, given the tick before it: 8 or 9 with the place given, or nothing wrong.
+pub fn check_release(place: usize, before: u32, most: u32, tick: u32, cost: u32) -> Checked
+    ensures { λ r. ⌜ ((s : Tasks) (task : ℕ) → task < s .count → s .cost task ≡ most → refusalIn r ≡ faultAt place (releaseFault s before (release task tick cost))) ⌝ }
 {
-    let at = task as usize;
-    if s.count <= at {
-        return Checked::Refused {
-            number: 7,
-            place: place,
-        };
-    }
     if tick < before {
         return Checked::Refused {
             number: 8,
@@ -48,8 +34,7 @@ pub fn check_release(
             place: place,
         };
     }
-    let t = s.tasks[at];
-    if t.cost < cost {
+    if most < cost {
         return Checked::Refused {
             number: 9,
             place: place,
@@ -63,11 +48,20 @@ pub fn check_releases(s: TaskSet, count: usize, task: &[u32], tick: &[u32], cost
     requires { ⌜ (s .count ≤ 32) × (count ≤ length (now task)) × (count ≤ length (now tick)) × (count ≤ length (now cost)) ⌝ }
     ensures { λ r. ⌜ refusalIn r ≡ checkReleases (viewOf s) 0 0 (releasesOf count (now (task .entry)) (now (tick .entry)) (now (cost .entry))) ⌝ }
 {
+    let tasks = s.count;
     let mut before = 0;
     let mut i = 0;
     while i < count {
         let next = tick[i];
-        let k = check_release(s, i, before, task[i], next, cost[i]);
+        let at = task[i] as usize;
+        if tasks <= at {
+            return Checked::Refused {
+                number: 7,
+                place: i,
+            };
+        }
+        let t = s.tasks[at];
+        let k = check_release(i, before, t.cost, next, cost[i]);
         let Checked::Fine = k else {
             return k;
         };

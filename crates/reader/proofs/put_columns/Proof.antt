@@ -1,3 +1,4 @@
+-- The releases below i are written.
 use Prim.Native.Nat.{_-_}
 use native.Mathlib.Omega.{arith}
 use borrow.Author.Needs.{needs}
@@ -6,19 +7,27 @@ use Rattle.reader.proofs.put_columns.Statement.{statement}
 use Rattle.reader.proofs.put_columns.Tie as tie
 
 abbrev Inv-loop : tie.InvT-loop
-Inv-loop task₀ tick₀ cost₀ l count i₀ task tick cost i = Putting l task₀ tick₀ cost₀ count task tick cost i
+Inv-loop f start count task₀ tick₀ cost₀ i₀ task tick cost i = Putting f start count task₀ tick₀ cost₀ task tick cost i
 
 abbrev μ-loop : tie.MeasureT-loop
-μ-loop task₀ tick₀ cost₀ l count i₀ task tick cost i = count - i
+μ-loop f start count task₀ tick₀ cost₀ i₀ task tick cost i = count - i
 
 loop-holds : tie.Need-loop-holds Inv-loop μ-loop
-loop-holds c = putting-none _ _ _ _ (c .pre .0) (c .pre .1) (c .pre .2) (c .pre .3) (c .pre .4)
+loop-holds c =
+    let g = c .before .before .before .before .pre in
+    putting-none _ _ _ _ _ _ (g .0) (g .1) (g .2) (g .3)
 
-mul-j : tie.Need-mul-j Inv-loop μ-loop
-mul-j c = omega arith
+mul-job-at : tie.Need-mul-job-at Inv-loop μ-loop
+mul-job-at c = omega arith
 
-element-copy-out-j : tie.Need-element-copy-out-j Inv-loop μ-loop
-element-copy-out-j c = omega arith
+add-job-at : tie.Need-add-job-at Inv-loop μ-loop
+add-job-at c = omega arith
+
+add-job-at-2 : tie.Need-add-job-at-2 Inv-loop μ-loop
+add-job-at-2 c = omega arith
+
+job-at-requires : tie.Need-job-at-requires Inv-loop μ-loop
+job-at-requires c κs = omega arith
 
 mul-task : tie.Need-mul-task Inv-loop μ-loop
 mul-task c = omega arith
@@ -45,7 +54,7 @@ loop-less : tie.Need-loop-less Inv-loop μ-loop
 loop-less c = omega arith
 
 loop-again : tie.Need-loop-again Inv-loop μ-loop
-loop-again c = putting-next _ _ _ _ _ _ _ _ _ (c .before .before .loop .inv) (c .before .loop-test .taken)
+loop-again c = putting-next _ _ _ _ _ _ _ _ _ _ (c .before .before .loop .inv) _ (c .before .loop-test .taken) (c .job-at .ensures)
 
 same-length : tie.Need-same-length Inv-loop μ-loop
 same-length c = search needs
@@ -57,7 +66,7 @@ same-length-3 : tie.Need-same-length-3 Inv-loop μ-loop
 same-length-3 c = search needs
 
 returns : tie.Need-returns Inv-loop μ-loop
-returns c = putting-all _ _ _ _ _ _ _ _ _ (c .before .loop .inv) (c .loop-test .left)
+returns c = putting-all _ _ _ _ _ _ _ _ _ _ (c .before .loop .inv) (c .loop-test .left)
 
 pub put-columns-spec : {M : Type 1} → statement M
 put-columns-spec =
@@ -66,8 +75,10 @@ put-columns-spec =
     Inv-loop
     μ-loop
     loop-holds
-    mul-j
-    element-copy-out-j
+    mul-job-at
+    add-job-at
+    add-job-at-2
+    job-at-requires
     mul-task
     slice-write-task
     mul-tick

@@ -1,21 +1,26 @@
-use Prim.Native.Nat.{ℕ}
+-- A refusal of the scan, then 13, else the releases are written.
 use mathlib.Core.Path.{_≡_, sym, ap, _∙_}
 use mathlib.Core.Option.{none}
-use mathlib.Core.List.{List, [], _∷_}
-use Rattle.model.specs.Checks.{Lent, checkSlots}
-use Rattle.model.specs.Calls.{lends}
+use Rattle.model.specs.Checks.{checkSlots}
+use native.Mathlib.Omega.{arith}
 use Rattle.taskset.specs.TaskSet.{refusalIn}
 use Rattle.releases.proofs.ReleaseLaws.{columns-of}
-use Rattle.reader.proofs.ReadColumnLaws.{count-in, reads-refused, reads-short, reads-fine}
+use Rattle.reader.proofs.ReadColumnLaws.{slots, reads-refused, reads-short, reads-fine}
 use borrow.Author.Needs.{needs}
 use Rattle.reader.proofs.read.Statement.{statement}
 use Rattle.reader.proofs.read.Tie as tie
 
-abbrev columnsAt : tie.Start → ℕ → List Lent
-columnsAt c n = lends n (c .args .task .now) ∷ lends n (c .args .tick .now) ∷ lends n (c .args .cost .now) ∷ []
+abbrev start : tie.After-scan → tie.Start
+start c = c .before .before .before .before .before
+
+abbrev scanned : tie.After-enum-told → tie.After-scan
+scanned c = c .before .before .before
+
+abbrev passed : tie.After-enum-told2 → tie.After-enum-told
+passed c = c .before .before .before .before .before .before
 
 -- the columns passed their check
-columns-fine : (c : tie.After-enum-told2) → none ≡ checkSlots (columnsAt (c .before .before .before .before .before .before .before .before .before .before .before .before .before .before .before) (c .before .before .before .before .before .before .before .before .before .before .scan .result .jobs .count))
+columns-fine : (c : tie.After-enum-told2) → let s = scanned (passed c) in let a = start s .args in none ≡ checkSlots (slots (a .f .now) (a .task .now) (a .tick .now) (a .cost .now) (s .scan .result .releases))
 columns-fine c = sym (ap refusalIn (c .enum-told2 .given .1)) ∙ c .before .before .check-columns .ensures
 
 scan-requires : tie.Need-scan-requires
@@ -25,8 +30,7 @@ enum-known-answer : tie.Need-enum-known-answer
 enum-known-answer c = search needs
 
 returns : tie.Need-returns
-returns c =
-    reads-refused _ _ _ _ _ (c .before .before .before .before .before .scan .ensures) _ _ (c .before .answer .given .1)
+returns c = reads-refused _ _ _ _ _ (c .before .before .before .before .scan .ensures) _ _ (c .before .answer .given .1)
 
 enum-told : tie.Need-enum-told
 enum-told c = search needs
@@ -51,16 +55,26 @@ same-length-3 c = search needs
 
 returns-2 : tie.Need-returns-2
 returns-2 c =
-    reads-short _ _ _ _ _ (c .before .before .before .before .before .before .before .before .before .before .before .before .scan .ensures) _ _ _ (c .before .before .before .before .before .before .before .before .enum-told .given .1) (c .no-tasks .ensures)
+    let p = c .before .before .before .before .before .before .before .before in
+    reads-short _ _ _ _ _ (scanned p .scan .ensures) _ _ _ (p .enum-told .given .1) (c .no-tasks .ensures)
     (sym (ap refusalIn (c .before .before .room .given .1)) ∙ c .before .before .before .before .check-columns .ensures)
 
 enum-told-2 : tie.Need-enum-told-2
 enum-told-2 c = search needs
 
+mul-put-columns : tie.Need-mul-put-columns
+mul-put-columns c = omega (arith, scanned (passed (c .before)) .scan .ensures .within)
+
 put-columns-requires : tie.Need-put-columns-requires
 put-columns-requires c κs =
-    let long = columns-of (c .before .before .before .before .before .before .before .before .before .before .before .before .before .scan .result .jobs .count) (c .before .before .before .before .before .before .before .before .before .before .before .before .before .before .before .before .before .before .args .task .now) (c .before .before .before .before .before .before .before .before .before .before .before .before .before .before .before .before .before .before .args .tick .now) (c .before .before .before .before .before .before .before .before .before .before .before .before .before .before .before .before .before .before .args .cost .now) (columns-fine (c .before .before .before)) in
-    ((c .before .before .before .before .before .before .before .before .before .before .before .before .before .scan .ensures) .few, count-in _ _ (c .before .before .before .before .before .before .before .before .before .before .before .before .before .scan .ensures), long .task-long, long .tick-long, long .cost-long)
+    let e = c .before .before .before .before in
+    let s = scanned (passed e) in
+    let a = start s .args in
+    let long = columns-of (s .scan .result .releases) (a .task .now) (a .tick .now) (a .cost .now) (columns-fine e) in
+    let t = long .task-long in
+    let k = long .tick-long in
+    let c = long .cost-long in
+    (omega (arith, s .scan .ensures .within), omega (arith, t, k, c), omega (arith, t, k, c), omega (arith, t, k, c))
 
 same-length-4 : tie.Need-same-length-4
 same-length-4 c = search needs
@@ -73,7 +87,9 @@ same-length-6 c = search needs
 
 returns-3 : tie.Need-returns-3
 returns-3 c =
-    reads-fine _ _ _ _ _ (c .before .before .before .before .before .before .before .before .before .before .before .before .before .before .before .before .before .before .before .before .scan .ensures) _ _ _ (c .before .before .before .before .before .before .before .before .before .before .before .before .before .before .before .before .enum-told .given .1) (columns-fine (c .before .before .before .before .before .before .before .before .before .before)) (c .before .before .before .before .before .before .put-columns .ensures)
+    let put = c .before .before .before .before .before .before in
+    let e = put .before .before .before .before .before in
+    reads-fine _ _ _ _ _ (scanned (passed e) .scan .ensures) _ _ _ (passed e .enum-told .given .1) (columns-fine e) (put .put-columns .ensures)
 
 pub read-spec : {M : Type 1} → statement M
 read-spec =
@@ -91,6 +107,7 @@ read-spec =
     same-length-3
     returns-2
     enum-told-2
+    mul-put-columns
     put-columns-requires
     same-length-4
     same-length-5

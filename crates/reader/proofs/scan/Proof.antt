@@ -1,41 +1,49 @@
 use Prim.Native.Nat.{_-_}
-use mathlib.Core.Path.{refl, sym, ap, _∙_}
+use mathlib.Core.Path.{_≡_, refl, sym, ap, _∙_}
 use Rattle.taskset.specs.TaskSet.{refusalIn}
+use Rattle.fileformat.specs.Records.{recordOf}
+use Rattle.reader.specs.declared.Found.{Found}
 use Rattle.reader.specs.Reader.{recordIn}
 use native.Mathlib.Omega.{arith}
+use Rattle.model.proofs.TraceLaws.{fault-task}
+use Rattle.releases.proofs.ReleaseLaws.{faulty}
+use Rattle.fileformat.proofs.StepLaws.{list-early, list-fault}
 use borrow.Author.Needs.{needs}
-use lib.ListN.{length}
+use lib.ListN.{length, drop}
 use Rattle.reader.proofs.ScanLaws.{Scanning, scan-begins, scan-broken, scan-task-stops, scan-task-next, scan-job-stops, scan-job-next, scan-end-stops, scan-end-more, scan-says, scan-refuses}
 use Rattle.reader.proofs.scan.Statement.{statement}
 use Rattle.reader.proofs.scan.Tie as tie
 
 abbrev Inv-loop : tie.InvT-loop
-Inv-loop f tasks₀ jobs₀ before₀ at₀ tasks jobs before at = Scanning f tasks jobs before at
+Inv-loop f tasks₀ releases₀ before₀ at₀ tasks releases before at = Scanning f tasks releases before at
 
 abbrev μ-loop : tie.MeasureT-loop
-μ-loop f tasks₀ jobs₀ before₀ at₀ tasks jobs before at = length f - at
+μ-loop f tasks₀ releases₀ before₀ at₀ tasks releases before at = length f - at
+
+-- the record that was found stands here in the file
+there : (c : tie.After-record-at Inv-loop μ-loop) (q : Found) → c .record-at .result ≡ q → recordIn q ≡ recordOf (drop (c .before .loop .at) (c .before .before .before .before .args .f .now))
+there c q e = sym (ap recordIn e) ∙ c .record-at .ensures
 
 -- a task record that passes its check is taken
 next-task : tie.Need-loop-again Inv-loop μ-loop
 next-task c =
-    scan-task-next _ _ _ _ _ (c .before .before .before .before .before .before .before .loop .inv) _ (sym (ap recordIn (c .before .before .before .before .r2 .given .1)) ∙ c .before .before .before .before .before .before .record-at .ensures)
+    let r = c .before .before .before .before .before .before in
+    scan-task-next _ _ _ _ _ (r .before .loop .inv) _ (there r _ (c .before .before .before .before .r2 .given .1))
     (sym (ap refusalIn (c .enum-told .given .1)) ∙ c .before .before .check-task .ensures)
 
 -- and so is a release record
 next-job : tie.Need-loop-again-2 Inv-loop μ-loop
 next-job c =
-    scan-job-next _ _ _ _ _ (c .before .before .before .before .before .before .before .loop .inv) _ (sym (ap recordIn (c .before .before .before .before .r3 .given .1)) ∙ c .before .before .before .before .before .before .record-at .ensures)
-    (sym (ap refusalIn (c .enum-told2 .given .1)) ∙ c .before .before .check-job .ensures)
+    let j = c .before .before .before .before .before .before .before .before in
+    let r = j .before .before in
+    scan-job-next _ _ _ _ _ (r .before .loop .inv) _ (there r _ (j .r3 .given .1))
+    (sym (ap refusalIn (c .enum-told2 .given .1)) ∙ c .before .before .check-job .ensures _ (omega arith) refl)
 
 no-tasks-requires : tie.Need-no-tasks-requires Inv-loop μ-loop
 no-tasks-requires c κs = search needs
 
-no-jobs-requires : tie.Need-no-jobs-requires Inv-loop μ-loop
-no-jobs-requires c κs = search needs
-
 loop-holds : tie.Need-loop-holds Inv-loop μ-loop
-loop-holds c =
-    scan-begins _ _ _ (c .before .no-tasks .ensures) (c .no-jobs .ensures .0) (c .no-jobs .ensures .1)
+loop-holds c = scan-begins _ _ (c .no-tasks .ensures)
 
 record-at-requires : tie.Need-record-at-requires Inv-loop μ-loop
 record-at-requires c κs = search needs
@@ -48,7 +56,8 @@ refused-requires c κs = search needs
 
 returns : tie.Need-returns Inv-loop μ-loop
 returns c =
-    scan-refuses _ _ _ _ (c .refused .ensures) (scan-broken _ _ _ _ _ (c .before .before .before .before .before .loop .inv) _ (sym (ap recordIn (c .before .before .r .given .1)) ∙ c .before .before .before .before .record-at .ensures))
+    let r = c .before .before .before .before in
+    scan-refuses _ _ _ _ (c .refused .ensures) (scan-broken _ _ _ _ _ (r .before .loop .inv) _ (there r _ (c .before .before .r .given .1)))
 
 enum-known-r-2 : tie.Need-enum-known-r-2 Inv-loop μ-loop
 enum-known-r-2 c = search needs
@@ -64,8 +73,9 @@ refused-requires-2 c κs = search needs
 
 returns-2 : tie.Need-returns-2 Inv-loop μ-loop
 returns-2 c =
+    let r = c .before .before .before .before .before .before .before .before in
     scan-refuses _ _ _ _ (c .refused2 .ensures)
-    (scan-task-stops _ _ _ _ _ (c .before .before .before .before .before .before .before .before .before .loop .inv) _ _ (sym (ap recordIn (c .before .before .before .before .before .before .r2 .given .1)) ∙ c .before .before .before .before .before .before .before .before .record-at .ensures)
+    (scan-task-stops _ _ _ _ _ (r .before .loop .inv) _ _ (there r _ (c .before .before .before .before .before .before .r2 .given .1))
     (sym (ap refusalIn (c .before .before .k .given .1)) ∙ c .before .before .before .before .check-task .ensures))
 
 enum-told : tie.Need-enum-told Inv-loop μ-loop
@@ -92,38 +102,64 @@ loop-again c = next-task c
 enum-known-r-3 : tie.Need-enum-known-r-3 Inv-loop μ-loop
 enum-known-r-3 c = search needs
 
+refused-requires-3 : tie.Need-refused-requires-3 Inv-loop μ-loop
+refused-requires-3 c κs = search needs
+
+returns-3 : tie.Need-returns-3 Inv-loop μ-loop
+returns-3 c =
+    let j = c .before .before .before in
+    let r = j .before .before in
+    scan-refuses _ _ _ _ (c .refused3 .ensures)
+    (scan-job-stops _ _ _ _ _ (r .before .loop .inv) _ _ (there r _ (j .r3 .given .1)) (faulty _ 5 _ (list-early _ _ _ _ (omega arith))))
+
+cast-i : tie.Need-cast-i Inv-loop μ-loop
+cast-i c = omega arith
+
+refused-requires-4 : tie.Need-refused-requires-4 Inv-loop μ-loop
+refused-requires-4 c κs = search needs
+
+returns-4 : tie.Need-returns-4 Inv-loop μ-loop
+returns-4 c =
+    let j = c .before .before .before .before .before in
+    let r = j .before .before in
+    scan-refuses _ _ _ _ (c .refused4 .ensures)
+    (scan-job-stops _ _ _ _ _ (r .before .loop .inv) _ _ (there r _ (j .r3 .given .1))
+    (faulty _ 7 _ (list-fault _ _ _ _ 7 (omega arith) (fault-task _ _ _ (omega arith)))))
+
+mul-own : tie.Need-mul-own Inv-loop μ-loop
+mul-own c = search needs
+
+element-copy-out-own : tie.Need-element-copy-out-own Inv-loop μ-loop
+element-copy-out-own c = search needs
+
 check-job-requires : tie.Need-check-job-requires Inv-loop μ-loop
 check-job-requires c κs = search needs
 
 enum-known-k-2 : tie.Need-enum-known-k-2 Inv-loop μ-loop
 enum-known-k-2 c = search needs
 
-refused-requires-3 : tie.Need-refused-requires-3 Inv-loop μ-loop
-refused-requires-3 c κs = search needs
+refused-requires-5 : tie.Need-refused-requires-5 Inv-loop μ-loop
+refused-requires-5 c κs = search needs
 
-returns-3 : tie.Need-returns-3 Inv-loop μ-loop
-returns-3 c =
-    scan-refuses _ _ _ _ (c .refused3 .ensures)
-    (scan-job-stops _ _ _ _ _ (c .before .before .before .before .before .before .before .before .before .loop .inv) _ _ (sym (ap recordIn (c .before .before .before .before .before .before .r3 .given .1)) ∙ c .before .before .before .before .before .before .before .before .record-at .ensures)
-    (sym (ap refusalIn (c .before .before .k2 .given .1)) ∙ c .before .before .before .before .check-job .ensures))
+returns-5 : tie.Need-returns-5 Inv-loop μ-loop
+returns-5 c =
+    let j = c .before .before .before .before .before .before .before .before .before .before in
+    let r = j .before .before in
+    scan-refuses _ _ _ _ (c .refused5 .ensures)
+    (scan-job-stops _ _ _ _ _ (r .before .loop .inv) _ _ (there r _ (j .r3 .given .1))
+    (sym (ap refusalIn (c .before .before .k2 .given .1)) ∙ c .before .before .before .before .check-job .ensures _ (omega arith) refl))
 
 enum-told-2 : tie.Need-enum-told-2 Inv-loop μ-loop
 enum-told-2 c = search needs
 
-mul-job : tie.Need-mul-job Inv-loop μ-loop
-mul-job c = omega (arith, next-job c .few-jobs, next-job c .within, next-job c .jobs-long)
-
-element-set-from-job : tie.Need-element-set-from-job Inv-loop μ-loop
-element-set-from-job c = omega (arith, next-job c .few-jobs, next-job c .within, next-job c .jobs-long)
-
-add-jobs : tie.Need-add-jobs Inv-loop μ-loop
-add-jobs c = omega (arith, next-job c .few-jobs, next-job c .within, next-job c .jobs-long)
+add-releases : tie.Need-add-releases Inv-loop μ-loop
+add-releases c = omega (arith, next-job c .offset, next-job c .within)
 
 add-at-2 : tie.Need-add-at-2 Inv-loop μ-loop
-add-at-2 c = omega (arith, next-job c .few-jobs, next-job c .within, next-job c .jobs-long)
+add-at-2 c = omega (arith, next-job c .within)
 
 loop-less-2 : tie.Need-loop-less-2 Inv-loop μ-loop
-loop-less-2 c = omega (arith, next-job c .few-jobs, next-job c .within, next-job c .jobs-long)
+loop-less-2 c = omega (arith, next-job c .within)
 
 loop-again-2 : tie.Need-loop-again-2 Inv-loop μ-loop
 loop-again-2 c = next-job c
@@ -131,29 +167,33 @@ loop-again-2 c = next-job c
 enum-told-3 : tie.Need-enum-told-3 Inv-loop μ-loop
 enum-told-3 c = search needs
 
-refused-requires-4 : tie.Need-refused-requires-4 Inv-loop μ-loop
-refused-requires-4 c κs = search needs
+refused-requires-6 : tie.Need-refused-requires-6 Inv-loop μ-loop
+refused-requires-6 c κs = search needs
 
-returns-4 : tie.Need-returns-4 Inv-loop μ-loop
-returns-4 c =
-    scan-refuses _ _ _ _ (c .refused4 .ensures) (scan-end-stops _ _ _ _ _ (c .before .before .before .before .before .loop .inv) (sym (ap recordIn (c .before .before .enum-told3 .given .1)) ∙ c .before .before .before .before .record-at .ensures) (omega arith))
+returns-6 : tie.Need-returns-6 Inv-loop μ-loop
+returns-6 c =
+    let r = c .before .before .before .before in
+    scan-refuses _ _ _ _ (c .refused6 .ensures) (scan-end-stops _ _ _ _ _ (r .before .loop .inv) (there r _ (c .before .before .enum-told3 .given .1)) (omega arith))
 
-add-if2 : tie.Need-add-if2 Inv-loop μ-loop
-add-if2 c = omega (arith, c .before .before .before .before .loop .inv .within)
+add-if4 : tie.Need-add-if4 Inv-loop μ-loop
+add-if4 c = omega (arith, c .before .before .before .before .loop .inv .within)
 
 add-refused : tie.Need-add-refused Inv-loop μ-loop
 add-refused c = omega arith
 
-refused-requires-5 : tie.Need-refused-requires-5 Inv-loop μ-loop
-refused-requires-5 c κs = search needs
+refused-requires-7 : tie.Need-refused-requires-7 Inv-loop μ-loop
+refused-requires-7 c κs = search needs
 
-returns-5 : tie.Need-returns-5 Inv-loop μ-loop
-returns-5 c =
-    scan-refuses _ _ _ _ (c .refused5 .ensures) (scan-end-more _ _ _ _ _ (c .before .before .before .before .before .before .loop .inv) (sym (ap recordIn (c .before .before .before .enum-told3 .given .1)) ∙ c .before .before .before .before .before .record-at .ensures) (omega arith) (omega arith))
+returns-7 : tie.Need-returns-7 Inv-loop μ-loop
+returns-7 c =
+    let r = c .before .before .before .before .before in
+    scan-refuses _ _ _ _ (c .refused7 .ensures)
+    (scan-end-more _ _ _ _ _ (r .before .loop .inv) (there r _ (c .before .before .before .enum-told3 .given .1)) (omega arith) (omega arith))
 
-returns-6 : tie.Need-returns-6 Inv-loop μ-loop
-returns-6 c =
-    scan-says _ _ _ _ _ (c .before .before .before .before .before .loop .inv) _ refl (sym (ap recordIn (c .before .before .enum-told3 .given .1)) ∙ c .before .before .before .before .record-at .ensures) (omega arith) (omega arith)
+returns-8 : tie.Need-returns-8 Inv-loop μ-loop
+returns-8 c =
+    let r = c .before .before .before .before in
+    scan-says _ _ _ _ _ (r .before .loop .inv) _ refl (there r _ (c .before .before .enum-told3 .given .1)) (omega arith) (omega arith)
 
 pub scan-spec : {M : Type 1} → statement M
 scan-spec =
@@ -162,7 +202,6 @@ scan-spec =
     Inv-loop
     μ-loop
     no-tasks-requires
-    no-jobs-requires
     loop-holds
     record-at-requires
     enum-known-r
@@ -181,22 +220,27 @@ scan-spec =
     loop-less
     loop-again
     enum-known-r-3
-    check-job-requires
-    enum-known-k-2
     refused-requires-3
     returns-3
+    cast-i
+    refused-requires-4
+    returns-4
+    mul-own
+    element-copy-out-own
+    check-job-requires
+    enum-known-k-2
+    refused-requires-5
+    returns-5
     enum-told-2
-    mul-job
-    element-set-from-job
-    add-jobs
+    add-releases
     add-at-2
     loop-less-2
     loop-again-2
     enum-told-3
-    refused-requires-4
-    returns-4
-    add-if2
+    refused-requires-6
+    returns-6
+    add-if4
     add-refused
-    refused-requires-5
-    returns-5
-    returns-6)
+    refused-requires-7
+    returns-7
+    returns-8)

@@ -7,7 +7,7 @@ use Rattle.model.proofs.CheckLaws.{valid-of}
 use Rattle.taskset.specs.TaskSet.{viewOf, refusalIn}
 use Rattle.model.specs.Calls.{lends}
 use Rattle.model.proofs.OrderLaws.{no-single, no-kept, no-unfit, refused-tasks, refused-count, refused-slots, releases-decide}
-use Rattle.releases.proofs.ReleaseLaws.{Columns, columns-of}
+use Rattle.releases.proofs.ReleaseLaws.{columns-of}
 use borrow.Author.Needs.{needs}
 use Rattle.releases.proofs.check_list.Statement.{statement}
 use Rattle.releases.proofs.check_list.Tie as tie
@@ -68,10 +68,9 @@ returns-3 c =
 check-releases-requires : tie.Need-check-releases-requires
 check-releases-requires c κs =
     let p = c .before .before .before in
+    let a = p .before .before .before .before .before .before .before .before .before .args in
+    let long = columns-of (a .count) (a .task .now) (a .tick .now) (a .cost .now) (columns-fine c) in
     (valid-of _ (sym (sheet-fine (p .before .before .before))) .few-tasks, long .task-long, long .tick-long, long .cost-long)
-  where
-    long : Columns (c .before .before .before .before .before .before .before .before .before .before .before .before .args .count) (c .before .before .before .before .before .before .before .before .before .before .before .before .args .task .now) (c .before .before .before .before .before .before .before .before .before .before .before .before .args .tick .now) (c .before .before .before .before .before .before .before .before .before .before .before .before .args .cost .now)
-    long = columns-of _ _ _ _ (columns-fine c)
 
 returns-4 : tie.Need-returns-4
 returns-4 c =
