@@ -56,12 +56,17 @@ fn calls_for(call: &mut dyn FnMut()) -> u32 {
     calls
 }
 
-/// Medians of the times of several calls, each timed in turn; of three repetitions where a call takes over 0.1 s.
+/// Medians of the times of several calls, each timed in turn; of three repetitions where a call takes over 0.1 s, and one call of
+/// each where one takes over 1 s.
 fn medians(all: &mut [&mut dyn FnMut()]) -> Vec<f64> {
+    let single: Vec<f64> = all.iter_mut().map(|c| once(*c, 1)).collect();
+    let longest = single.iter().copied().fold(0.0, f64::max);
+    if longest > 1_000_000.0 {
+        return single;
+    }
     let calls: Vec<u32> = all.iter_mut().map(|c| calls_for(*c)).collect();
-    let slow = all.iter_mut().map(|c| once(*c, 1)).fold(0.0, f64::max) > 100_000.0;
     let mut times: Vec<Vec<f64>> = vec![Vec::new(); all.len()];
-    for _ in 0..if slow { 3 } else { REPETITIONS } {
+    for _ in 0..if longest > 100_000.0 { 3 } else { REPETITIONS } {
         for (i, call) in all.iter_mut().enumerate() {
             times[i].push(once(*call, calls[i]));
         }
@@ -91,6 +96,17 @@ fn long_walk() -> (Sheet, Vec<u32>) {
     let mut tasks: Vec<Task> = (0..31).map(|_| Task { p: 32, j: 31, e: 1, d: 1_000_000 }).collect();
     tasks.push(Task { p: 40, j: 1, e: 1, d: 1_000_000 });
     let kept = (0..32).map(|i| if i == 31 { 1 } else { i }).collect();
+    (Sheet::of(&tasks), kept)
+}
+
+/// Sheets of 32 tasks that load the processor whole or more, so that the verdict of the lowest walks over q up to the horizon or to a
+/// late job: the period of the 31 above, the kept jitter that each has more than the one above it, and the period of the lowest.
+const LONGEST: [(u32, u32, u32); 3] = [(62, 0, 2), (40, 1, 4), (32, 1, 32)];
+
+fn longest((above, step, lowest): (u32, u32, u32)) -> (Sheet, Vec<u32>) {
+    let mut tasks: Vec<Task> = (0..31).map(|_| Task { p: above, j: 31 * step, e: 1, d: 1_000_000 }).collect();
+    tasks.push(Task { p: lowest, j: 1, e: 1, d: 1_000_000 });
+    let kept = (0..32).map(|i| if i == 31 { 1 } else { step * i }).collect();
     (Sheet::of(&tasks), kept)
 }
 
@@ -298,5 +314,12 @@ fn main() {
         line(&format!("run of {}", n), &time_run(&list));
         line(&format!("read of {}", n), &time_read(&list));
         line(&format!("write of {}", n), &time_write(&list));
+    }
+    head("Sheet");
+    for one in LONGEST {
+        let (sheet, kept) = longest(one);
+        let (a, t) = (sheet.tasks[0], sheet.tasks[31]);
+        let name = format!("31 tasks ({},{},1,1000000) above ({},1,1,1000000)", a.p, a.j, t.p);
+        line(&name, &time_verdict(&sheet, &kept, 31));
     }
 }

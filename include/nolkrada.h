@@ -1,9 +1,15 @@
 /*
  * Nolkrada for C: kept jitters and verdicts for a fixed-priority sheet.
  *
- * Build the archive with `rt staticlib exports` and link target/staticlib/libexports.a (x86-64 Linux). Of the C library the archive
- * calls memcpy and memset alone; it allocates nothing and keeps no state, so any number of threads may call it. A call takes less
- * than 8 kilobytes of stack, a read some 2.
+ * ./install puts this header and libnolkrada.a in place: cc main.c -lnolkrada (x86-64 Linux). Without installing, `rt staticlib
+ * nolkrada` writes target/staticlib/libnolkrada.a. Of the C library the archive calls memcpy and memset alone; it allocates nothing
+ * and has no writable data, so any number of threads may call it. A read takes below 4096 bytes of stack, any other call below
+ * 8192; what memcpy and memset take is counted, what the dynamic linker takes when it looks them up is not.
+ *
+ * Every call ends, but not always soon. A verdict or a choice takes microseconds on most sheets; where the tasks load the processor
+ * whole or a little more, it may walk over millions of q: with 31 tasks (62,0,1,1000000) above (2,1,1,1000000), kept at 1, the
+ * verdict of the lowest takes seconds. A run goes tick by tick: 0.7 s for one release at tick 1000000000. docs/BENCHMARK.md has
+ * the figures.
  *
  * WHAT A CALL RETURNS
  *   0 where it answered. Otherwise a refusal, number * 2^32 + place; nolkrada_number and nolkrada_place take it apart.
@@ -56,6 +62,41 @@
 extern "C" {
 #endif
 
+/* The version of this interface. The archive has no symbol for it: take header and archive of one build. */
+#define NOLKRADA_VERSION_MAJOR 0
+#define NOLKRADA_VERSION_MINOR 1
+#define NOLKRADA_VERSION_PATCH 0
+#define NOLKRADA_VERSION "0.1.0"
+
+/* Tasks of a sheet, numbers of a sheet that is read (P, J, E, D of 32 tasks), releases of a list. */
+#define NOLKRADA_MAX_TASKS 32
+#define NOLKRADA_SHEET_NUMBERS 128
+#define NOLKRADA_MAX_RELEASES 1024
+/* Bytes of the largest file: 17 for each task, 10 for each release, 1 for the end. nolkrada_write writes no more. */
+#define NOLKRADA_MAX_FILE 10785
+/* Bytes that decide a read: none past these changes what it answers. Make a buffer that is filled from an input this long: one of
+ * NOLKRADA_MAX_FILE bytes may hold a whole file and miss the byte that follows it, which is refusal 11. */
+#define NOLKRADA_READ_BYTES 10801
+
+/* The numbers of the refusals. */
+enum {
+    NOLKRADA_REFUSED_KIND = 1,
+    NOLKRADA_REFUSED_CUT = 2,
+    NOLKRADA_REFUSED_TASK_AFTER_RELEASE = 3,
+    NOLKRADA_REFUSED_TOO_MANY_TASKS = 4,
+    NOLKRADA_REFUSED_NO_TASK = 5,
+    NOLKRADA_REFUSED_RANGE = 6,
+    NOLKRADA_REFUSED_RELEASE_TASK = 7,
+    NOLKRADA_REFUSED_RELEASE_TICK = 8,
+    NOLKRADA_REFUSED_RELEASE_COST = 9,
+    NOLKRADA_REFUSED_TOO_MANY_RELEASES = 10,
+    NOLKRADA_REFUSED_BYTE_AFTER_END = 11,
+    NOLKRADA_REFUSED_KEPT = 12,
+    NOLKRADA_REFUSED_SHORT_ARRAY = 13,
+    NOLKRADA_REFUSED_NO_SUCH_TASK = 14,
+    NOLKRADA_REFUSED_UNFIT = 15
+};
+
 /* The number and the place of a refusal. */
 static inline uint32_t nolkrada_number(uint64_t code) { return (uint32_t)(code >> 32); }
 static inline uint32_t nolkrada_place(uint64_t code) { return (uint32_t)code; }
@@ -100,8 +141,9 @@ uint64_t nolkrada_run(const uint32_t *sheet, size_t sheet_length, uint32_t count
                       const uint32_t *cost, size_t cost_length, uint32_t *ready, size_t ready_length, uint32_t *finish,
                       size_t finish_length);
 
-/* Read a file. A file with 1024 releases has at most 10785 bytes.
- * sheet: 128 slots, all written; entries past the count are 0. task, tick, cost: a slot for each release, written.
+/* Read a file. Lend it whole, or its first NOLKRADA_READ_BYTES bytes.
+ * sheet: NOLKRADA_SHEET_NUMBERS slots, all written; entries past the count are 0. task, tick, cost: a slot for each release,
+ * written: NOLKRADA_MAX_RELEASES slots take any file.
  * answer: 2 slots, the tasks and the releases of the file.                                           Refuses 1 to 11, 13. */
 uint64_t nolkrada_read(const uint8_t *file, size_t file_length, uint32_t *sheet, size_t sheet_length, uint32_t *task,
                        size_t task_length, uint32_t *tick, size_t tick_length, uint32_t *cost, size_t cost_length,

@@ -1,7 +1,9 @@
 /*
  * The printed sheet of document 01 from C: choice, verdicts, arrival count, trace check, ready ticks, run, write and read.
- * Build (after `rt staticlib exports`):
- *   cc -O2 -Iinclude examples/c/sheet.c target/staticlib/libexports.a -o target/sheet
+ * Build, after ./install:
+ *   cc -O2 examples/c/sheet.c -lnolkrada -o sheet
+ * or, without installing, after `rt staticlib nolkrada`:
+ *   cc -O2 -Iinclude examples/c/sheet.c target/staticlib/libnolkrada.a -o sheet
  */
 #include <stdio.h>
 #include <string.h>
@@ -33,13 +35,14 @@ static int print_choice(uint32_t *kept) {
     return 0;
 }
 
-static int print_verdict(const uint32_t *kept, uint32_t i) {
-    static const char *const kinds[] = {"horizon", "late", "fits"};
+static uint64_t print_verdict(const uint32_t *kept, uint32_t i) {
+    static const char *const kinds[] = {[NOLKRADA_HORIZON] = "horizon", [NOLKRADA_LATE] = "late", [NOLKRADA_FITS] = "fits"};
     uint64_t answer[3];
-    if (refused("verdict", nolkrada_verdict(sheet, LENGTH(sheet), TASKS, i, kept, TASKS, answer, 3))) return 1;
-    printf("task %u with kept jitter %u: %s, q %llu, R %llu\n", i, kept[i], kinds[answer[0]], (unsigned long long)answer[1],
-           (unsigned long long)answer[2]);
-    return 0;
+    const uint64_t code = nolkrada_verdict(sheet, LENGTH(sheet), TASKS, i, kept, TASKS, answer, 3);
+    if (!refused("verdict", code))
+        printf("task %u with kept jitter %u: %s, q %llu, R %llu\n", i, kept[i], kinds[answer[0]], (unsigned long long)answer[1],
+               (unsigned long long)answer[2]);
+    return code;
 }
 
 static int print_run(const uint32_t *kept) {
@@ -62,13 +65,17 @@ static int print_run(const uint32_t *kept) {
 }
 
 static int print_file(void) {
-    uint8_t file[128];
-    uint32_t again[128], tasks[8], ticks[8], costs[8];
+    /* Buffers that hold whatever a file may hold. */
+    static uint8_t file[NOLKRADA_READ_BYTES];
+    static uint32_t again[NOLKRADA_SHEET_NUMBERS];
+    static uint32_t tasks[NOLKRADA_MAX_RELEASES], ticks[NOLKRADA_MAX_RELEASES], costs[NOLKRADA_MAX_RELEASES];
     uint64_t bytes[1], counts[2];
     if (refused("write", nolkrada_write(sheet, LENGTH(sheet), TASKS, RELEASES, task, RELEASES, tick, RELEASES, cost, RELEASES,
                                         file, sizeof file, bytes, 1)))
         return 1;
-    if (refused("read", nolkrada_read(file, bytes[0], again, 128, tasks, 8, ticks, 8, costs, 8, counts, 2))) return 1;
+    if (refused("read", nolkrada_read(file, bytes[0], again, LENGTH(again), tasks, LENGTH(tasks), ticks, LENGTH(ticks), costs,
+                                      LENGTH(costs), counts, 2)))
+        return 1;
     printf("%llu bytes, %llu tasks, %llu releases, %s\n", (unsigned long long)bytes[0], (unsigned long long)counts[0],
            (unsigned long long)counts[1], memcmp(again, sheet, sizeof sheet) == 0 ? "the same sheet" : "another sheet");
     return 0;
@@ -85,6 +92,7 @@ int main(void) {
     if (print_file()) return 1;
     kept[1] = 2;
     if (print_verdict(kept, 1)) return 1;
+    /* More than the task's jitter. */
     kept[1] = 8;
-    return print_verdict(kept, 1) ? 0 : 1;
+    return nolkrada_number(print_verdict(kept, 1)) == NOLKRADA_REFUSED_KEPT ? 0 : 1;
 }

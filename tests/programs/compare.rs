@@ -12,8 +12,8 @@ use reference::{choice, decode, encode, finish_ticks, ready_ticks, Budget, Refus
 use std::io::{Read, Write};
 use std::process::{Command, Stdio};
 
-const CHOOSE: &str = "target/bin/choose";
-const REPLAY: &str = "target/bin/replay";
+const CHOOSE: &str = "target/built/choose";
+const REPLAY: &str = "target/built/replay";
 
 fn refused(r: Refusal) -> String {
     format!("refused {} at {}\n", r.number, r.place)

@@ -1,0 +1,105 @@
+/*
+ * The constants of include/nolkrada.h: document 01's limits, the sizes of files, and each refusal by its name, got from the archive.
+ */
+#include <stdio.h>
+#include <string.h>
+
+#include "nolkrada.h"
+
+#define SAME(name, value) _Static_assert(name == (value), #name)
+
+SAME(NOLKRADA_MAX_TASKS, 32);
+SAME(NOLKRADA_MAX_RELEASES, 1024);
+SAME(NOLKRADA_SHEET_NUMBERS, 4 * NOLKRADA_MAX_TASKS);
+SAME(NOLKRADA_MAX_FILE, 17 * NOLKRADA_MAX_TASKS + 10 * NOLKRADA_MAX_RELEASES + 1);
+/* One more record after the last that is allowed, a task: the longest. */
+SAME(NOLKRADA_READ_BYTES, 17 * NOLKRADA_MAX_TASKS + 10 * NOLKRADA_MAX_RELEASES + 17);
+
+#define TEXT_OF(x) #x
+#define TEXT(x) TEXT_OF(x)
+static const char version[] =
+    TEXT(NOLKRADA_VERSION_MAJOR) "." TEXT(NOLKRADA_VERSION_MINOR) "." TEXT(NOLKRADA_VERSION_PATCH);
+
+static const uint32_t printed[] = {6, 5, 2, 6, 8, 7, 2, 8, 10, 0, 2, 10};
+static const uint32_t unfit[] = {2, 1, 1, 1, 2, 0, 2, 2};
+
+static uint32_t sheet[NOLKRADA_SHEET_NUMBERS], task[NOLKRADA_MAX_RELEASES], tick[NOLKRADA_MAX_RELEASES], cost[NOLKRADA_MAX_RELEASES];
+static uint64_t answer[3];
+static int wrong;
+
+static void expect(const char *name, uint64_t code, uint32_t number, uint32_t place) {
+    if (code == ((uint64_t)number << 32 | place) && nolkrada_number(code) == number && nolkrada_place(code) == place) return;
+    printf("%s: %u at %u, not %u at %u\n", name, nolkrada_number(code), nolkrada_place(code), number, place);
+    wrong = 1;
+}
+
+static uint64_t read_bytes(const uint8_t *file, size_t length) {
+    return nolkrada_read(file, length, sheet, NOLKRADA_SHEET_NUMBERS, task, NOLKRADA_MAX_RELEASES, tick, NOLKRADA_MAX_RELEASES, cost,
+                         NOLKRADA_MAX_RELEASES, answer, 3);
+}
+
+/* The largest file, then one more byte, release or task. */
+static void sizes(void) {
+    static uint8_t file[NOLKRADA_READ_BYTES];
+    const size_t end = NOLKRADA_MAX_FILE - 1;
+    for (uint32_t i = 0; i < NOLKRADA_SHEET_NUMBERS; i++) sheet[i] = 1;
+    for (uint32_t n = 0; n < NOLKRADA_MAX_RELEASES; n++) task[n] = 0, tick[n] = n, cost[n] = 1;
+    expect("write of the largest file",
+           nolkrada_write(sheet, NOLKRADA_SHEET_NUMBERS, NOLKRADA_MAX_TASKS, NOLKRADA_MAX_RELEASES, task, NOLKRADA_MAX_RELEASES, tick,
+                          NOLKRADA_MAX_RELEASES, cost, NOLKRADA_MAX_RELEASES, file, NOLKRADA_MAX_FILE, answer, 1),
+           0, 0);
+    if (answer[0] != NOLKRADA_MAX_FILE) wrong = 1;
+    expect("read of the largest file", read_bytes(file, NOLKRADA_MAX_FILE), 0, 0);
+    /* The byte that a buffer of the largest file misses. */
+    expect("one more byte", read_bytes(file, NOLKRADA_MAX_FILE + 1), NOLKRADA_REFUSED_BYTE_AFTER_END, NOLKRADA_MAX_FILE);
+    memcpy(file + end, file + end - 10, 10);
+    expect("one more release", read_bytes(file, end + 10), NOLKRADA_REFUSED_TOO_MANY_RELEASES, end);
+    memcpy(file + end, file, 17);
+    expect("one more task", read_bytes(file, NOLKRADA_READ_BYTES), NOLKRADA_REFUSED_TASK_AFTER_RELEASE, end);
+    expect("one more task, cut", read_bytes(file, NOLKRADA_READ_BYTES - 1), NOLKRADA_REFUSED_CUT, end);
+}
+
+static void refusals(void) {
+    static const uint8_t kind[] = {4}, cut[] = {1, 6}, alone[] = {3};
+    static const uint32_t zero[3] = {0, 0, 0}, one[3] = {1, 1, 1}, five[3] = {5, 5, 5}, falling[2] = {1, 0};
+    const size_t n = sizeof printed / sizeof printed[0];
+    uint32_t kept[3], worst[3];
+    expect("kind", read_bytes(kind, 1), NOLKRADA_REFUSED_KIND, 0);
+    expect("cut", read_bytes(cut, 2), NOLKRADA_REFUSED_CUT, 0);
+    expect("end alone", read_bytes(alone, 1), NOLKRADA_REFUSED_NO_TASK, 0);
+    expect("too many tasks", nolkrada_choice(printed, n, 33, kept, 3, worst, 3), NOLKRADA_REFUSED_TOO_MANY_TASKS, 32);
+    expect("no task", nolkrada_choice(printed, n, 0, kept, 3, worst, 3), NOLKRADA_REFUSED_NO_TASK, 0);
+    expect("range", nolkrada_choice(printed, n, 4, kept, 3, worst, 3), NOLKRADA_REFUSED_RANGE, 3);
+    expect("task of a release", nolkrada_trace_check(printed, n, 3, 1, five, 3, zero, 3, one, 3, answer, 3),
+           NOLKRADA_REFUSED_RELEASE_TASK, 0);
+    expect("tick of a release", nolkrada_trace_check(printed, n, 3, 2, one, 3, falling, 2, one, 3, answer, 3),
+           NOLKRADA_REFUSED_RELEASE_TICK, 1);
+    expect("cost of a release", nolkrada_trace_check(printed, n, 3, 1, one, 3, zero, 3, five, 3, answer, 3),
+           NOLKRADA_REFUSED_RELEASE_COST, 0);
+    expect("too many releases", nolkrada_trace_check(printed, n, 3, 1025, one, 3, zero, 3, one, 3, answer, 3),
+           NOLKRADA_REFUSED_TOO_MANY_RELEASES, 1024);
+    expect("kept", nolkrada_verdict(printed, n, 3, 0, five, 3, answer, 3), NOLKRADA_REFUSED_KEPT, 2);
+    expect("short array", nolkrada_choice(printed, n, 3, kept, 2, worst, 3), NOLKRADA_REFUSED_SHORT_ARRAY, 3);
+    expect("no such task", nolkrada_verdict(printed, n, 3, 3, zero, 3, answer, 3), NOLKRADA_REFUSED_NO_SUCH_TASK, 3);
+    expect("unfit", nolkrada_choice(unfit, 8, 2, kept, 3, worst, 3), NOLKRADA_REFUSED_UNFIT, 1);
+}
+
+/* The verdicts of the printed sheet's second task, and of a task under a full load. */
+static void verdicts(void) {
+    static const uint32_t busy[] = {1, 0, 1, 1, 1, 0, 1, 1}, kept[3] = {1, 3, 0}, less[3] = {1, 2, 0};
+    expect("fits", nolkrada_verdict(printed, 12, 3, 1, kept, 3, answer, 3), 0, 0);
+    if (answer[0] != NOLKRADA_FITS || answer[2] != 8) wrong = 1;
+    expect("late", nolkrada_verdict(printed, 12, 3, 1, less, 3, answer, 3), 0, 0);
+    if (answer[0] != NOLKRADA_LATE || answer[2] != 9) wrong = 1;
+    expect("horizon", nolkrada_verdict(busy, 8, 2, 1, (const uint32_t[]){0, 0}, 2, answer, 3), 0, 0);
+    if (answer[0] != NOLKRADA_HORIZON || answer[1] != 0 || answer[2] != 0) wrong = 1;
+}
+
+int main(void) {
+    if (strcmp(version, NOLKRADA_VERSION) != 0) wrong = 1;
+    sizes();
+    refusals();
+    verdicts();
+    puts(wrong ? "header: something is not as it says" : "header: limits, sizes, refusals and verdicts as it says");
+    return wrong;
+}

@@ -1,0 +1,130 @@
+/*
+ * The stack that each call takes, against what include/nolkrada.h says. A call runs on a stack of its own that is filled with a
+ * pattern, and the bytes that it changed are counted. Link with -z now, so that memcpy and memset are not looked up on that stack.
+ */
+#include <stdio.h>
+#include <string.h>
+#include <ucontext.h>
+
+#include "nolkrada.h"
+
+/* What the header says: a call takes less. */
+#define READ_LIMIT 4096
+#define OTHER_LIMIT 8192
+
+#define SLOTS NOLKRADA_MAX_RELEASES
+#define NUMBERS NOLKRADA_SHEET_NUMBERS
+
+static uint32_t sheet[NUMBERS], kept[SLOTS], worst[SLOTS], task[SLOTS], tick[SLOTS], cost[SLOTS], ready[SLOTS], finish[SLOTS];
+static uint8_t file[NOLKRADA_READ_BYTES];
+static uint64_t answer[3], code;
+/* The parts of a call that a case changes: how many tasks, releases, slots and bytes there are, and which task is asked for. */
+static uint32_t tasks, releases, which;
+static size_t slots, bytes;
+
+static void nothing(void) { code = 0; }
+static void arrival_count(void) {
+    code = nolkrada_arrival_count(sheet, NUMBERS, tasks, which, kept, slots, 1000000, answer, 3);
+}
+static void verdict(void) { code = nolkrada_verdict(sheet, NUMBERS, tasks, which, kept, slots, answer, 3); }
+static void choice(void) { code = nolkrada_choice(sheet, NUMBERS, tasks, kept, slots, worst, slots); }
+static void trace_check(void) {
+    code = nolkrada_trace_check(sheet, NUMBERS, tasks, releases, task, slots, tick, slots, cost, slots, answer, 3);
+}
+static void ready_ticks(void) {
+    code = nolkrada_ready(sheet, NUMBERS, tasks, kept, slots, releases, task, slots, tick, slots, cost, slots, ready, slots);
+}
+static void run(void) {
+    code = nolkrada_run(sheet, NUMBERS, tasks, kept, slots, releases, task, slots, tick, slots, cost, slots, ready, slots, finish,
+                        slots);
+}
+static void read_file(void) {
+    code = nolkrada_read(file, bytes, sheet, NUMBERS, task, slots, tick, slots, cost, slots, answer, 3);
+}
+static void write_file(void) {
+    code = nolkrada_write(sheet, NUMBERS, tasks, releases, task, slots, tick, slots, cost, slots, file, bytes, answer, 3);
+}
+
+/* 32 tasks, 1,024 releases and their file. */
+static void full(void) {
+    for (uint32_t i = 0; i < NOLKRADA_MAX_TASKS; i++) {
+        const uint32_t numbers[4] = {3000 + 100 * i, 1500, 60, 1000000};
+        memcpy(sheet + 4 * i, numbers, sizeof numbers);
+        kept[i] = 750;
+    }
+    for (uint32_t n = 0; n < NOLKRADA_MAX_RELEASES; n++) {
+        task[n] = n % 32;
+        tick[n] = 100 * n;
+        cost[n] = 60;
+    }
+    tasks = NOLKRADA_MAX_TASKS;
+    releases = NOLKRADA_MAX_RELEASES;
+    which = NOLKRADA_MAX_TASKS - 1;
+    slots = SLOTS;
+    bytes = NOLKRADA_MAX_FILE;
+    write_file();
+}
+
+/* Full size, then each with one thing that a call refuses or answers in another way. */
+static void no_slots(void) { slots = 0; }
+static void many_tasks(void) { tasks = NOLKRADA_MAX_TASKS + 1; }
+static void many_releases(void) { releases = NOLKRADA_MAX_RELEASES + 1; }
+static void no_such_task(void) { which = NOLKRADA_MAX_TASKS; }
+static void last_range(void) { sheet[NUMBERS - 1] = 0; }
+static void last_cost(void) { cost[NOLKRADA_MAX_RELEASES - 1] = 0; }
+static void last_kept(void) { kept[NOLKRADA_MAX_TASKS - 1] = 1501; }
+static void tight(void) { sheet[NUMBERS - 1] = 60; }
+static void crowded(void) { memset(tick, 0, sizeof tick); }
+static void cut(void) { bytes = NOLKRADA_MAX_FILE - 1; }
+static void one_more_byte(void) { file[bytes++] = 0; }
+static void (*const cases[])(void) = {nothing, no_slots, many_tasks, many_releases, no_such_task, last_range, last_cost,
+                                      last_kept, tight, crowded, cut, one_more_byte};
+
+static unsigned char room[1 << 16];
+static ucontext_t outside, inside;
+
+static size_t changed(void (*call)(void), unsigned char pattern) {
+    size_t same = 0;
+    memset(room, pattern, sizeof room);
+    getcontext(&inside);
+    inside.uc_stack.ss_sp = room;
+    inside.uc_stack.ss_size = sizeof room;
+    inside.uc_link = &outside;
+    makecontext(&inside, call, 0);
+    swapcontext(&outside, &inside);
+    while (same < sizeof room && room[same] == pattern) same++;
+    return sizeof room - same;
+}
+
+/* The most that a call takes in all cases, over what an empty call takes here. Two patterns: data may be like one of them. */
+static size_t most(void (*call)(void)) {
+    const size_t empty = changed(nothing, 0xa5);
+    size_t top = 0;
+    for (size_t c = 0; c < sizeof cases / sizeof cases[0]; c++)
+        for (int pattern = 0x5a; pattern <= 0xa5; pattern += 0xa5 - 0x5a) {
+            full();
+            cases[c]();
+            const size_t n = changed(call, (unsigned char)pattern);
+            if (n > top) top = n;
+        }
+    return top - empty;
+}
+
+static int over(const char *name, void (*call)(void), size_t limit) {
+    const size_t n = most(call);
+    printf("stack of %s: %zu bytes, below %zu%s\n", name, n, limit, n < limit ? "" : ": NO");
+    return n >= limit;
+}
+
+int main(void) {
+    int wrong = 0;
+    wrong += over("nolkrada_arrival_count", arrival_count, OTHER_LIMIT);
+    wrong += over("nolkrada_verdict", verdict, OTHER_LIMIT);
+    wrong += over("nolkrada_choice", choice, OTHER_LIMIT);
+    wrong += over("nolkrada_trace_check", trace_check, OTHER_LIMIT);
+    wrong += over("nolkrada_ready", ready_ticks, OTHER_LIMIT);
+    wrong += over("nolkrada_run", run, OTHER_LIMIT);
+    wrong += over("nolkrada_read", read_file, READ_LIMIT);
+    wrong += over("nolkrada_write", write_file, OTHER_LIMIT);
+    return wrong != 0;
+}
