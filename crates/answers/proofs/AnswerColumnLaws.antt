@@ -54,7 +54,7 @@ read-roomy f a b c ha hb hc = go (decode f) refl
         rw (readCall, e, slots-pass (length (x .releases)) a b c (omega arith) (omega arith) (omega arith))
 
 -- texts of lines that agree
-lines-same : (f g : ℕ → List ℕ) (n : ℕ) → ((i : ℕ) → i < n → f i ≡ g i) → lines f n ≡ lines g n
+pub lines-same : (f g : ℕ → List ℕ) (n : ℕ) → ((i : ℕ) → i < n → f i ≡ g i) → lines f n ≡ lines g n
 unfolding lines
 lines-same f g zero h = refl
 lines-same f g (suc n) h = ap₂ _++_ (lines-same f g n (λ i l. h i (omega arith))) (h n (omega arith))

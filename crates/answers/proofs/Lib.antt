@@ -2,5 +2,6 @@
 pub mod AcceptedCallLaws
 pub mod AnswerColumnLaws
 pub mod AnswerLaws
+pub mod ByPlaceLaws
 pub mod ReplayLaws
 pub mod SaidLaws

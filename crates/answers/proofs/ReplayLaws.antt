@@ -1,5 +1,5 @@
 -- The text of a run, and the text of a file that was read.
-use Prim.Native.Nat.{ℕ, suc, _*_, _≤_}
+use Prim.Native.Nat.{ℕ, _≤_}
 use mathlib.Core.Path.{_≡_, refl, sym, ap, ap₂, _∙_}
 use mathlib.Core.Option.{none}
 use mathlib.Core.List.{List, [], _++_, append-nil}
@@ -21,13 +21,13 @@ use Rattle.fileformat.specs.File.{File, sheetOf, decode, ValidFile}
 use Rattle.fileformat.specs.FileCalls.{readCall, readCount, readSheet, readColumn}
 use Rattle.fileformat.proofs.RoundTrips.{decode-valid}
 use Rattle.fileformat.proofs.RoundTripCalls.{releases-of-columns}
+use Rattle.fileformat.proofs.FilePlaces.{decode-within}
 use Rattle.reader.specs.declared.ReadOutcome.{ReadOutcome}
 use Rattle.reader.specs.declared.ReadOutcome.the-variants.{Read, Refused as Halted}
 use Rattle.reader.specs.Reader.{outcomeIn}
 use Rattle.model.proofs.TableLaws.{length-table}
 use Rattle.report.specs.Report.{runText, refusalText}
 use Rattle.answers.specs.Answers.{tasksOf, ticksOf, costsOf, chosenText, chooseText, listText, replayText}
-use Rattle.answers.proofs.AnswerLaws.{decode-place}
 use Rattle.answers.proofs.AnswerColumnLaws.{view-set, read-roomy, run-text-same}
 use Rattle.answers.proofs.AcceptedCallLaws.{run-accepted}
 use Rattle.answers.specs.Listed.{Listed, Kept, keptText}
@@ -71,7 +71,7 @@ module _ (s : Tasks) (kept : List ℕ) (n : ℕ) (task tick cost ready finish : 
 module _ (f a b c : List ℕ) (ha : maxReleases ≤ length a) (hb : maxReleases ≤ length b) (hc : maxReleases ≤ length c) where
   -- a file that was refused
   pub record Halts (n p : ℕ) : Type 0 where
-    pub small : p ≤ 17 * suc (length f)
+    pub small : p ≤ 10785
     pub choose : refusalText n p ≡ chooseText f
     pub replay : refusalText n p ≡ replayText f
 
@@ -87,7 +87,7 @@ module _ (f a b c : List ℕ) (ha : maxReleases ≤ length a) (hb : maxReleases 
           let i : refused (record { number = n; place = p }) ≡ refused q = said ∙ ap readCount g in
           let q′ : _≡_ {A = Refusal} (record { number = n; place = p }) q = cc in
           let j : decode f ≡ refused (record { number = n; place = p }) = g ∙ ap refused (sym q′) in
-          record { small = decode-place f (record { number = n; place = p }) j; choose = rw (chooseText, j); replay = rw (replayText, j) }
+          record { small = decode-within f (record { number = n; place = p }) j .place-high; choose = rw (chooseText, j); replay = rw (replayText, j) }
       go (answered x) g = let i : refused (record { number = n; place = p }) ≡ answered (length (x .releases)) = said ∙ ap readCount g in let z : _≡_ {A = ℕ} 0 1 = cc in absurd (omega arith)
 
   -- a file that was accepted: the task set t and the columns p, q, r hold what it holds

@@ -1,3 +1,4 @@
 -- What each program prints for the bytes of a file.
 pub mod Answers
+pub mod RunByPlace
 pub mod Listed

@@ -1,10 +1,12 @@
 -- Laws of the file, and the two round trips. From the ground up.
+pub mod StepLaws
+pub mod FilePlaces
 pub mod NumberLaws
 pub mod RecordLaws
 pub mod OffsetLaws
-pub mod StepLaws
 pub mod Prefix
 pub mod ReleasePlaces
 pub mod RoundTrips
 pub mod SheetLaws
 pub mod RoundTripCalls
+pub mod SameWriteLaws

@@ -9,9 +9,11 @@ use Rattle.model.specs.Limits.{maxTasks}
 use Rattle.model.specs.Tasks.{Release, noRelease, Valid}
 use Rattle.model.specs.Checks.{checkReleases}
 use Rattle.model.specs.Calls.{releasesOf}
+use Rattle.model.specs.SameTasks.{SameTasks}
 use Rattle.model.proofs.SeriesLaws.{le-by}
-use Rattle.model.proofs.CheckLaws.{valid-of, valid-passes, count-few, count-of, slots-next, slots-none}
+use Rattle.model.proofs.CheckLaws.{valid-of, count-few, count-of, slots-next, slots-none}
 use Rattle.model.proofs.OrderLaws.{accepted-of, accepts, no-single, no-kept, no-unfit}
+use Rattle.model.proofs.SameAnswers.{tasks-same, releases-same}
 use Rattle.releases.proofs.ReleaseLaws.{length-releases, release-at}
 use Rattle.taskset.specs.declared.Task.{Task}
 use Rattle.taskset.specs.declared.TaskSet.{TaskSet}
@@ -19,7 +21,7 @@ use Rattle.taskset.specs.TaskSet.{noTask, viewOf}
 use Rattle.fileformat.specs.File.{sheetOf, encode}
 use Rattle.fileformat.specs.FileCalls.{tasksIn, setOf, fileOf}
 use Rattle.fileformat.specs.RoundTrips.{WriteIsValid, WriteIsRead, ReadPasses, ReadWrites}
-use Rattle.fileformat.proofs.SheetLaws.{Agree, same-sheet, valid-agrees, releases-agree}
+use Rattle.fileformat.proofs.SheetLaws.{same-sheet}
 use Rattle.fileformat.proofs.RoundTrips.{decode-encode, encode-decode, decode-valid}
 
 -- past the last entry there is no task
@@ -28,7 +30,7 @@ past [] = refl
 past (t ∷ l) = past l
 
 -- a set that passes its check has an entry for each task of its count
-covers : (s : TaskSet) → Valid (viewOf s) → s .count ≤ length (s .tasks)
+pub covers : (s : TaskSet) → Valid (viewOf s) → s .count ≤ length (s .tasks)
 covers s v =
     le-by (s .count) (length (s .tasks))
     (λ l. omega (arith, v .in-range (length (s .tasks)) l .period-low, ap (λ (t : Task). t .period) (past (s .tasks))))
@@ -39,8 +41,8 @@ written-valid s n task tick cost room e =
     let a = accepted-of _ e in
     let v : Valid (viewOf s) = valid-of (viewOf s) (sym (a .tasks)) in
     record {
-      tasks = sym (valid-passes _ (valid-agrees _ _ (same-sheet s (covers s v)) v));
-      releases = sym (a .releases ∙ releases-agree _ _ 0 0 _ (same-sheet s (covers s v)));
+      tasks = sym (a .tasks ∙ tasks-same _ _ (same-sheet s (covers s v)));
+      releases = sym (a .releases ∙ releases-same _ _ (same-sheet s (covers s v)) 0 0 _);
       few = omega (arith, count-of n (a .count), length-releases n task tick cost);
     }
 
@@ -52,7 +54,7 @@ pub tasks-of-set : (l : List Task) → tasksIn (setOf l) ≡ l
 unfolding tasksIn setOf
 tasks-of-set l = take-at l (replicate (maxTasks - length l) noTask) (length l) refl
 
-pub set-sheet : (l : List Task) → Agree (sheetOf l) (viewOf (setOf l))
+pub set-sheet : (l : List Task) → SameTasks (sheetOf l) (viewOf (setOf l))
 unfolding setOf
 set-sheet l =
     let e : (i : ℕ) → i < length l → getD l i noTask ≡ getD (l ++ replicate (maxTasks - length l) noTask) i noTask = λ i k. sym (List·getD-append l (replicate (maxTasks - length l) noTask) noTask i k) in
@@ -96,12 +98,12 @@ read-passes f x a b c e =
     let long : (g : Release → ℕ) (y : List ℕ) → length (x .releases) ≤ length (map g (x .releases) ++ y) = λ g y. omega (arith, length-append (map g (x .releases)) y, length-map (x .releases) g) in
     accepts _
     (record {
-      tasks = valid-passes _ (valid-agrees _ _ (set-sheet (x .tasks)) (valid-of _ (v .tasks)));
+      tasks = sym (v .tasks) ∙ tasks-same _ _ (set-sheet (x .tasks));
       single = no-single _;
       count = count-few _ (v .few);
       lent = slots-none ∙ sym (slots-next _ _ (long (λ r. r .task) a) ∙ slots-next _ _ (long (λ r. r .tick) b) ∙ slots-next _ _ (long (λ r. r .cost) c));
       kept = no-kept _;
-      releases = sym (ap (checkReleases (viewOf (setOf (x .tasks))) 0 0) (releases-of-columns (x .releases) a b c) ∙ sym (releases-agree _ _ 0 0 (x .releases) (set-sheet (x .tasks))) ∙ v .releases);
+      releases = sym (ap (checkReleases (viewOf (setOf (x .tasks))) 0 0) (releases-of-columns (x .releases) a b c) ∙ sym (releases-same _ _ (set-sheet (x .tasks)) 0 0 (x .releases)) ∙ v .releases);
       unfit = no-unfit;
     })
 

@@ -4,3 +4,4 @@ pub mod Records
 pub mod File
 pub mod FileCalls
 pub mod RoundTrips
+pub mod SameWrites

@@ -7,4 +7,6 @@ pub mod OnProcessor
 pub mod Demand3
 pub mod ChoiceSafe
 pub mod AnsweredCalls
+pub mod ExactResponse
+pub mod IdleLaws
 pub mod RunBounds

@@ -2,7 +2,10 @@
 pub mod SearchLaws
 pub mod CheckLaws
 pub mod OrderLaws
-pub mod SeriesLaws
-pub mod Sums
 pub mod TableLaws
+pub mod RefusalPlaces
+pub mod SeriesLaws
+pub mod SameVerdict
 pub mod TraceLaws
+pub mod SameAnswers
+pub mod Sums

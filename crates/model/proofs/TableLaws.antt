@@ -1,6 +1,6 @@
 -- Laws of the list f 0, .., f (n - 1).
 use Prim.Native.Nat.{ℕ, zero, suc, _+_, _<_}
-use mathlib.Core.Path.{_≡_, refl, sym, ap, _∙_}
+use mathlib.Core.Path.{_≡_, refl, sym, ap, ap₂, _∙_}
 use mathlib.Core.Logic.{⊎-elim}
 use mathlib.Core.List.{[], _∷_, _++_}
 use native.Mathlib.Omega.{arith}
@@ -28,3 +28,9 @@ getD-table f d (suc n) i h = ⊎-elim last (λ l. before l (getD-table f d n i))
 
 pub drop-table : {A : Type 0} (f : ℕ → A) (d : A) (n i : ℕ) → i < n → drop i (table f n) ≡ f i ∷ drop (suc i) (table f n)
 drop-table f d n i h = drop-cons (table f n) i d (omega (arith, length-table f n)) ∙ ap (λ x. x ∷ drop (suc i) (table f n)) (getD-table f d n i h)
+
+-- tables of functions that agree below their length
+pub table-agree : {A : Type 0} (f g : ℕ → A) (n : ℕ) → ((i : ℕ) → i < n → f i ≡ g i) → table f n ≡ table g n
+unfolding table
+table-agree f g zero h = refl
+table-agree f g (suc n) h = ap₂ (λ l t. l ++ (t ∷ [])) (table-agree f g n (λ i b. h i (omega arith))) (h n (omega arith))

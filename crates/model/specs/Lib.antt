@@ -17,4 +17,5 @@ pub mod Claims
 pub mod Refusal
 pub mod Checks
 pub mod Calls
+pub mod SameTasks
 pub mod Sums

@@ -1,3 +1,4 @@
 -- The C interface: numbers and words for sheets, answers and files.
 pub mod Interface
 pub mod Files
+pub mod Codes

@@ -64,9 +64,3 @@ module _ (j k : Jobs) (a : Agree j k) where
       go (u, e, l) =
           let r : runs k u ≡ some p = runs-agree u (left-agree u) ∙ l .0 in
           e ∙ sym (finish-last k (a .same-all) p (omega (arith, a .count)) (omega (arith, a .work p h)) u (r, sym (left-agree (suc u) p h) ∙ l .1))
-
--- tables of functions that agree
-pub table-agree : (f g : ℕ → ℕ) (n : ℕ) → ((p : ℕ) → p < n → f p ≡ g p) → table f n ≡ table g n
-unfolding table
-table-agree f g zero h = refl
-table-agree f g (suc n) h = ap₂ (λ x y. x ++ (y ∷ [])) (table-agree f g n (λ p l. h p (omega arith))) (h n (omega arith))

@@ -14,7 +14,7 @@ use Rattle.model.specs.Checks.{refusalOf}
 use Rattle.model.specs.Calls.{releasesOf, columnAfter, runInputs}
 use Rattle.model.specs.Run.{jobs, finishOf, finishAt, finishList}
 use Rattle.releases.proofs.ReleaseLaws.{length-releases, release-at}
-use Rattle.model.proofs.TableLaws.{length-table}
+use Rattle.model.proofs.TableLaws.{length-table, table-agree}
 use Rattle.shaper.proofs.ShaperLaws.{maxReady}
 use Rattle.trace.specs.TraceCalls.{callInputs, Shapable}
 use Rattle.trace.proofs.ReadyAtLaws.{ready-rising}
@@ -22,7 +22,7 @@ use Rattle.trace.proofs.ListCallLaws.{Callable, callable-of, listed-shapable, r
 use Rattle.trace.proofs.CloseWalkLaws.{inside, task-is, list-high, ready-high, ready-slot}
 use Rattle.processor.proofs.FinishBound.{finish-bound}
 use Rattle.schedule.specs.Schedule.{jobsOf, maxFinish, Runnable}
-use Rattle.schedule.proofs.AgreeLaws.{Agree, finish-agree, table-agree}
+use Rattle.schedule.proofs.AgreeLaws.{Agree, finish-agree}
 
 -- the ready column once the ready ticks are written
 abbrev pub readyWritten : Tasks → List ℕ → ℕ → List ℕ → List ℕ → List ℕ → List ℕ → List ℕ

@@ -4,6 +4,5 @@ pub mod BestLaws
 pub mod PastStop
 pub mod SignedLaws
 pub mod ResponseLaws
-pub mod SameVerdict
 pub mod VerdictWalkLaws
 pub mod WalkableLaws

@@ -7,6 +7,7 @@ use native.Mathlib.Omega.{arith}
 use native.Mathlib.Decide.{decLt}
 use Rattle.model.specs.Choice.{column}
 use Rattle.model.specs.Verdict.{verdict}
+use Rattle.model.proofs.SameVerdict.{verdict-same}
 use Rattle.response.proofs.WindowLaws.{Window}
 use Rattle.taskset.specs.declared.TaskSet.{TaskSet}
 use Rattle.taskset.specs.TaskSet.{viewOf}
@@ -15,7 +16,6 @@ use Rattle.demand.proofs.TaskCallLaws.{Passed}
 use Rattle.verdict.specs.declared.Best.{Best}
 use Rattle.verdict.specs.Walking.{Walkable, Met}
 use Rattle.verdict.proofs.VerdictWalk.{Walk}
-use Rattle.verdict.proofs.SameVerdict.{verdict-same}
 
 -- R(q) is a natural number where the walk comes
 pub met-at : (loads periods keeps : List ℕ) (i J D q t : ℕ) (b : Best)
@@ -76,10 +76,11 @@ module _ (s : TaskSet) (i : ℕ) (kept loads periods : List ℕ) (p : Passed (vi
   -- the verdict by the columns is the sheet's
   pub judged : verdict (flatTasks loads periods (viewOf s .jitter i) (viewOf s .deadline i)) (column kept) i ≡ verdict (viewOf s) (column kept) i
   judged =
-      verdict-same (flatTasks loads periods (viewOf s .jitter i) (viewOf s .deadline i)) (viewOf s) (column kept) i
+      verdict-same (flatTasks loads periods (viewOf s .jitter i) (viewOf s .deadline i)) (viewOf s) (column kept) (column kept) i
       (record {
         loads = λ j l. c .load-is j (omega (arith, p .known));
         periods = λ j l. c .period-is j (omega (arith, p .known));
+        keeps = λ j l. refl;
         jitter = refl;
         deadline = refl;
       })

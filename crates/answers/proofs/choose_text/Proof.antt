@@ -23,7 +23,7 @@ enum-known-outcome : tie.Need-enum-known-outcome
 enum-known-outcome c = search needs
 
 cast-put-refusal : tie.Need-cast-put-refusal
-cast-put-refusal c = omega (arith, c .before .before .before .before .before .before .before .before .before .before .before .before .before .before .pre .0, (halts (now (c .before .before .before .before .before .before .before .before .before .before .before .before .before .before .args .file)) (replicate 1024 0) (replicate 1024 0) (replicate 1024 0) (omega arith) (omega arith) (omega arith) _ _ _ (c .before .before .outcome .given .1) (c .before .before .before .before .before .before .before .before .read .ensures .outcome)) .small)
+cast-put-refusal c = omega (arith, (halts (now (c .before .before .before .before .before .before .before .before .before .before .before .before .before .before .args .file)) (replicate 1024 0) (replicate 1024 0) (replicate 1024 0) (omega arith) (omega arith) (omega arith) _ _ _ (c .before .before .outcome .given .1) (c .before .before .before .before .before .before .before .before .read .ensures .outcome)) .small)
 
 put-refusal-requires : tie.Need-put-refusal-requires
 put-refusal-requires c κs = search needs

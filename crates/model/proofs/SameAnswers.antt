@@ -1,0 +1,247 @@
+-- Sheets that agree on the tasks below the count have the same refusals, verdicts, choices, trace checks, ready ticks and runs.
+use Prim.Native.Nat.{ℕ, zero, suc, _+_, _≤_, _<_}
+use mathlib.Core.Path.{_≡_, refl, sym, ap, ap₂, _∙_}
+use mathlib.Core.Logic.{_⊎_, inl, inr}
+use mathlib.Core.Bool.{Bool, true, false, not, _||_}
+use mathlib.Core.Option.{Option, some, none}
+use mathlib.Core.List.{List, [], _∷_, _++_}
+use native.Mathlib.Omega.{arith}
+use borrow.Author.Tests.{leb-true, leb-false}
+use lib.Dec.{leb, ltb, eqb}
+use lib.ListN.{length, getD, List·getD-eq-default}
+use Rattle.model.specs.Search.{first}
+use Rattle.model.specs.Series.{table}
+use Rattle.model.specs.Limits.{maxTasks, maxTick}
+use Rattle.model.specs.Tasks.{Tasks, Release, releaseAt, noRelease}
+use Rattle.model.specs.Arrival.{arrivals}
+use Rattle.model.specs.Gap.{own}
+use Rattle.model.specs.Ready.{after, readyTicks, place, readyAt, readyList}
+use Rattle.model.specs.Legality.{earlier, tooClose, firstClose}
+use Rattle.model.specs.Run.{finishOf, finishAt, finishList}
+use Rattle.model.specs.Verdict.{verdict}
+use Rattle.model.specs.Choice.{Choice, unfit, chosen, column, andKeep, isFits, worstOf, leastKeep, choiceNext, choiceOf, choice}
+use Rattle.model.specs.Refusal.{Refusal, answered, firstOf}
+use Rattle.model.specs.Checks.{Lent, Inputs, inRange, refuseAt, refuseIf, checkRanges, checkTasks, checkTask, checkCount, checkSlots, checkKept, releaseFault, checkReleases, checkChoice, refusalOf, answerOf}
+use Rattle.model.specs.Calls.{lends, releasesOf, columnAfter, taskInputs, arrivalCall, verdictCall, unfitOf, choiceInputs, keptColumn, worstColumn, listInputs, traceCall, readyInputs, runInputs}
+use Rattle.model.specs.SameTasks.{SameTasks, SameAnswers}
+use Rattle.model.proofs.SeriesLaws.{le-or-lt}
+use Rattle.model.proofs.CheckLaws.{valid-of, task-of}
+use Rattle.model.proofs.OrderLaws.{accepted-of, column-kept, answers, refuses}
+use Rattle.model.proofs.TraceLaws.{fault-task, trace-of}
+use Rattle.model.proofs.SameVerdict.{verdict-same}
+
+-- tests that agree on the numbers looked at give equal searches
+pub first-eq : (f g : ℕ → Bool) (n t : ℕ) → ((m : ℕ) → t ≤ m → m < t + n → f m ≡ g m) → first f n t ≡ first g n t
+unfolding first
+first-eq f g zero t h = refl
+first-eq f g (suc n) t h = λ x.
+    elim (h t (omega arith) (omega arith) x) [ true ↦ some t | false ↦ first-eq f g n (suc t) (λ m l b. h m (omega arith) (omega arith)) x ]
+
+-- equal refusals and equal values where nothing is refused give equal answers ..
+pub answer-same : {A : Type 0} (c c′ : Inputs) (a a′ : A) → refusalOf c ≡ refusalOf c′ → (none ≡ refusalOf c → a ≡ a′) → answerOf c a ≡ answerOf c′ a′
+answer-same c c′ a a′ e h = go (refusalOf c) refl
+  where
+    go : (o : Option Refusal) → o ≡ refusalOf c → answerOf c a ≡ answerOf c′ a′
+    go none n = sym (answers c a n) ∙ ap answered (h n) ∙ answers c′ a′ (n ∙ e)
+    go (some r) n = sym (refuses c a r n) ∙ refuses c′ a′ r (n ∙ e)
+
+-- .. and equal columns
+pub column-same : (r r′ : Option Refusal) (a a′ held : List ℕ) → r ≡ r′ → (none ≡ r → a ≡ a′) → columnAfter r a held ≡ columnAfter r′ a′ held
+column-same none r′ a a′ held e h = ap₂ (λ o x. columnAfter o x held) e (h refl)
+column-same (some q) r′ a a′ held e h = sym (column-kept (some q) q a held refl) ∙ column-kept r′ q a′ held e
+
+-- the fault of a release of a task of the sheet
+fault-known : (s s′ : Tasks) (before : ℕ) (r : Release) → s .count ≡ s′ .count → s .cost (r .task) ≡ s′ .cost (r .task) → releaseFault s before r ≡ releaseFault s′ before r
+unfolding releaseFault
+fault-known s s′ before r n c = λ x.
+    elim (leb (n x) (r .task)) [
+      | true ↦ some 7
+      | false ↦
+          elim (ltb (r .tick) before || ltb maxTick (r .tick)) [
+            | true ↦ some 8
+            | false ↦ elim (eqb (r .cost) 0 || ltb (c x) (r .cost)) [ true ↦ some 9 | false ↦ none ]
+          ]
+    ]
+
+module _ (s s′ : Tasks) (same : SameTasks s s′) where
+  -- the sheet
+  pub tasks-same : checkTasks s ≡ checkTasks s′
+  unfolding checkTasks checkRanges
+  tasks-same = λ x.
+      firstOf
+      (refuseIf (eqb (same .count x) 0) 5 0
+      ∷ refuseIf (ltb maxTasks (same .count x)) 4 maxTasks
+      ∷ refuseAt 6 (ranges x)
+      ∷ [])
+    where
+      ranges
+          : first (λ i. not (inRange (s .period i) (s .jitter i) (s .cost i) (s .deadline i))) (s .count) 0
+          ≡ first (λ i. not (inRange (s′ .period i) (s′ .jitter i) (s′ .cost i) (s′ .deadline i))) (s′ .count) 0
+      ranges =
+          first-eq _ _ (s .count) 0
+          (λ i l h. λ x. not (inRange (same .period i (omega arith) x) (same .jitter i (omega arith) x) (same .cost i (omega arith) x) (same .deadline i (omega arith) x)))
+          ∙ ap (λ n. first (λ i. not (inRange (s′ .period i) (s′ .jitter i) (s′ .cost i) (s′ .deadline i))) n 0) (same .count)
+
+  -- 14
+  single-same : (o : Option ℕ) → checkTask s o ≡ checkTask s′ o
+  unfolding checkTask
+  single-same none = refl
+  single-same (some i) = ap (λ n. refuseIf (leb n i) 14 i) (same .count)
+
+  -- 12
+  kept-same : (o : Option (ℕ → ℕ)) → checkKept s o ≡ checkKept s′ o
+  unfolding checkKept
+  kept-same none = refl
+  kept-same (some k) =
+      ap (refuseAt 12)
+      (first-eq _ _ (s .count) 0 (λ i l h. ap (λ j. ltb j (k i)) (same .jitter i (omega arith)))
+      ∙ ap (λ n. first (λ i. ltb (s′ .jitter i) (k i)) n 0) (same .count))
+
+  -- 7, 8, 9: a release is checked against the count and its own task's E
+  pub fault-same : (before : ℕ) (r : Release) → releaseFault s before r ≡ releaseFault s′ before r
+  fault-same before r = go (leb (s .count) (r .task)) refl
+    where
+      go : (b : Bool) → leb (s .count) (r .task) ≡ b → releaseFault s before r ≡ releaseFault s′ before r
+      go true e =
+          fault-task s before r (leb-true _ _ e) ∙ sym (fault-task s′ before r (omega (arith, leb-true (s .count) (r .task) e, same .count)))
+      go false e = fault-known s s′ before r (same .count) (same .cost (r .task) (leb-false (s .count) (r .task) e))
+
+  -- the releases in order
+  pub releases-same : (before p : ℕ) (l : List Release) → checkReleases s before p l ≡ checkReleases s′ before p l
+  unfolding checkReleases
+  releases-same before p [] = refl
+  releases-same before p (r ∷ l) = λ x. elim (fault-same before r x) [ none ↦ releases-same (r .tick) (suc p) l x | some n ↦ some (record { number = n; place = p }) ]
+
+  -- the first refusal of a call, of inputs that differ in the sheet alone
+  pub refusal-same : (o : Option ℕ) (n : Option ℕ) (c c′ : List Lent) (k : Option (ℕ → ℕ)) (l : List Release) (u u′ : Option ℕ) → c ≡ c′ → u ≡ u′
+      → refusalOf (record { tasks = s; single = o; count = n; lent = c; kept = k; releases = l; unfit = u })
+      ≡ refusalOf (record { tasks = s′; single = o; count = n; lent = c′; kept = k; releases = l; unfit = u′ })
+  unfolding refusalOf
+  refusal-same o n c c′ k l u u′ e f = λ x.
+      firstOf
+      (tasks-same x
+      ∷ single-same o x
+      ∷ checkCount n
+      ∷ checkSlots (e x)
+      ∷ kept-same k x
+      ∷ releases-same 0 0 l x
+      ∷ checkChoice (f x)
+      ∷ [])
+
+  -- the verdict of a task of the sheet
+  judged-same : (k : ℕ → ℕ) (i : ℕ) → i < s .count → verdict s k i ≡ verdict s′ k i
+  judged-same k i h =
+      verdict-same s s′ k k i
+      (record {
+        loads = λ j l. same .cost j (omega arith);
+        periods = λ j l. same .period j (omega arith);
+        keeps = λ j l. refl;
+        jitter = same .jitter i h;
+        deadline = same .deadline i h;
+      })
+
+  -- the choice, task by task
+  least-same : (above : List ℕ) (i : ℕ) → i < s .count → leastKeep s above i ≡ leastKeep s′ above i
+  unfolding leastKeep
+  least-same above i h = λ x. first (λ K. isFits (judged-same (andKeep above K) i h x)) (suc (same .jitter i h x)) 0
+
+  next-same : (i : ℕ) → i < s .count → (c : Choice) → choiceNext s i c ≡ choiceNext s′ i c
+  unfolding choiceNext
+  next-same i h (unfit n) = refl
+  next-same i h (chosen ks ws) = λ x.
+      elim (least-same ks i h x) [ none ↦ unfit i | some K ↦ chosen (ks ++ (K ∷ [])) (ws ++ (worstOf (judged-same (andKeep ks K) i h x) ∷ [])) ]
+
+  choices-same : (n : ℕ) → n ≤ s .count → choiceOf s n ≡ choiceOf s′ n
+  unfolding choiceOf
+  choices-same zero h = refl
+  choices-same (suc n) h = next-same n h (choiceOf s n) ∙ ap (choiceNext s′ n) (choices-same n (omega arith))
+
+  -- the whole choice
+  pub choice-same : choice s ≡ choice s′
+  choice-same = choices-same (s .count) (omega arith) ∙ ap (choiceOf s′) (same .count)
+
+  -- a list whose every release is of a task of the sheet: trace check, ready ticks and run
+  module _ (l : List Release) (known : (p : ℕ) → releaseAt l p .task < s .count) where
+    close-same : firstClose s l ≡ firstClose s′ l
+    unfolding firstClose tooClose
+    close-same = λ x.
+        first
+        (λ p. ltb (releaseAt l p .tick) (after (same .period (releaseAt l p .task) (known p) x) (same .jitter (releaseAt l p .task) (known p) x) (earlier l p) 1))
+        (length l)
+        0
+
+    ready-same : (k : ℕ → ℕ) → readyAt s k l ≡ readyAt s′ k l
+    unfolding readyAt
+    ready-same k = λ x p. getD (readyTicks (same .period (releaseAt l p .task) (known p) x) (k (releaseAt l p .task)) (own (releaseAt l p .task) l)) (place l p) 0
+
+    ready-list-same : (k : ℕ → ℕ) → readyList s k l ≡ readyList s′ k l
+    unfolding readyList
+    ready-list-same k = ap (λ f. table f (length l)) (ready-same k)
+
+    finish-list-same : (k : ℕ → ℕ) → finishList s k l ≡ finishList s′ k l
+    unfolding finishList finishAt
+    finish-list-same k =
+        ap
+        (λ (f : ℕ → ℕ). table
+        (finishOf (record { count = length l; task = λ p. releaseAt l p .task; start = f; work = λ p. releaseAt l p .cost; ours = λ t. true }))
+        (length l))
+        (ready-same k)
+
+  -- a list that nothing refuses is such: a place past its end stands for a release of task 0, and there is a task
+  known-of : (c : Inputs) → c .tasks ≡ s → none ≡ refusalOf c → (p : ℕ) → releaseAt (c .releases) p .task < s .count
+  known-of c e h p = rw e at (go (le-or-lt (length (c .releases)) p))
+    where
+      go : (length (c .releases) ≤ p) ⊎ (p < length (c .releases)) → releaseAt (c .releases) p .task < c .tasks .count
+      go (inl l) = rw (List·getD-eq-default (c .releases) noRelease l) (valid-of (c .tasks) (sym (accepted-of c h .tasks)) .some-task)
+      go (inr l) = trace-of (c .tasks) (c .releases) (sym (accepted-of c h .releases)) .sound p l .known
+
+  lends-same : (l : List ℕ) (c : List Lent) → lends (s .count) l ∷ c ≡ lends (s′ .count) l ∷ c
+  lends-same l c = ap (λ n. lends n l ∷ c) (same .count)
+
+  task-refusal : (i : ℕ) (kept : List ℕ) → refusalOf (taskInputs s i kept) ≡ refusalOf (taskInputs s′ i kept)
+  task-refusal i kept = refusal-same (some i) none _ _ (some (column kept)) [] none none (lends-same kept []) refl
+
+  task-known : (i : ℕ) (kept : List ℕ) → none ≡ refusalOf (taskInputs s i kept) → i < s .count
+  task-known i kept n = task-of s i (accepted-of (taskInputs s i kept) n .single)
+
+  choice-refused : (kept worst : List ℕ) → refusalOf (choiceInputs s kept worst) ≡ refusalOf (choiceInputs s′ kept worst)
+  choice-refused kept worst =
+      refusal-same none none _ _ none [] _ _ (ap (λ n. lends n kept ∷ lends n worst ∷ []) (same .count)) (ap unfitOf choice-same)
+
+  ready-refused : (kept : List ℕ) (n : ℕ) (task tick cost ready : List ℕ) → refusalOf (readyInputs s kept n task tick cost ready) ≡ refusalOf (readyInputs s′ kept n task tick cost ready)
+  ready-refused kept n task tick cost ready =
+      refusal-same none (some n) _ _ (some (column kept)) (releasesOf n task tick cost) none none (lends-same kept _) refl
+
+  run-refused : (kept : List ℕ) (n : ℕ) (task tick cost ready finish : List ℕ) → refusalOf (runInputs s kept n task tick cost ready finish) ≡ refusalOf (runInputs s′ kept n task tick cost ready finish)
+  run-refused kept n task tick cost ready finish =
+      refusal-same none (some n) _ _ (some (column kept)) (releasesOf n task tick cost) none none (lends-same kept _) refl
+
+  -- entries past the count do not matter
+  pub same-answers : SameAnswers s s′
+  unfolding arrivalCall verdictCall traceCall
+  same-answers =
+      record {
+        arrival = λ i kept t.
+            answer-same (taskInputs s i kept) (taskInputs s′ i kept) _ _ (task-refusal i kept)
+            (λ n. ap (λ P. arrivals P (column kept i) t) (same .period i (task-known i kept n)));
+        verdict = λ i kept.
+            answer-same (taskInputs s i kept) (taskInputs s′ i kept) _ _ (task-refusal i kept) (λ n. judged-same (column kept) i (task-known i kept n));
+        trace = λ n task tick cost.
+            answer-same (listInputs s n task tick cost) (listInputs s′ n task tick cost) _ _
+            (refusal-same none (some n) _ _ none (releasesOf n task tick cost) none none refl refl)
+            (λ e. close-same (releasesOf n task tick cost) (known-of (listInputs s n task tick cost) refl e));
+        choice-refusal = choice-refused;
+        choice-kept = λ kept worst. ap₂ (λ r c. columnAfter r (keptColumn c) kept) (choice-refused kept worst) choice-same;
+        choice-worst = λ kept worst. ap₂ (λ r c. columnAfter r (worstColumn c) worst) (choice-refused kept worst) choice-same;
+        ready-refusal = ready-refused;
+        ready-ticks = λ kept n task tick cost ready.
+            column-same _ _ _ _ ready (ready-refused kept n task tick cost ready)
+            (λ e. ready-list-same (releasesOf n task tick cost) (known-of (readyInputs s kept n task tick cost ready) refl e) (column kept));
+        run-refusal = run-refused;
+        run-ready = λ kept n task tick cost ready finish.
+            column-same _ _ _ _ ready (run-refused kept n task tick cost ready finish)
+            (λ e. ready-list-same (releasesOf n task tick cost) (known-of (runInputs s kept n task tick cost ready finish) refl e) (column kept));
+        run-finish = λ kept n task tick cost ready finish.
+            column-same _ _ _ _ finish (run-refused kept n task tick cost ready finish)
+            (λ e. finish-list-same (releasesOf n task tick cost) (known-of (runInputs s kept n task tick cost ready finish) refl e) (column kept));
+      }

@@ -1,0 +1,47 @@
+-- "Entries of a sheet past its count are not looked at .. and do not matter": sheets that agree on the tasks below the count, and the same answer of every call on values.
+use Prim.Native.Nat.{ℕ, _<_}
+use mathlib.Core.Path.{_≡_}
+use mathlib.Core.List.{List}
+use Rattle.model.specs.Tasks.{Tasks}
+use Rattle.model.specs.Ready.{readyList}
+use Rattle.model.specs.Run.{finishList}
+use Rattle.model.specs.Choice.{column, choice}
+use Rattle.model.specs.Checks.{refusalOf}
+use Rattle.model.specs.Calls.{releasesOf, columnAfter, arrivalCall, verdictCall, choiceInputs, keptColumn, worstColumn, traceCall, readyInputs, runInputs}
+
+-- the same count, and the same P, J, E and D of every task below it
+pub record SameTasks (s s′ : Tasks) : Type 0 where
+  pub count : s .count ≡ s′ .count
+  pub period : (i : ℕ) → i < s .count → s .period i ≡ s′ .period i
+  pub jitter : (i : ℕ) → i < s .count → s .jitter i ≡ s′ .jitter i
+  pub cost : (i : ℕ) → i < s .count → s .cost i ≡ s′ .cost i
+  pub deadline : (i : ℕ) → i < s .count → s .deadline i ≡ s′ .deadline i
+
+-- of each call on values, whatever else goes in: the same refusal, the same value, and the same in every lent column afterwards
+pub record SameAnswers (s s′ : Tasks) : Type 0 where
+  -- arrival count
+  pub arrival : (i : ℕ) (kept : List ℕ) (t : ℕ) → arrivalCall s i kept t ≡ arrivalCall s′ i kept t
+  -- verdict of one task
+  pub verdict : (i : ℕ) (kept : List ℕ) → verdictCall s i kept ≡ verdictCall s′ i kept
+  -- trace check
+  pub trace : (n : ℕ) (task tick cost : List ℕ) → traceCall s n task tick cost ≡ traceCall s′ n task tick cost
+  -- choice
+  pub choice-refusal : (kept worst : List ℕ) → refusalOf (choiceInputs s kept worst) ≡ refusalOf (choiceInputs s′ kept worst)
+  pub choice-kept : (kept worst : List ℕ) → columnAfter (refusalOf (choiceInputs s kept worst)) (keptColumn (choice s)) kept ≡ columnAfter (refusalOf (choiceInputs s′ kept worst)) (keptColumn (choice s′)) kept
+  pub choice-worst : (kept worst : List ℕ) → columnAfter (refusalOf (choiceInputs s kept worst)) (worstColumn (choice s)) worst ≡ columnAfter (refusalOf (choiceInputs s′ kept worst)) (worstColumn (choice s′)) worst
+  -- ready ticks
+  pub ready-refusal : (kept : List ℕ) (n : ℕ) (task tick cost ready : List ℕ) → refusalOf (readyInputs s kept n task tick cost ready) ≡ refusalOf (readyInputs s′ kept n task tick cost ready)
+  pub ready-ticks
+      : (kept : List ℕ) (n : ℕ) (task tick cost ready : List ℕ)
+      → columnAfter (refusalOf (readyInputs s kept n task tick cost ready)) (readyList s (column kept) (releasesOf n task tick cost)) ready
+      ≡ columnAfter (refusalOf (readyInputs s′ kept n task tick cost ready)) (readyList s′ (column kept) (releasesOf n task tick cost)) ready
+  -- run
+  pub run-refusal : (kept : List ℕ) (n : ℕ) (task tick cost ready finish : List ℕ) → refusalOf (runInputs s kept n task tick cost ready finish) ≡ refusalOf (runInputs s′ kept n task tick cost ready finish)
+  pub run-ready
+      : (kept : List ℕ) (n : ℕ) (task tick cost ready finish : List ℕ)
+      → columnAfter (refusalOf (runInputs s kept n task tick cost ready finish)) (readyList s (column kept) (releasesOf n task tick cost)) ready
+      ≡ columnAfter (refusalOf (runInputs s′ kept n task tick cost ready finish)) (readyList s′ (column kept) (releasesOf n task tick cost)) ready
+  pub run-finish
+      : (kept : List ℕ) (n : ℕ) (task tick cost ready finish : List ℕ)
+      → columnAfter (refusalOf (runInputs s kept n task tick cost ready finish)) (finishList s (column kept) (releasesOf n task tick cost)) finish
+      ≡ columnAfter (refusalOf (runInputs s′ kept n task tick cost ready finish)) (finishList s′ (column kept) (releasesOf n task tick cost)) finish

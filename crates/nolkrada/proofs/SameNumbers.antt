@@ -1,0 +1,25 @@
+-- A sheet passed as numbers: the four numbers of each task below the count are looked at, and no others.
+use Prim.Native.Nat.{ℕ, _+_, _-_, _*_, _<_, min}
+use mathlib.Core.Path.{_≡_, ap}
+use mathlib.Core.List.{List, _++_}
+use native.Mathlib.Omega.{arith}
+use lib.ListN.{getD, replicate}
+use Rattle.model.specs.Series.{table}
+use Rattle.model.proofs.TableLaws.{table-agree}
+use Rattle.taskset.specs.declared.Task.{Task}
+use Rattle.taskset.specs.TaskSet.{noTask}
+use Rattle.nolkrada.specs.Interface.{taskAt, sheetFrom}
+
+-- numbers that agree below 4 × the count are the same sheet to every call for C
+pub same-numbers : (l l′ : List ℕ) (n : ℕ) → ((j : ℕ) → j < 4 * n → getD l j 0 ≡ getD l′ j 0) → sheetFrom l n ≡ sheetFrom l′ n
+unfolding taskAt
+same-numbers l l′ n same =
+    ap (λ (t : List Task). record { tasks = t ++ replicate (32 - n) noTask; count = n }) (table-agree (taskAt l) (taskAt l′) (min n 32) entry)
+  where
+    entry : (i : ℕ) → i < min n 32 → taskAt l i ≡ taskAt l′ i
+    entry i h = λ x. record {
+      period = same (4 * i) (omega arith) x;
+      jitter = same (4 * i + 1) (omega arith) x;
+      cost = same (4 * i + 2) (omega arith) x;
+      deadline = same (4 * i + 3) (omega arith) x;
+    }

@@ -1,0 +1,53 @@
+-- A code tells the number and the place of its refusal: nothing is lost where both go into one number.
+use Prim.Native.Nat.{ℕ, _<_, _/_, _%_}
+use mathlib.Core.Path.{_≡_}
+use mathlib.Core.Bool.{true, false}
+use mathlib.Core.Option.{Option, some, none}
+use mathlib.Core.List.{List}
+use lib.Dec.{eqb}
+use lib.ListN.{length}
+use Rattle.model.specs.Refusal.{Refusal, Answer, refused, answered}
+use Rattle.model.specs.Checks.{refusalOf}
+use Rattle.model.specs.Calls.{arrivalCall, verdictCall, traceCall, choiceInputs, readyInputs, runInputs}
+use Rattle.taskset.specs.TaskSet.{viewOf}
+use Rattle.nolkrada.specs.Interface.{sheetFrom, codeOf, codeIn, asWords, withSlots, oneWord, verdictWords, traceWords}
+use Rattle.nolkrada.specs.Files.{readAnswer, writeAnswer}
+
+-- what a code tells: 0, that nothing is refused; else the number, code ÷ 2^32, and the place, the rest
+unfoldable pub told : ℕ → Option Refusal
+told c = elim (eqb c 0) [ true ↦ none | false ↦ some (record { number = c / 4294967296; place = c % 4294967296 }) ]
+
+-- the refusal of an answer, if any
+unfoldable pub refusalFrom : {A : Type 0} → Answer A → Option Refusal
+refusalFrom (answered a) = none
+refusalFrom (refused r) = some r
+
+-- the code of a refusal or of an answer tells just that refusal
+abbrev pub Tells : Option Refusal → Type 0
+Tells o = told (codeOf o) ≡ o
+
+abbrev pub TellsOf : {A : Type 0} → Answer A → Type 0
+TellsOf a = told (codeIn a) ≡ refusalFrom a
+
+-- the codes that the calls for C return, whatever goes in; a task number is one of 32 bits
+pub record CodesTell : Type 0 where
+  pub arrival
+      : (sheet : List ℕ) (count task : ℕ) (kept : List ℕ) (t : ℕ) (answer : List ℕ)
+      → task < 4294967296
+      → TellsOf (withSlots 1 (length answer) (asWords oneWord (arrivalCall (viewOf (sheetFrom sheet count)) task kept t)))
+  pub verdict
+      : (sheet : List ℕ) (count task : ℕ) (kept answer : List ℕ)
+      → task < 4294967296
+      → TellsOf (withSlots 3 (length answer) (asWords verdictWords (verdictCall (viewOf (sheetFrom sheet count)) task kept)))
+  pub choice : (sheet : List ℕ) (count : ℕ) (kept worst : List ℕ) → Tells (refusalOf (choiceInputs (viewOf (sheetFrom sheet count)) kept worst))
+  pub trace
+      : (sheet : List ℕ) (count n : ℕ) (task tick cost answer : List ℕ)
+      → TellsOf (withSlots 2 (length answer) (asWords traceWords (traceCall (viewOf (sheetFrom sheet count)) n task tick cost)))
+  pub ready
+      : (sheet : List ℕ) (count : ℕ) (kept : List ℕ) (n : ℕ) (task tick cost ready : List ℕ)
+      → Tells (refusalOf (readyInputs (viewOf (sheetFrom sheet count)) kept n task tick cost ready))
+  pub run
+      : (sheet : List ℕ) (count : ℕ) (kept : List ℕ) (n : ℕ) (task tick cost ready finish : List ℕ)
+      → Tells (refusalOf (runInputs (viewOf (sheetFrom sheet count)) kept n task tick cost ready finish))
+  pub read : (file sheet task tick cost answer : List ℕ) → TellsOf (readAnswer file sheet task tick cost answer)
+  pub write : (sheet : List ℕ) (count n : ℕ) (task tick cost out answer : List ℕ) → TellsOf (writeAnswer sheet count n task tick cost out answer)

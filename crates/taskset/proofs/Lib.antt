@@ -1,0 +1,2 @@
+-- Laws of task sets by value.
+pub mod SameEntries
