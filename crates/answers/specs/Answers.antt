@@ -1,7 +1,8 @@
 -- What each program prints for the bytes of a file.
 use Prim.Native.Nat.{ℕ}
+use mathlib.Core.Path.{_≡_}
 use mathlib.Core.List.{List, map}
-use lib.ListN.{length}
+use lib.ListN.{length, take}
 use lib.IntN.{natAbs}
 use Rattle.model.specs.Tasks.{Tasks, Release}
 use Rattle.model.specs.Refusal.{refused, answered}
@@ -11,6 +12,7 @@ use Rattle.model.specs.Calls.{releasesOf}
 use Rattle.model.specs.Choice.{Choice, unfit, chosen, column, choice}
 use Rattle.fileformat.specs.File.{sheetOf, decode}
 use Rattle.report.specs.Report.{choiceText, runText, refusalText}
+use Rattle.report.specs.PutLine.{PutLine}
 
 -- the columns of a list of releases
 abbrev pub tasksOf : List Release → List ℕ
@@ -48,3 +50,12 @@ replayText f =
       | refused r ↦ refusalText (r .number) (r .place)
       | answered x ↦ listText (sheetOf (x .tasks)) (length (x .releases)) (tasksOf (x .releases)) (ticksOf (x .releases)) (costsOf (x .releases)) (choice (sheetOf (x .tasks)))
     ]
+
+-- n bytes of a file were read into a buffer: the file's first bytes, to its end or until the buffer was full
+abbrev pub WasRead : List ℕ → List ℕ → ℕ → Type 0
+WasRead file buffer n = take n buffer ≡ take (length buffer) file
+
+-- a program's text, of at most m bytes: that of the n bytes read, which is that of the whole file, however long it is
+pub record Printed (text : List ℕ → List ℕ) (m : ℕ) (buffer : List ℕ) (n : ℕ) (held now : List ℕ) (r : ℕ) : Type 0 where
+  pub line : PutLine m held 0 (text (take n buffer)) now r
+  pub whole : (file : List ℕ) → WasRead file buffer n → text (take n buffer) ≡ text file

@@ -11,7 +11,7 @@ ghost use Rattle.model.specs.Choice.{choice};
 ghost use Rattle.model.specs.Calls.{releasesOf};
 ghost use Rattle.taskset.specs.TaskSet.{viewOf};
 ghost use Rattle.report.specs.PutLine.{PutLine};
-ghost use Rattle.answers.specs.Answers.{chosenText, chooseText, listText, replayText};
+ghost use Rattle.answers.specs.Answers.{chosenText, chooseText, listText, replayText, Printed};
 ghost use Rattle.answers.specs.Listed.{Listed, Kept, keptText};
 
 // The text of the choice of a task set.
@@ -71,15 +71,16 @@ fn put_replayed(
     }
 }
 
-// What the first program prints for a file of at most 10,801 bytes: the choice, or a refusal.
-pub fn choose_text(file: &[u8], out: &mut [u8]) -> usize
-    requires { ⌜ (length (now file) ≤ 10801) × (2560 ≤ length (now out)) ⌝ }
-    ensures { λ r. ⌜ PutLine 2560 (now (out .entry)) 0 (chooseText (now (file .entry))) (now (out .exit)) r ⌝ }
+// What the first program prints after a read of n bytes into its buffer: the choice, or a refusal.
+pub fn choose_text(file: &[u8; 10801], n: usize, out: &mut [u8]) -> usize
+    requires { ⌜ (n ≤ length (now file)) × (2560 ≤ length (now out)) ⌝ }
+    ensures { λ r. ⌜ Printed chooseText 2560 (now (file .entry)) n (now (out .entry)) (now (out .exit)) r ⌝ }
 {
     let mut task: [u32; 1024] = [0; 1024];
     let mut tick: [u32; 1024] = [0; 1024];
     let mut cost: [u32; 1024] = [0; 1024];
-    let got = reader::read(file, &mut task, &mut tick, &mut cost);
+    let bytes: &[u8] = file;
+    let got = reader::read(&bytes[..n], &mut task, &mut tick, &mut cost);
     let outcome = got.outcome;
     let tasks = got.tasks;
     match outcome {
@@ -88,15 +89,16 @@ pub fn choose_text(file: &[u8], out: &mut [u8]) -> usize
     }
 }
 
-// What the second program prints for a file of at most 10,801 bytes: the run with the chosen kept jitters, or a refusal.
-pub fn replay_text(file: &[u8], out: &mut [u8]) -> usize
-    requires { ⌜ (length (now file) ≤ 10801) × (67648 ≤ length (now out)) ⌝ }
-    ensures { λ r. ⌜ PutLine 67648 (now (out .entry)) 0 (replayText (now (file .entry))) (now (out .exit)) r ⌝ }
+// What the second program prints after a read of n bytes into its buffer: the run with the chosen kept jitters, or a refusal.
+pub fn replay_text(file: &[u8; 10801], n: usize, out: &mut [u8]) -> usize
+    requires { ⌜ (n ≤ length (now file)) × (67648 ≤ length (now out)) ⌝ }
+    ensures { λ r. ⌜ Printed replayText 67648 (now (file .entry)) n (now (out .entry)) (now (out .exit)) r ⌝ }
 {
     let mut task: [u32; 1024] = [0; 1024];
     let mut tick: [u32; 1024] = [0; 1024];
     let mut cost: [u32; 1024] = [0; 1024];
-    let got = reader::read(file, &mut task, &mut tick, &mut cost);
+    let bytes: &[u8] = file;
+    let got = reader::read(&bytes[..n], &mut task, &mut tick, &mut cost);
     let outcome = got.outcome;
     let tasks = got.tasks;
     match outcome {

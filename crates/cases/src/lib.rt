@@ -7,7 +7,7 @@ use taskset::Task;
 use taskset::TaskSet;
 ghost use Prim.Native.Nat.{_+_, _≤_, _<_, min};
 ghost use mathlib.Core.Path.{_≡_};
-ghost use lib.ListN.{length};
+ghost use lib.ListN.{length, drop};
 ghost use Rattle.io.specs.Counts.{Counts};
 ghost use Rattle.cases.specs.Cases.{numberAt, entryOf, Numbers, SetIn};
 
@@ -61,9 +61,10 @@ fn numbers(s: &[u8], out: &mut [u32]) -> usize
     i
 }
 
-// Reads a block of numbers to the start of a column; the answer is how many were read.
+// Reads a block of numbers to the start of a column; the answer is how many were read. The slots past them keep what they held.
 pub fn read_column(out: &mut [u32]) -> usize
     ensures { λ r. ⌜ Counts r (now (out .exit)) ⌝ }
+    ensures { λ r. ⌜ drop r (now (out .exit)) ≡ drop r (now (out .entry)) ⌝ }
 {
     let mut bytes = [0u8; 4224];
     let n = read_block(&mut bytes);

@@ -2,7 +2,9 @@
 use Prim.Native.Nat.{ℕ, _+_, _-_, _*_, _≤_, _<_, min}
 use mathlib.Core.Path.{_≡_}
 use native.Mathlib.Omega.{arith}
+use native.Mathlib.Nat.{add-mul}
 use borrow.Author.Tests.{lt-ltb, le-ltb, le-leb, lt-leb}
+use Rattle.model.specs.Gap.{gap}
 use Rattle.choice.specs.declared.Least.the-variants.{Keep, Unfit}
 use Rattle.choice.specs.declared.Step.the-variants.{Done, Next}
 use Rattle.choice.specs.Choices.{nextHigh, stepOf}
@@ -19,14 +21,23 @@ module _ (P J D high q w : ℕ) where
       → n ≡ nextHigh P J high q w
       → k ≡ n - D
       → m ≡ min n D
-      → k + w ≤ q * P + P
+      → w ≤ gap P k (q + 1)
       → Done (Keep k m) ≡ stepOf P J D high q w
   unfolding stepOf
   step-keep u n k m e f g h =
-      rw (stepOf, le-ltb (D + (q * P - J)) w u, le-leb (nextHigh P J high q w - D + w) (q * P + P) (omega arith), ← e, ← f, ← g)
+      rw (stepOf, le-ltb (D + (q * P - J)) w u, le-leb w (gap P (nextHigh P J high q w - D) (q + 1)) (rw (← e, ← f) h), ← e, ← f, ← g)
 
   -- it does not
-  pub step-next : w ≤ D + (q * P - J) → (n : ℕ) → n ≡ nextHigh P J high q w → q * P + P < n - D + w → Next n ≡ stepOf P J D high q w
+  pub step-next : w ≤ D + (q * P - J) → (n : ℕ) → n ≡ nextHigh P J high q w → gap P (n - D) (q + 1) < w → Next n ≡ stepOf P J D high q w
   unfolding stepOf
   step-next u n e h =
-      rw (stepOf, le-ltb (D + (q * P - J)) w u, lt-leb (nextHigh P J high q w - D + w) (q * P + P) (omega arith), ← e)
+      rw (stepOf, le-ltb (D + (q * P - J)) w u, lt-leb w (gap P (nextHigh P J high q w - D) (q + 1)) (rw (← e) h), ← e)
+
+-- the stop W(q) ≤ d_K(q + 1), without the cut at 0: W(q) is at least 1
+pub gap-over : (P K q w : ℕ) → 1 ≤ w → w ≤ gap P K (q + 1) → K + w ≤ q * P + P
+unfolding gap
+gap-over P K q w l h = omega (arith, add-mul q 1 P)
+
+pub gap-under : (P K q w : ℕ) → gap P K (q + 1) < w → q * P + P < K + w
+unfolding gap
+gap-under P K q w h = omega (arith, add-mul q 1 P)

@@ -1,13 +1,13 @@
 -- The loop over the tasks that makes the choice.
 use Prim.Native.Nat.{ℕ, suc, _+_, _≤_, _<_}
-use mathlib.Core.Path.{_≡_, refl, sym}
+use mathlib.Core.Path.{_≡_, refl, sym, _∙_}
 use mathlib.Core.Logic.{dite}
 use mathlib.Core.List.{List, [], _∷_, map, map-append}
 use native.Mathlib.Omega.{arith}
 use native.Mathlib.Decide.{decLt}
 use native.Mathlib.Numerals.{add-one}
 use borrow.Author.Tests.{le-leb, lt-leb}
-use lib.ListN.{length, take, set, length-set}
+use lib.ListN.{length, take, set, replicate, length-set, getD-replicate}
 use lib.Seq.{take-suc-set, getD-set-same, getD-set-other}
 use lib.IntN.{pos}
 use Rattle.model.specs.Limits.{maxTasks, maxTime}
@@ -21,6 +21,10 @@ use Rattle.choice.specs.declared.Least.the-variants.{Keep, Unfit}
 use Rattle.choice.specs.Choices.{Flat, Walkable, LeastOf, choiceIn, ChoicesAre}
 use Rattle.choice.proofs.NextChoiceLaws.{choice-start, next-keep, next-unfit, unfit-stays}
 
+-- a slot set, and those past it kept
+past-next : (l : List ℕ) (i v : ℕ) → ((m : ℕ) → i ≤ m → m < maxTasks → column l m ≡ 0) → (m : ℕ) → i + 1 ≤ m → m < maxTasks → column (set l i v) m ≡ 0
+past-next l i v g m k h = getD-set-other l i m v 0 (λ e. omega arith) ∙ g m (omega arith) h
+
 -- the choice of the tasks above i is made
 pub record Choosing (s : TaskSet) (loads periods keep worst : List ℕ) (i : ℕ) : Type 0 where
   pub valid : Valid (viewOf s)
@@ -30,22 +34,21 @@ pub record Choosing (s : TaskSet) (loads periods keep worst : List ℕ) (i : ℕ
   pub worst-long : length worst ≡ maxTasks
   pub kept-small : (m : ℕ) → m < i → column keep m ≤ maxTime
   pub so-far : choiceOf (viewOf s) i ≡ chosen (take i keep) (map pos (take i worst))
+  pub keep-past : (m : ℕ) → i ≤ m → m < maxTasks → column keep m ≡ 0
+  pub worst-past : (m : ℕ) → i ≤ m → m < maxTasks → column worst m ≡ 0
 
 module _ (s : TaskSet) (loads periods : List ℕ) where
-  pub choosing-none : (keep worst : List ℕ)
-      → Valid (viewOf s)
-      → Copied s (s .count) loads periods
-      → length keep ≡ maxTasks
-      → length worst ≡ maxTasks
-      → Choosing s loads periods keep worst 0
-  choosing-none keep worst v c h g = record {
+  pub choosing-none : Valid (viewOf s) → Copied s (s .count) loads periods → Choosing s loads periods (replicate maxTasks 0) (replicate maxTasks 0) 0
+  choosing-none v c = record {
     valid = v;
     within = omega arith;
     copied = c;
-    keep-long = h;
-    worst-long = g;
+    keep-long = refl;
+    worst-long = refl;
     kept-small = λ m l. absurd (omega arith);
     so-far = choice-start (viewOf s);
+    keep-past = λ m l h. getD-replicate maxTasks m 0 0 h;
+    worst-past = λ m l h. getD-replicate maxTasks m 0 0 h;
   }
 
   module _ (keep worst : List ℕ) (i : ℕ) (f : Choosing s loads periods keep worst i) where
@@ -101,6 +104,10 @@ module _ (s : TaskSet) (loads periods : List ℕ) where
       pub choosing-unfit : LeastOf loads periods keep i (viewOf s .jitter i) (viewOf s .deadline i) Unfit → ChoicesAre (viewOf s) (record { keep = keep; worst = worst; fitted = i })
       choosing-unfit h = record {
         is = rw (choiceIn, lt-leb (s .count) i l) (sym (unfit-stays (viewOf s) i (suc i) (s .count) l (next-unfit (viewOf s) i _ _ (f .so-far) (h (viewOf s) flat-view))));
+        within = f .within;
+        so-far = f .so-far;
+        keep-past = f .keep-past;
+        worst-past = f .worst-past;
         keep-long = f .keep-long;
         worst-long = f .worst-long;
       }
@@ -119,6 +126,8 @@ module _ (s : TaskSet) (loads periods : List ℕ) where
         so-far =
             rw (add-one, take-suc-set keep i K keep-there, take-suc-set worst i w worst-there, map-append pos (take i worst) (w ∷ []))
             (next-keep (viewOf s) i K (pos w) _ _ (f .so-far) (h (viewOf s) flat-view .0) (h (viewOf s) flat-view .1));
+        keep-past = past-next keep i K (f .keep-past);
+        worst-past = past-next worst i w (f .worst-past);
       }
         where
           keep-there : i < length keep
@@ -142,6 +151,10 @@ module _ (s : TaskSet) (loads periods : List ℕ) where
         let e : i ≡ s .count = omega arith in
         record {
           is = rw (choiceIn, le-leb (s .count) (s .count) (omega arith)) (sym (rw e at (f .so-far)));
+          within = omega arith;
+          so-far = rw e at (f .so-far);
+          keep-past = rw e at (f .keep-past);
+          worst-past = rw e at (f .worst-past);
           keep-long = f .keep-long;
           worst-long = f .worst-long;
         }

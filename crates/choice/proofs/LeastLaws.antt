@@ -10,6 +10,7 @@ use native.Mathlib.Numerals.{add-one}
 use lib.ListN.{length, take, length-take}
 use lib.Seq.{getD-take}
 use Rattle.model.specs.Tasks.{Tasks}
+use Rattle.model.specs.Gap.{gap}
 use Rattle.model.specs.Demand.{window}
 use Rattle.model.specs.Choice.{column, andKeep}
 use Rattle.response.proofs.WindowLaws.{Window, window-some, window-over}
@@ -18,7 +19,7 @@ use Rattle.choice.specs.declared.Least.the-variants.{Keep, Unfit}
 use Rattle.choice.specs.declared.Step.{Step}
 use Rattle.choice.specs.declared.Step.the-variants.{Done, Next}
 use Rattle.choice.specs.Choices.{flat, Searched, Flat, Walkable, LeastOf, nextHigh, stepOf, Stepped}
-use Rattle.choice.proofs.ChoiceStepLaws.{step-over, step-keep, step-next}
+use Rattle.choice.proofs.ChoiceStepLaws.{step-over, step-keep, step-next, gap-over, gap-under}
 use Rattle.choice.proofs.VerdictOfKeepLaws.{window-same, keep-above}
 use Rattle.choice.proofs.ChoiceWalkLaws.{Walked, walk-start, walk-none, walk-over, walk-next, walk-keep, walk-worst}
 
@@ -147,6 +148,8 @@ module _ (loads periods keeps : List ℕ) (i J D : ℕ) (may : Walkable loads pe
         where
           inside : w ≤ D + (q * column periods i - J) → Stepping loads periods keeps i J D q w (stepOf (column periods i) J D high q w)
           inside u =
-              dite (decLt (q * column periods i + column periods i) (N u - D + w))
-              (λ l. rw (← step-next _ _ _ high q w u (N u) refl l) (goes u l))
-              (λ l. rw (← step-keep _ _ _ high q w u (N u) _ _ refl refl refl (omega arith)) (keeps-it u (omega arith)))
+              dite (decLt (gap (column periods i) (N u - D) (q + 1)) w)
+              (λ l. rw (← step-next _ _ _ high q w u (N u) refl l) (goes u (gap-under (column periods i) (N u - D) q w l)))
+              (λ l.
+              rw (← step-keep _ _ _ high q w u (N u) _ _ refl refl refl (omega arith))
+              (keeps-it u (gap-over (column periods i) (N u - D) q w (facts .low) (omega arith))))

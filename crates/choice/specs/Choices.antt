@@ -9,9 +9,10 @@ use lib.ListN.{length, take}
 use lib.IntN.{pos}
 use Rattle.model.specs.Limits.{maxTasks, maxTime, horizonTick}
 use Rattle.model.specs.Tasks.{Tasks, load, InRange}
+use Rattle.model.specs.Gap.{gap}
 use Rattle.model.specs.Demand.{window}
 use Rattle.model.specs.Verdict.{verdict}
-use Rattle.model.specs.Choice.{column, andKeep, leastKeep, worstOf, Choice, unfit, chosen, choice}
+use Rattle.model.specs.Choice.{column, andKeep, leastKeep, worstOf, Choice, unfit, chosen, choiceOf, choice}
 use Rattle.demand.specs.Columns.{flatTasks, Searchable}
 use Rattle.demand.specs.Searching.{Search}
 use Rattle.choice.specs.declared.Window.{Window}
@@ -56,7 +57,7 @@ stepOf P J D high q w =
     elim (ltb (D + (q * P - J)) w) [
       | true ↦ Done Unfit
       | false ↦
-          elim (leb (nextHigh P J high q w - D + w) (q * P + P)) [
+          elim (leb w (gap P (nextHigh P J high q w - D) (q + 1))) [
             | true ↦ Done (Keep (nextHigh P J high q w - D) (min (nextHigh P J high q w) D))
             | false ↦ Next (nextHigh P J high q w)
           ]
@@ -97,7 +98,12 @@ LeastOf loads periods keeps i J D r = (s : Tasks) → Flat s loads periods i J D
 abbrev pub choiceIn : ℕ → Choices → Choice
 choiceIn n r = elim (leb n (r .fitted)) [ true ↦ chosen (take n (r .keep)) (map pos (take n (r .worst))) | false ↦ unfit (r .fitted) ]
 
+-- the choice of a task set: the columns hold that of the tasks that fit, down to the first that does not, and 0 past them
 pub record ChoicesAre (s : Tasks) (r : Choices) : Type 0 where
   pub is : choiceIn (s .count) r ≡ choice s
+  pub within : r .fitted ≤ s .count
+  pub so-far : choiceOf s (r .fitted) ≡ chosen (take (r .fitted) (r .keep)) (map pos (take (r .fitted) (r .worst)))
+  pub keep-past : (m : ℕ) → r .fitted ≤ m → m < maxTasks → column (r .keep) m ≡ 0
+  pub worst-past : (m : ℕ) → r .fitted ≤ m → m < maxTasks → column (r .worst) m ≡ 0
   pub keep-long : length (r .keep) ≡ maxTasks
   pub worst-long : length (r .worst) ≡ maxTasks

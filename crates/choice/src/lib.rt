@@ -81,11 +81,11 @@ fn step_at(period: u32, jitter: u32, deadline: u32, high: u32, q: u32, w: u32) -
         return Step::Done(Least::Unfit);
     }
     let next = larger(wide(high), less(t + wide(jitter), base));
-    let keep = less(next, d);
-    if keep + t <= base + wide(period) {
+    let keep = less(next, d) as u32;
+    if t <= shaper::gap(period, keep, q + 1) {
         return Step::Done(Least::Keep {
-            keep: keep as u32,
-            worst: (next - keep) as u32,
+            keep: keep,
+            worst: (next - wide(keep)) as u32,
         });
     }
     Step::Next(next as u32)

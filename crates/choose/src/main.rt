@@ -7,6 +7,6 @@ fn main() {
     let mut file: [u8; 10801] = [0; 10801];
     let n = io::read_full(STDIN_FILENO, &mut file);
     let mut out: [u8; 2560] = [0; 2560];
-    let m = answers::choose_text(&file[..n], &mut out);
+    let m = answers::choose_text(&file, n, &mut out);
     io::write_all(STDOUT_FILENO, &out[..m]);
 }

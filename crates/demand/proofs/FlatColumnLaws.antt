@@ -7,9 +7,10 @@ use native.Mathlib.Omega.{arith}
 use native.Mathlib.Nat.{mul-le-mul, div-le-self}
 use native.Mathlib.Decide.{decLt}
 use native.Mathlib.Numerals.{add-one}
-use lib.ListN.{length, set, length-set}
+use lib.ListN.{length, set, replicate, length-set, getD-replicate}
 use lib.Seq.{getD-set-same, getD-set-other}
 use Rattle.model.specs.Series.{sum}
+use Rattle.model.specs.Limits.{maxTasks}
 use Rattle.model.specs.Tasks.{load}
 use Rattle.model.specs.Demand.{aboveLoad}
 use Rattle.model.specs.Choice.{column}
@@ -90,15 +91,21 @@ slot-next l f j h g m k =
     (λ b. getD-set-other l j m (f j) 0 (λ e. omega arith) ∙ g m b)
     (λ b. let e : m ≡ j = omega arith in rw e (getD-set-same l j (f j) 0 h))
 
+-- a slot set, and those past it kept
+past-next : (l : List ℕ) (j v : ℕ) → ((m : ℕ) → j ≤ m → m < maxTasks → column l m ≡ 0) → (m : ℕ) → j + 1 ≤ m → m < maxTasks → column (set l j v) m ≡ 0
+past-next l j v g m k h = getD-set-other l j m v 0 (λ e. omega arith) ∙ g m (omega arith) h
+
 -- nothing is copied
-pub copied-none : (s : TaskSet) (loads periods : List ℕ) → length loads ≡ 32 → length periods ≡ 32 → Copied s 0 loads periods
-copied-none s loads periods h g =
+pub copied-none : (s : TaskSet) → Copied s 0 (replicate maxTasks 0) (replicate maxTasks 0)
+copied-none s =
     record {
       within = omega arith;
-      loads-long = h;
-      periods-long = g;
+      loads-long = refl;
+      periods-long = refl;
       load-is = λ m l. absurd (omega arith);
       period-is = λ m l. absurd (omega arith);
+      load-past = λ m l h. getD-replicate maxTasks m 0 0 h;
+      period-past = λ m l h. getD-replicate maxTasks m 0 0 h;
     }
 
 -- one task more
@@ -114,6 +121,8 @@ copied-next s loads periods j few f l =
       periods-long = simp length-set (f .periods-long);
       load-is = slot-next loads (λ m. load (viewOf s) m) j (omega arith) (f .load-is);
       period-is = slot-next periods (λ m. viewOf s .period m) j (omega arith) (f .period-is);
+      load-past = past-next loads j _ (f .load-past);
+      period-past = past-next periods j _ (f .period-past);
     }
 
 -- all tasks

@@ -67,10 +67,12 @@ pub record IsOnce (loads : List ℕ) (n r : ℕ) : Type 0 where
   pub is : r ≡ sum (column loads) n
   pub high : r ≤ 32000000
 
--- columns that hold loads and periods of the first j tasks of a task set
+-- columns that hold loads and periods of the first j tasks of a task set, and 0 past them
 pub record Copied (s : TaskSet) (j : ℕ) (loads periods : List ℕ) : Type 0 where
   pub within : j ≤ s .count
   pub loads-long : length loads ≡ 32
   pub periods-long : length periods ≡ 32
   pub load-is : (m : ℕ) → m < j → column loads m ≡ load (viewOf s) m
   pub period-is : (m : ℕ) → m < j → column periods m ≡ viewOf s .period m
+  pub load-past : (m : ℕ) → j ≤ m → m < maxTasks → column loads m ≡ 0
+  pub period-past : (m : ℕ) → j ≤ m → m < maxTasks → column periods m ≡ 0

@@ -7,6 +7,6 @@ fn main() {
     let mut file: [u8; 10801] = [0; 10801];
     let n = io::read_full(STDIN_FILENO, &mut file);
     let mut out: [u8; 67648] = [0; 67648];
-    let m = answers::replay_text(&file[..n], &mut out);
+    let m = answers::replay_text(&file, n, &mut out);
     io::write_all(STDOUT_FILENO, &out[..m]);
 }

@@ -58,10 +58,11 @@ earliest f (suc n) = min (earliest f n) (f n)
 abbrev pub wakeAll : List ℕ → List ℕ → ℕ → ℕ → ℕ
 wakeAll head ready n tasks = earliest (λ i. wakeOf ready n (getD head i 0)) tasks
 
--- the first n slots of a column of k slots hold f 0, .., f (n - 1)
+-- the first n slots of a column of k slots hold f 0, .., f (n - 1), and the others 0
 pub record Holds (f : ℕ → ℕ) (n k : ℕ) (l : List ℕ) : Type 0 where
   pub long : length l ≡ k
   pub each : (p : ℕ) → p < n → getD l p 0 ≡ f p
+  pub past : (p : ℕ) → n ≤ p → p < k → getD l p 0 ≡ 0
 
 -- columns of n releases that can be run: tasks and finish ticks within their limits, costs of at least 1, and ready ticks that never fall along a task
 pub record Runnable (n tasks : ℕ) (task cost ready finish : List ℕ) : Type 0 where

@@ -8,7 +8,7 @@ use native.Mathlib.Omega.{arith}
 use native.Mathlib.Decide.{ℕ-discrete}
 use borrow.Author.Tests.{ne-eqb}
 use lib.Dec.{eqb}
-use lib.ListN.{length, getD, take, drop, set, replicate, length-set}
+use lib.ListN.{length, getD, take, drop, set, replicate, length-set, getD-replicate}
 use lib.Seq.{take-suc, length-take-le, getD-take, getD-set-same, getD-set-other}
 use Rattle.model.specs.Limits.{maxTasks, maxTime, maxReleases, maxTick}
 use Rattle.model.specs.Tasks.{Tasks, Release, releaseAt, noRelease}
@@ -19,7 +19,7 @@ use Rattle.shaper.specs.declared.Shaped.{Shaped}
 use Rattle.shaper.specs.Shaper.{stateOf, Small, Shapes}
 use Rattle.shaper.proofs.History.{historyOf, history-snoc, ready-here}
 use Rattle.shaper.proofs.ShaperLaws.{Within, small-within, history-none, shapes-list}
-use Rattle.trace.specs.Standing.{Standing}
+use Rattle.trace.specs.Standing.{unused, Standing}
 use Rattle.trace.proofs.PositionLaws.{own-append, own-same, own-split, own-at, place-of, Held, held}
 use Rattle.trace.proofs.ReadyAtLaws.{ready-own}
 
@@ -81,23 +81,29 @@ history-next s k l p i a h e f =
     ap (historyOf (s .period i) (k i)) (own-next l p h i a e f) ∙ history-snoc (s .period i) (k i) (own i (take p l)) a
 
 -- no shaper yet
-pub standing-none : (P K : ℕ → ℕ) (h : ℕ → List ℕ) (x : Shaper) → Standing P K h 0 (replicate maxTasks x)
-standing-none P K h x = record { long = refl; state = λ i g d. absurd (omega arith) }
+pub standing-none : (P K : ℕ → ℕ) (h : ℕ → List ℕ) (x : Shaper) → x ≡ unused → Standing P K h 0 (replicate maxTasks x)
+standing-none P K h x e =
+    record { long = refl; state = λ i g d. absurd (omega arith); past = λ i g k d. getD-replicate maxTasks i x d k ∙ e }
 
--- the shapers of fewer tasks
-pub standing-fewer : (P K : ℕ → ℕ) (h : ℕ → List ℕ) (n c : ℕ) (m : List Shaper) → Standing P K h n m → c ≤ n → Standing P K h c m
-standing-fewer P K h n c m st g = record { long = st .long; state = λ i l d. st .state i (omega arith) d }
+-- the shapers of all tasks
+pub standing-all : (P K : ℕ → ℕ) (h : ℕ → List ℕ) (n c : ℕ) (m : List Shaper) → Standing P K h n m → n ≡ c → Standing P K h c m
+standing-all P K h n c m st e = rw e at st
 
 -- the shaper of task i stored: the others stand for what they stood for
 standing-set
     : (P K : ℕ → ℕ) (h h′ : ℕ → List ℕ) (n n′ : ℕ) (m : List Shaper) (i : ℕ) (x : Shaper)
     → Standing P K h n m
     → i < maxTasks
+    → (n ≤ n′) × (i < n′)
     → x ≡ stateOf (P i) (K i) (h′ i)
     → ((j : ℕ) → j < n′ → (i ≡ j → ⊥) → (j < n) × (h′ j ≡ h j))
     → Standing P K h′ n′ (set m i x)
-standing-set P K h h′ n n′ m i x st placed e others =
-    record { long = simp length-set (st .long); state = λ j g d. dite (ℕ-discrete i j) (same d) (other j g d) }
+standing-set P K h h′ n n′ m i x st placed below e others =
+    record {
+      long = simp length-set (st .long);
+      state = λ j g d. dite (ℕ-discrete i j) (same d) (other j g d);
+      past = λ j g k d. getD-set-other m i j x d (λ f. omega arith) ∙ st .past j (omega arith) k d;
+    }
   where
     same : (d : Shaper) {j : ℕ} → i ≡ j → getD (set m i x) j d ≡ stateOf (P j) (K j) (h′ j)
     same d {j} c = rw (← c) (getD-set-same m i x d (omega (arith, st .long)) ∙ e)
@@ -113,7 +119,7 @@ pub standing-more
     → n < maxTasks
     → x ≡ stateOf (P n) (K n) []
     → Standing P K (λ i. []) (n + 1) (set m n x)
-standing-more P K n m x st placed e = standing-set P K _ _ n (n + 1) m n x st placed e (λ j g c. (omega (arith, c), refl))
+standing-more P K n m x st placed e = standing-set P K _ _ n (n + 1) m n x st placed (omega arith, omega arith) e (λ j g c. (omega (arith, c), refl))
 
 -- the shapers stand for the releases before position p
 abbrev pub StandingAt : Tasks → (ℕ → ℕ) → List Release → List Shaper → ℕ → Type 0
@@ -123,7 +129,11 @@ module _ (s : Tasks) (k : ℕ → ℕ) (l : List Release) (m : List Shaper) wher
   pub standing-fresh : Standing (s .period) k (λ i. []) (s .count) m → StandingAt s k l m 0
   unfolding own
   standing-fresh st =
-      record { long = st .long; state = λ i h d. st .state i h d ∙ ap (stateOf (s .period i) (k i)) (sym (history-none (s .period i) (k i))) }
+      record {
+        long = st .long;
+        state = λ i h d. st .state i h d ∙ ap (stateOf (s .period i) (k i)) (sym (history-none (s .period i) (k i)));
+        past = st .past;
+      }
 
   -- the release at p, of task i at tick a, goes through its shaper
   module _
@@ -159,7 +169,8 @@ module _ (s : Tasks) (k : ℕ → ℕ) (l : List Release) (m : List Shaper) wher
 
       pub standing-step : StandingAt s k l (set m i (g .state)) (suc p)
       standing-step =
-          standing-set (s .period) k (historyAt s k l p) (historyAt s k l (suc p)) (s .count) (s .count) m i (g .state) st (omega arith) step-state
+          standing-set (s .period) k (historyAt s k l p) (historyAt s k l (suc p)) (s .count) (s .count) m i (g .state) st (omega arith)
+          (omega arith, known) step-state
           (λ j c n. (c, ap (historyOf (s .period j) (k j)) (own-still l p h j (λ e. n (sym of-task ∙ e)))))
 
     -- a step that the list's limits allow

@@ -3,6 +3,11 @@
 use demand::ArrivalAnswer;
 use taskset::TaskSet;
 use verdict::VerdictAnswer;
+ghost use mathlib.Core.Path.{_≡_};
+ghost use Rattle.model.specs.Checks.{refusalOf};
+ghost use Rattle.model.specs.Choice as model_choice;
+ghost use Rattle.model.specs.Calls.{choiceInputs, columnAfter, keptColumn, worstColumn};
+ghost use Rattle.taskset.specs.TaskSet.{viewOf};
 
 // Prints what the arrival count answers.
 fn print_arrivals(answer: ArrivalAnswer) {
@@ -53,7 +58,10 @@ fn verdict_case(head: &[u32; 136]) {
 }
 
 // Calls the choice, and prints the answer and the columns lent.
-fn choice_call(set: TaskSet, kept: &mut [u32], worst: &mut [u32]) {
+fn choice_call(set: TaskSet, kept: &mut [u32], worst: &mut [u32])
+    ensures { λ _. ⌜ now (kept .exit) ≡ columnAfter (refusalOf (choiceInputs (viewOf set) (now (kept .entry)) (now (worst .entry)))) (keptColumn (model_choice.choice (viewOf set))) (now (kept .entry)) ⌝ }
+    ensures { λ _. ⌜ now (worst .exit) ≡ columnAfter (refusalOf (choiceInputs (viewOf set) (now (kept .entry)) (now (worst .entry)))) (worstColumn (model_choice.choice (viewOf set))) (now (worst .entry)) ⌝ }
+{
     let answer = choice::choose(set, kept, worst);
     cases::print_checked(answer);
     cases::print_column(kept);

@@ -5,6 +5,13 @@ use reader::ReadOutcome;
 use taskset::Task;
 use taskset::TaskSet;
 use writer::WriteAnswer;
+ghost use mathlib.Core.Path.{_≡_};
+ghost use lib.ListN.{length};
+ghost use Rattle.model.specs.Checks.{refusalOf};
+ghost use Rattle.model.specs.Calls.{columnAfter};
+ghost use Rattle.taskset.specs.TaskSet.{viewOf};
+ghost use Rattle.fileformat.specs.File.{encode};
+ghost use Rattle.fileformat.specs.FileCalls.{fileOf, readCall, readColumn, writeInputs};
 
 // Prints what a read answers beside the task set.
 fn print_outcome(outcome: ReadOutcome) {
@@ -71,7 +78,11 @@ fn print_bytes(bytes: &[u8], count: usize) {
 }
 
 // Calls the read, and prints the answer, the task set and the columns lent.
-fn read_call(file: &[u8], task: &mut [u32], tick: &mut [u32], cost: &mut [u32]) {
+fn read_call(file: &[u8], task: &mut [u32], tick: &mut [u32], cost: &mut [u32])
+    ensures { λ _. ⌜ now (task .exit) ≡ readColumn (λ q. q .task) (readCall (now (file .entry)) (now (task .entry)) (now (tick .entry)) (now (cost .entry))) (now (task .entry)) ⌝ }
+    ensures { λ _. ⌜ now (tick .exit) ≡ readColumn (λ q. q .tick) (readCall (now (file .entry)) (now (task .entry)) (now (tick .entry)) (now (cost .entry))) (now (tick .entry)) ⌝ }
+    ensures { λ _. ⌜ now (cost .exit) ≡ readColumn (λ q. q .cost) (readCall (now (file .entry)) (now (task .entry)) (now (tick .entry)) (now (cost .entry))) (now (cost .entry)) ⌝ }
+{
     let answer = reader::read(file, task, tick, cost);
     let outcome = answer.outcome;
     let tasks = answer.tasks;
@@ -112,14 +123,15 @@ fn print_written(answer: WriteAnswer) {
 }
 
 // Calls the write, and prints the answer and the bytes lent.
-fn write_call(
-    set: TaskSet,
-    count: usize,
-    task: &[u32],
-    tick: &[u32],
-    cost: &[u32],
-    out: &mut [u8],
-) {
+fn write_call(set: TaskSet, count: usize, task: &[u32], tick: &[u32], cost: &[u32], out: &mut [u8])
+    ensures { λ _. ⌜
+        now (out .exit)
+        ≡ columnAfter
+        (refusalOf (writeInputs (viewOf set) count (now (task .entry)) (now (tick .entry)) (now (cost .entry)) (length (now (out .entry)))))
+        (encode (fileOf set count (now (task .entry)) (now (tick .entry)) (now (cost .entry))))
+        (now (out .entry))
+        ⌝ }
+{
     let answer = writer::write(set, count, task, tick, cost, out);
     print_written(answer);
     print_bytes(out, out.len());

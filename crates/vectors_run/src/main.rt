@@ -1,5 +1,12 @@
 // Runs the stored cases of the run, and prints a line for each: the answer, and every slot of the lent columns of ready and finish ticks.
 use taskset::TaskSet;
+ghost use mathlib.Core.Path.{_≡_};
+ghost use Rattle.model.specs.Choice.{column};
+ghost use Rattle.model.specs.Checks.{refusalOf};
+ghost use Rattle.model.specs.Ready.{readyList};
+ghost use Rattle.model.specs.Run.{finishList};
+ghost use Rattle.model.specs.Calls.{releasesOf, columnAfter, runInputs};
+ghost use Rattle.taskset.specs.TaskSet.{viewOf};
 
 // Calls the run, and prints the answer and the columns lent.
 fn run_call(
@@ -11,7 +18,22 @@ fn run_call(
     cost: &[u32],
     ready: &mut [u32],
     finish: &mut [u32],
-) {
+)
+    ensures ticks { λ _. ⌜
+        now (ready .exit)
+        ≡ columnAfter
+        (refusalOf (runInputs (viewOf set) (now (kept .entry)) count (now (task .entry)) (now (tick .entry)) (now (cost .entry)) (now (ready .entry)) (now (finish .entry))))
+        (readyList (viewOf set) (column (now (kept .entry))) (releasesOf count (now (task .entry)) (now (tick .entry)) (now (cost .entry))))
+        (now (ready .entry))
+        ⌝ }
+    ensures finishes { λ _. ⌜
+        now (finish .exit)
+        ≡ columnAfter
+        (refusalOf (runInputs (viewOf set) (now (kept .entry)) count (now (task .entry)) (now (tick .entry)) (now (cost .entry)) (now (ready .entry)) (now (finish .entry))))
+        (finishList (viewOf set) (column (now (kept .entry))) (releasesOf count (now (task .entry)) (now (tick .entry)) (now (cost .entry))))
+        (now (finish .entry))
+        ⌝ }
+{
     let answer = schedule::run(set, kept, count, task, tick, cost, ready, finish);
     cases::print_checked(answer);
     cases::print_column(ready);

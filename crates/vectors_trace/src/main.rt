@@ -2,6 +2,12 @@
 // ready ticks.
 use taskset::TaskSet;
 use trace::TraceAnswer;
+ghost use mathlib.Core.Path.{_≡_};
+ghost use Rattle.model.specs.Choice.{column};
+ghost use Rattle.model.specs.Checks.{refusalOf};
+ghost use Rattle.model.specs.Ready.{readyList};
+ghost use Rattle.model.specs.Calls.{releasesOf, columnAfter, readyInputs};
+ghost use Rattle.taskset.specs.TaskSet.{viewOf};
 
 // Prints what the trace check answers.
 fn print_trace(answer: TraceAnswer) {
@@ -38,7 +44,15 @@ fn ready_call(
     tick: &[u32],
     cost: &[u32],
     ready: &mut [u32],
-) {
+)
+    ensures { λ _. ⌜
+        now (ready .exit)
+        ≡ columnAfter
+        (refusalOf (readyInputs (viewOf set) (now (kept .entry)) count (now (task .entry)) (now (tick .entry)) (now (cost .entry)) (now (ready .entry))))
+        (readyList (viewOf set) (column (now (kept .entry))) (releasesOf count (now (task .entry)) (now (tick .entry)) (now (cost .entry))))
+        (now (ready .entry))
+        ⌝ }
+{
     let answer = trace::ready_ticks(set, kept, count, task, tick, cost, ready);
     cases::print_checked(answer);
     cases::print_column(ready);

@@ -1,6 +1,7 @@
 use Rattle.report.proofs.ReportLaws.{wider}
-use Prim.Native.Nat.{_≤_}
+use Prim.Native.Nat.{ℕ, _≤_}
 use mathlib.Core.Path.{sym}
+use mathlib.Core.List.{List}
 use native.Mathlib.Omega.{arith}
 use lib.ListN.{replicate}
 use Rattle.model.proofs.CheckLaws.{valid-of}
@@ -10,17 +11,27 @@ use borrow.Author.Needs.{needs}
 use Rattle.answers.proofs.put_chosen.Statement.{statement}
 use Rattle.answers.proofs.put_chosen.Tie as tie
 
+-- where the call starts, seen from the place after the choice, and that place, seen from where it was refused
+abbrev start : tie.After-choose → tie.Start
+start c = c .before .before .before .before
+
+abbrev made : tie.After-c → tie.After-choose
+made c = c .before .before .before .before
+
+abbrev zeros : List ℕ
+zeros = replicate 32 0
+
 -- a task set within the limits has at most 32 tasks
-few : (c : tie.After-choose) → c .before .before .before .before .args .s .count ≤ 32
-few c = valid-of (viewOf (c .before .before .before .before .args .s)) (sym (c .before .before .before .before .pre .0)) .few-tasks
+few : (c : tie.After-choose) → start c .args .s .count ≤ 32
+few c = valid-of (viewOf (start c .args .s)) (sym (start c .pre .0)) .few-tasks
 
 -- the choice was refused
 unfit
     : (c : tie.After-c)
-    → Refusing (viewOf (c .before .before .before .before .before .before .before .before .args .s)) (replicate 32 0) (replicate 32 0) (c .before .before .before .before .before .before .before .before .pre .0) (few (c .before .before .before .before)) (few (c .before .before .before .before)) (c .c .given .0 .0) (c .c .given .0 .1 .0)
+    → Refusing (viewOf (start (made c) .args .s)) zeros zeros (start (made c) .pre .0) (few (made c)) (few (made c)) (c .c .given .0 .0) (c .c .given .0 .1 .0)
 unfit c =
-    refusing (viewOf (c .before .before .before .before .before .before .before .before .args .s)) (replicate 32 0) (replicate 32 0) (c .before .before .before .before .before .before .before .before .pre .0) (few (c .before .before .before .before)) (few (c .before .before .before .before)) _ _ _
-    (c .c .given .1) (c .before .before .before .before .choose .ensures .0)
+    refusing (viewOf (start (made c) .args .s)) zeros zeros (start (made c) .pre .0) (few (made c)) (few (made c)) _ _ _ (c .c .given .1)
+    (made c .choose .ensures .0)
 
 slice-aggregate-choose : tie.Need-slice-aggregate-choose
 slice-aggregate-choose c = search needs
@@ -50,7 +61,9 @@ slice-aggregate-put-choice-2 : tie.Need-slice-aggregate-put-choice-2
 slice-aggregate-put-choice-2 c = search needs
 
 put-choice-requires : tie.Need-put-choice-requires
-put-choice-requires c κs = omega (arith, few (c .before .before .before .before .before .before .before), c .before .before .before .before .before .before .before .choose .kept .1 .0, c .before .before .before .before .before .before .before .choose .kept .1 .1 .0)
+put-choice-requires c κs =
+    let r : tie.After-choose = c .before .before .before .before .before .before .before in
+    omega (arith, few r, r .choose .kept .1 .0, r .choose .kept .1 .1 .0)
 
 same-length : tie.Need-same-length
 same-length c = search needs
@@ -63,9 +76,10 @@ same-length-2 c = search needs
 
 returns-2 : tie.Need-returns-2
 returns-2 c =
+    let r : tie.After-choose = c .before .before .before .before .before .before .before .before .before .before in
     rw
-    (chosen-said (viewOf (c .before .before .before .before .before .before .before .before .before .before .before .before .before .before .args .s)) (replicate 32 0) (replicate 32 0) (c .before .before .before .before .before .before .before .before .before .before .before .before .before .before .pre .0) (few (c .before .before .before .before .before .before .before .before .before .before)) (few (c .before .before .before .before .before .before .before .before .before .before)) _ _ _
-    (c .before .before .before .before .before .before .enum-told .given .1) (c .before .before .before .before .before .before .before .before .before .before .choose .ensures .0) (c .before .before .before .before .before .before .before .before .before .before .choose .ensures .1 .0) (c .before .before .before .before .before .before .before .before .before .before .choose .ensures .1 .1))
+    (chosen-said (viewOf (start r .args .s)) zeros zeros (start r .pre .0) (few r) (few r) _ _ _ (c .before .before .before .before .before .before .enum-told .given .1)
+    (r .choose .ensures .0) (r .choose .ensures .1 .0) (r .choose .ensures .1 .1))
     at (c .before .before .put-choice .ensures)
 
 pub put-chosen-spec : {M : Type 1} → statement M

@@ -1,3 +1,5 @@
+use Prim.Native.Nat.{ℕ}
+use mathlib.Core.List.{List}
 use native.Mathlib.Omega.{arith}
 use lib.ListN.{replicate}
 use Rattle.taskset.specs.TaskSet.{viewOf}
@@ -7,12 +9,20 @@ use borrow.Author.Needs.{needs}
 use Rattle.answers.proofs.put_ran.Statement.{statement}
 use Rattle.answers.proofs.put_ran.Tie as tie
 
+-- where the call starts, seen from the place after the run
+abbrev start : tie.After-run → tie.Start
+start c = c .before .before .before .before .before .before .before .before
+
+abbrev zeros : List ℕ
+zeros = replicate 1024 0
+
 -- the run is not refused
 impossible : (c : tie.After-ran) → ⊥
 impossible c =
-    never-refused (viewOf (c .before .before .before .before .before .before .before .before .before .before .before .before .args .s)) (now (c .before .before .before .before .before .before .before .before .before .before .before .before .args .kept)) (c .before .before .before .before .before .before .before .before .before .before .before .before .args .n) (now (c .before .before .before .before .before .before .before .before .before .before .before .before .args .task)) (now (c .before .before .before .before .before .before .before .before .before .before .before .before .args .tick)) (now (c .before .before .before .before .before .before .before .before .before .before .before .before .args .cost)) (replicate 1024 0) (replicate 1024 0)
-    (omega (arith, c .before .before .before .before .before .before .before .before .before .before .before .before .pre .1 .few)) (omega (arith, c .before .before .before .before .before .before .before .before .before .before .before .before .pre .1 .few)) (c .before .before .before .before .before .before .before .before .before .before .before .before .pre .1) (c .before .before .before .before .before .before .before .before .before .before .before .before .pre .0) _ _ _
-    (c .ran .given .1) (c .before .before .before .before .run .ensures .0)
+    let r : tie.After-run = c .before .before .before .before in
+    let s : tie.Start = start r in
+    never-refused (viewOf (s .args .s)) (now (s .args .kept)) (s .args .n) (now (s .args .task)) (now (s .args .tick)) (now (s .args .cost)) zeros zeros
+    (omega (arith, s .pre .1 .few)) (omega (arith, s .pre .1 .few)) (s .pre .1) (s .pre .0) _ _ _ (c .ran .given .1) (r .run .ensures .0)
 
 slice-aggregate-run : tie.Need-slice-aggregate-run
 slice-aggregate-run c = search needs
@@ -55,10 +65,12 @@ same-length-2 c = search needs
 
 returns-2 : tie.Need-returns-2
 returns-2 c =
+    let r : tie.After-run = c .before .before .before .before .before .before .before .before .before .before in
+    let s : tie.Start = start r in
     rw
-    (ran-said (viewOf (c .before .before .before .before .before .before .before .before .before .before .before .before .before .before .before .before .before .before .args .s)) (now (c .before .before .before .before .before .before .before .before .before .before .before .before .before .before .before .before .before .before .args .kept)) (c .before .before .before .before .before .before .before .before .before .before .before .before .before .before .before .before .before .before .args .n) (now (c .before .before .before .before .before .before .before .before .before .before .before .before .before .before .before .before .before .before .args .task)) (now (c .before .before .before .before .before .before .before .before .before .before .before .before .before .before .before .before .before .before .args .tick)) (now (c .before .before .before .before .before .before .before .before .before .before .before .before .before .before .before .before .before .before .args .cost)) (replicate 1024 0) (replicate 1024 0)
-    (omega (arith, c .before .before .before .before .before .before .before .before .before .before .before .before .before .before .before .before .before .before .pre .1 .few)) (omega (arith, c .before .before .before .before .before .before .before .before .before .before .before .before .before .before .before .before .before .before .pre .1 .few)) (c .before .before .before .before .before .before .before .before .before .before .before .before .before .before .before .before .before .before .pre .1) (c .before .before .before .before .before .before .before .before .before .before .before .before .before .before .before .before .before .before .pre .0) _ _
-    (c .before .before .before .before .before .before .before .before .before .before .run .ensures .1 .0) (c .before .before .before .before .before .before .before .before .before .before .run .ensures .1 .1)) at (c .before .before .put-run .ensures)
+    (ran-said (viewOf (s .args .s)) (now (s .args .kept)) (s .args .n) (now (s .args .task)) (now (s .args .tick)) (now (s .args .cost)) zeros zeros
+    (omega (arith, s .pre .1 .few)) (omega (arith, s .pre .1 .few)) (s .pre .1) (s .pre .0) _ _ (r .run .ensures .1 .0) (r .run .ensures .1 .1))
+    at (c .before .before .put-run .ensures)
 
 pub put-ran-spec : {M : Type 1} → statement M
 put-ran-spec =

@@ -1,6 +1,5 @@
 -- The loop has made the choice of the tasks above i: see `Choosing`.
 use Prim.Native.Nat.{_-_}
-use mathlib.Core.Path.{refl}
 use borrow.Author.Needs.{needs}
 use native.Mathlib.Omega.{arith}
 use Rattle.choice.proofs.ChoosingLaws.{Choosing, choosing-none, choosing-walk, choosing-unfit, choosing-next, choosing-all}
@@ -17,7 +16,7 @@ columns-of-requires : tie.Need-columns-of-requires Inv-loop μ-loop
 columns-of-requires c κs = c .pre .few-tasks
 
 loop-holds : tie.Need-loop-holds Inv-loop μ-loop
-loop-holds c = choosing-none _ _ _ _ _ (c .before .before .before .pre) (c .before .before .columns-of .ensures) refl refl
+loop-holds c = choosing-none _ _ _ (c .before .before .before .pre) (c .before .before .columns-of .ensures)
 
 mul-own : tie.Need-mul-own Inv-loop μ-loop
 mul-own c = omega arith

@@ -21,6 +21,11 @@ next-is c =
     ∙ ap₂ max (c .before .before .before .wide4 .ensures)
     (c .before .less2 .ensures ∙ ap₂ _-_ (ap₂ _+_ (low .before .before .wide .ensures) (c .before .before .wide5 .ensures)) (low .product .ensures .is))
 
+-- the least K so far
+kept : (c : tie.After-less3) → c .less3 .result ≡ c .before .larger .result - start (c .before) .args .deadline
+kept c =
+    c .less3 .ensures ∙ ap (_-_ (c .before .larger .result)) (c .before .before .before .before .before .before .before .before .before .wide2 .ensures)
+
 wide-requires : tie.Need-wide-requires
 wide-requires c κs = search needs
 
@@ -60,36 +65,34 @@ larger-requires c κs = search needs
 less-requires-3 : tie.Need-less-requires-3
 less-requires-3 c κs = search needs
 
-add-if2 : tie.Need-add-if2
-add-if2 c = search needs
+cast-keep : tie.Need-cast-keep
+cast-keep c = search needs
+
+add-gap : tie.Need-add-gap
+add-gap c = search needs
+
+gap-requires : tie.Need-gap-requires
+gap-requires c κs = search needs
 
 wide-requires-6 : tie.Need-wide-requires-6
 wide-requires-6 c κs = search needs
 
-add-if2-2 : tie.Need-add-if2-2
-add-if2-2 c = search needs
+sub-t20 : tie.Need-sub-t20
+sub-t20 c = search needs
+
+cast-t21 : tie.Need-cast-t21
+cast-t21 c = search needs
+
+returns-2 : tie.Need-returns-2
+returns-2 c =
+    step-keep _ _ _ _ _ _ (omega arith) _ _ _ (next-is (c .before .before .before .before)) (kept (c .before .before .before)) (omega arith) (omega (arith, c .before .before .gap .ensures))
 
 cast-t18 : tie.Need-cast-t18
 cast-t18 c = search needs
 
-sub-t19 : tie.Need-sub-t19
-sub-t19 c = search needs
-
-cast-t20 : tie.Need-cast-t20
-cast-t20 c = search needs
-
-returns-2 : tie.Need-returns-2
-returns-2 c =
-    let up = c .before .before .before in
-    step-keep _ _ _ _ _ _ (omega arith) _ _ _ (next-is up)
-    (c .before .before .less3 .ensures ∙ ap (_-_ (up .larger .result)) (up .before .before .before .before .before .before .before .before .wide2 .ensures))
-    (omega arith) (omega arith)
-
-cast-t22 : tie.Need-cast-t22
-cast-t22 c = search needs
-
 returns-3 : tie.Need-returns-3
-returns-3 c = step-next _ _ _ _ _ _ (omega arith) _ (next-is (c .before .before .before)) (omega arith)
+returns-3 c =
+    step-next _ _ _ _ _ _ (omega arith) _ (next-is (c .before .before .before)) (rw (← kept (c .before .before)) (omega (arith, c .before .gap .ensures)))
 
 pub step-at-spec : {M : Type 1} → statement M
 step-at-spec =
@@ -108,12 +111,12 @@ step-at-spec =
     less-requires-2
     larger-requires
     less-requires-3
-    add-if2
+    cast-keep
+    add-gap
+    gap-requires
     wide-requires-6
-    add-if2-2
-    cast-t18
-    sub-t19
-    cast-t20
+    sub-t20
+    cast-t21
     returns-2
-    cast-t22
+    cast-t18
     returns-3)

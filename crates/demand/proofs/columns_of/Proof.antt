@@ -1,6 +1,5 @@
 -- The loop has copied the slots below j.
 use Prim.Native.Nat.{_-_}
-use mathlib.Core.Path.{refl}
 use native.Mathlib.Omega.{arith}
 use Rattle.demand.specs.Columns.{Copied}
 use Rattle.demand.proofs.FlatColumnLaws.{copied-none, copied-next, copied-all}
@@ -14,7 +13,7 @@ abbrev μ-loop : tie.MeasureT-loop
 μ-loop s count loads₀ periods₀ j₀ loads periods j = count - j
 
 loop-holds : tie.Need-loop-holds Inv-loop μ-loop
-loop-holds c = copied-none _ _ _ refl refl
+loop-holds c = copied-none _
 
 mul-t : tie.Need-mul-t Inv-loop μ-loop
 mul-t c = omega arith

@@ -12,14 +12,8 @@ slice-aggregate-read-full c = search needs
 read-full-requires : tie.Need-read-full-requires
 read-full-requires c κs = search needs
 
-array-share-prefix-file : tie.Need-array-share-prefix-file
-array-share-prefix-file c = search needs
-
 slice-aggregate-replay-text : tie.Need-slice-aggregate-replay-text
 slice-aggregate-replay-text c = search needs
-
-slice-aggregate-replay-text-2 : tie.Need-slice-aggregate-replay-text-2
-slice-aggregate-replay-text-2 c = search needs
 
 replay-text-requires : tie.Need-replay-text-requires
 replay-text-requires c κs = search needs
@@ -30,8 +24,8 @@ array-share-prefix-out c = search needs
 slice-aggregate-write-all : tie.Need-slice-aggregate-write-all
 slice-aggregate-write-all c =
     sym
-    (length-take-le (c .before .before .replay-text .result) (c .before .before .replay-text .last .1 .0)
-    (omega (arith, c .before .before .replay-text .ensures .small, c .before .before .replay-text .kept .1 .0)))
+    (length-take-le (c .before .before .replay-text .result) (c .before .before .replay-text .last .1 .1 .0)
+    (omega (arith, c .before .before .replay-text .ensures .line .small, c .before .before .replay-text .kept .1 .1 .0)))
 
 write-all-requires : tie.Need-write-all-requires
 write-all-requires c κs = search needs
@@ -45,9 +39,7 @@ main-spec =
     (tie.spec
     slice-aggregate-read-full
     read-full-requires
-    array-share-prefix-file
     slice-aggregate-replay-text
-    slice-aggregate-replay-text-2
     replay-text-requires
     array-share-prefix-out
     slice-aggregate-write-all

@@ -1,6 +1,6 @@
 -- The first i slots hold the oldest jobs of the first i tasks.
 use Prim.Native.Nat.{_-_, _≤_}
-use mathlib.Core.Path.{_≡_, refl}
+use mathlib.Core.Path.{_≡_}
 use native.Mathlib.Omega.{arith}
 use Rattle.schedule.specs.Schedule.{Holds, nextOf}
 use Rattle.schedule.proofs.SearchedLaws.{holds-none, holds-next}
@@ -14,7 +14,7 @@ abbrev μ-loop : tie.MeasureT-loop
 μ-loop task n tasks head₀ i₀ head i = tasks - i
 
 loop-holds : tie.Need-loop-holds Inv-loop μ-loop
-loop-holds c = (omega arith, holds-none _ _ _ refl)
+loop-holds c = (omega arith, holds-none _ _)
 
 cast-next-of : tie.Need-cast-next-of Inv-loop μ-loop
 cast-next-of c = omega arith

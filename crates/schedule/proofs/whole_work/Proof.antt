@@ -15,7 +15,7 @@ abbrev μ-loop : tie.MeasureT-loop
 μ-loop cost n left₀ p₀ left p = n - p
 
 loop-holds : tie.Need-loop-holds Inv-loop μ-loop
-loop-holds c = (omega arith, holds-none _ _ _ refl)
+loop-holds c = (omega arith, holds-none _ _)
 
 mul-left : tie.Need-mul-left Inv-loop μ-loop
 mul-left c = omega arith

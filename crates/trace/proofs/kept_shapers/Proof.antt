@@ -1,17 +1,17 @@
 -- The loop has made the shapers of every task before i.
-use Prim.Native.Nat.{_-_}
+use Prim.Native.Nat.{_-_, _≤_}
 use mathlib.Core.List.{[]}
 use native.Mathlib.Omega.{arith}
 use borrow.Author.Needs.{needs}
 use Rattle.model.specs.Choice.{column}
 use Rattle.taskset.specs.TaskSet.{viewOf}
 use Rattle.trace.specs.Standing.{Standing}
-use Rattle.trace.proofs.StandingLaws.{standing-none, standing-more, standing-fewer}
+use Rattle.trace.proofs.StandingLaws.{standing-none, standing-more, standing-all}
 use Rattle.trace.proofs.kept_shapers.Statement.{statement}
 use Rattle.trace.proofs.kept_shapers.Tie as tie
 
 abbrev Inv-loop : tie.InvT-loop
-Inv-loop kept s count all₀ i₀ all i = Standing (viewOf s .period) (column kept) (λ j. []) i (all .of)
+Inv-loop kept s count all₀ i₀ all i = (i ≤ count) × Standing (viewOf s .period) (column kept) (λ j. []) i (all .of)
 
 abbrev μ-loop : tie.MeasureT-loop
 μ-loop kept s count all₀ i₀ all i = count - i
@@ -24,7 +24,7 @@ new-requires : tie.Need-new-requires Inv-loop μ-loop
 new-requires c κs = search needs
 
 loop-holds : tie.Need-loop-holds Inv-loop μ-loop
-loop-holds c = standing-none _ _ _ _
+loop-holds c = (omega arith, standing-none _ _ _ _ (c .new .ensures))
 
 mul-t : tie.Need-mul-t Inv-loop μ-loop
 mul-t c = omega (arith, start c .pre)
@@ -54,10 +54,13 @@ loop-less : tie.Need-loop-less Inv-loop μ-loop
 loop-less c = omega arith
 
 loop-again : tie.Need-loop-again Inv-loop μ-loop
-loop-again c = standing-more _ _ _ _ _ (c .before .before .before .before .loop .inv) (omega (arith, start (c .before .before .before) .pre)) (c .new2 .ensures)
+loop-again c = (
+  omega arith,
+  standing-more _ _ _ _ _ (c .before .before .before .before .loop .inv .1) (omega (arith, start (c .before .before .before) .pre)) (c .new2 .ensures),
+)
 
 returns : tie.Need-returns Inv-loop μ-loop
-returns c = standing-fewer _ _ _ _ _ _ (c .before .loop .inv) (c .loop-test .left)
+returns c = standing-all _ _ _ _ _ _ (c .before .loop .inv .1) (omega arith)
 
 pub kept-shapers-spec : {M : Type 1} → statement M
 kept-shapers-spec =
