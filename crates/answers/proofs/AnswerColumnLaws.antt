@@ -4,39 +4,18 @@ use mathlib.Core.Path.{_≡_, refl, sym, ap, ap₂, _∙_}
 use mathlib.Core.Option.{none}
 use mathlib.Core.List.{List, [], _∷_, _++_}
 use native.Mathlib.Omega.{arith}
-use lib.ListN.{length, getD, replicate, List·getD-append}
+use lib.ListN.{length, List·getD-append}
 use Rattle.model.proofs.CheckLaws.{slots-next, slots-none}
-use Rattle.model.specs.Limits.{maxTasks, maxReleases}
+use Rattle.model.specs.Limits.{maxReleases}
 use Rattle.model.specs.Tasks.{Tasks}
 use Rattle.model.specs.Refusal.{Answer, refused, answered}
 use Rattle.model.specs.Checks.{checkSlots}
 use Rattle.model.specs.Calls.{lends}
-use Rattle.taskset.specs.declared.Task.{Task}
-use Rattle.taskset.specs.TaskSet.{noTask, viewOf}
-use Rattle.fileformat.specs.File.{File, sheetOf, decode}
-use Rattle.fileformat.specs.FileCalls.{setOf, readCall}
+use Rattle.fileformat.specs.File.{File, decode}
+use Rattle.fileformat.specs.FileCalls.{readCall}
 use Rattle.fileformat.proofs.RoundTrips.{decode-valid}
 use Rattle.text.specs.Text.{lines}
 use Rattle.report.specs.Report.{choiceLine, choiceFields, choiceText, runLine, runText, choiceHeader, fitsLine, runHeader}
-
--- entries past the count are no other than none
-pad : (l : List Task) (n i : ℕ) → getD (l ++ replicate n noTask) i noTask ≡ getD l i noTask
-pad [] zero i = refl
-pad [] (suc n) zero = refl
-pad [] (suc n) (suc i) = pad [] n i
-pad (t ∷ l) n zero = refl
-pad (t ∷ l) n (suc i) = pad l n i
-
--- the sheet of a returned task set is that of its tasks
-pub view-set : (l : List Task) → viewOf (setOf l) ≡ sheetOf l
-unfolding setOf
-view-set l = λ t. record {
-  count = length l;
-  period = λ i. pad l (maxTasks - length l) i t .period;
-  jitter = λ i. pad l (maxTasks - length l) i t .jitter;
-  cost = λ i. pad l (maxTasks - length l) i t .cost;
-  deadline = λ i. pad l (maxTasks - length l) i t .deadline;
-}
 
 -- three columns with room
 slots-pass : (n : ℕ) (a b c : List ℕ) → n ≤ length a → n ≤ length b → n ≤ length c → checkSlots (lends n a ∷ lends n b ∷ lends n c ∷ []) ≡ none

@@ -20,7 +20,7 @@ use Rattle.taskset.specs.TaskSet.{viewOf, refusalIn}
 use Rattle.fileformat.specs.File.{File, sheetOf, decode, ValidFile}
 use Rattle.fileformat.specs.FileCalls.{readCall, readCount, readSheet, readColumn}
 use Rattle.fileformat.proofs.RoundTrips.{decode-valid}
-use Rattle.fileformat.proofs.RoundTripCalls.{releases-of-columns}
+use Rattle.fileformat.proofs.RoundTripCalls.{view-set, releases-of-columns}
 use Rattle.fileformat.proofs.FilePlaces.{decode-within}
 use Rattle.reader.specs.declared.ReadOutcome.{ReadOutcome}
 use Rattle.reader.specs.declared.ReadOutcome.the-variants.{Read, Refused as Halted}
@@ -28,7 +28,7 @@ use Rattle.reader.specs.Reader.{outcomeIn}
 use Rattle.model.proofs.TableLaws.{length-table}
 use Rattle.report.specs.Report.{runText, refusalText}
 use Rattle.answers.specs.Answers.{tasksOf, ticksOf, costsOf, chosenText, chooseText, listText, replayText}
-use Rattle.answers.proofs.AnswerColumnLaws.{view-set, read-roomy, run-text-same}
+use Rattle.answers.proofs.AnswerColumnLaws.{read-roomy, run-text-same}
 use Rattle.answers.proofs.AcceptedCallLaws.{run-accepted}
 use Rattle.answers.specs.Listed.{Listed, Kept, keptText}
 

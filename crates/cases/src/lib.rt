@@ -2,6 +2,7 @@
 // label, a block of numbers that holds the task set and what the call is given besides, and a block for each lent slice: what it holds before the call.
 use libc::STDIN_FILENO;
 use libc::STDOUT_FILENO;
+use numbers::wide_byte;
 use taskset::Checked;
 use taskset::Task;
 use taskset::TaskSet;
@@ -10,13 +11,6 @@ ghost use mathlib.Core.Path.{_≡_};
 ghost use lib.ListN.{length, drop};
 ghost use Rattle.io.specs.Counts.{Counts};
 ghost use Rattle.cases.specs.Cases.{numberAt, entryOf, Numbers, SetIn};
-
-// A byte as a number of 32 bits.
-fn wide(b: u8) -> u32
-    ensures { λ r. ⌜ (r ≡ b) × (r < 256) ⌝ }
-{
-    b as u32
-}
 
 // The smaller of a number and a limit.
 fn at_most(n: u32, limit: usize) -> usize
@@ -31,7 +25,10 @@ fn number_at(s: &[u8], at: usize) -> u32
     requires { ⌜ at + 4 ≤ length (now s) ⌝ }
     ensures { λ r. ⌜ r ≡ numberAt (now (s .entry)) at ⌝ }
 {
-    wide(s[at]) + 256 * wide(s[at + 1]) + 65536 * wide(s[at + 2]) + 16777216 * wide(s[at + 3])
+    wide_byte(s[at])
+        + 256 * wide_byte(s[at + 1])
+        + 65536 * wide_byte(s[at + 2])
+        + 16777216 * wide_byte(s[at + 3])
 }
 
 // Reads a block to the start of a buffer, as far as the buffer goes; the answer is how many bytes were read.

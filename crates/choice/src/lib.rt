@@ -11,9 +11,9 @@ ghost use Rattle.taskset.specs.TaskSet.{viewOf, refusalIn};
 ghost use Rattle.choice.specs.Choices.{Searched, Walkable, windowOf, LeastOf, Product, Stepped, stepOf, ChoicesAre};
 use demand::above_load;
 use demand::columns_of;
-use demand::wide;
-use shaper::larger;
-use shaper::less;
+use numbers::larger;
+use numbers::less;
+use numbers::wide;
 use taskset::Checked;
 use taskset::TaskSet;
 

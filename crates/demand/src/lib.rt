@@ -7,6 +7,7 @@ ghost use Rattle.model.specs.Calls.{taskInputs, arrivalCall};
 ghost use Rattle.taskset.specs.TaskSet.{viewOf, refusalIn};
 ghost use Rattle.demand.specs.Columns.{Small, Tried, Columns, IsTerm, IsLoad, IsOnce, Copied};
 ghost use Rattle.demand.specs.ArrivalAnswer.{arrivalIn};
+use numbers::wide;
 use taskset::Checked;
 use taskset::TaskSet;
 
@@ -20,13 +21,6 @@ pub enum ArrivalAnswer {
 pub struct TaskColumns {
     pub loads: [u32; 32],
     pub periods: [u32; 32],
-}
-
-// A number of 32 bits as one of 64.
-pub fn wide(x: u32) -> u64
-    ensures { λ r. ⌜ r ≡ x ⌝ }
-{
-    x as u64
 }
 
 // Arrival count: ceil((t + K) ÷ P) in t ticks for t ≥ 1, zero in 0 ticks.

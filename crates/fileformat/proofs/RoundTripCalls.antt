@@ -1,5 +1,5 @@
 -- Laws of the two calls together: what is written is read again, and what is read passes the checks of the calls on values.
-use Prim.Native.Nat.{ℕ, _-_, _≤_, _<_}
+use Prim.Native.Nat.{ℕ, zero, suc, _-_, _≤_, _<_}
 use mathlib.Core.Path.{_≡_, refl, sym, ap, ap₂, _∙_}
 use mathlib.Core.List.{List, [], _∷_, _++_, map}
 use native.Mathlib.Omega.{arith}
@@ -7,9 +7,7 @@ use lib.ListN.{length, getD, replicate, length-map, length-append, List·getD-ap
 use lib.Seq.{take-at, ext-getD}
 use Rattle.model.specs.Limits.{maxTasks}
 use Rattle.model.specs.Tasks.{Release, noRelease, Valid}
-use Rattle.model.specs.Checks.{checkReleases}
 use Rattle.model.specs.Calls.{releasesOf}
-use Rattle.model.specs.SameTasks.{SameTasks}
 use Rattle.model.proofs.SeriesLaws.{le-by}
 use Rattle.model.proofs.CheckLaws.{valid-of, count-few, count-of, slots-next, slots-none}
 use Rattle.model.proofs.OrderLaws.{accepted-of, accepts, no-single, no-kept, no-unfit}
@@ -54,17 +52,24 @@ pub tasks-of-set : (l : List Task) → tasksIn (setOf l) ≡ l
 unfolding tasksIn setOf
 tasks-of-set l = take-at l (replicate (maxTasks - length l) noTask) (length l) refl
 
-pub set-sheet : (l : List Task) → SameTasks (sheetOf l) (viewOf (setOf l))
+-- entries past the count are no other than none
+pad : (l : List Task) (n i : ℕ) → getD (l ++ replicate n noTask) i noTask ≡ getD l i noTask
+pad [] zero i = refl
+pad [] (suc n) zero = refl
+pad [] (suc n) (suc i) = pad [] n i
+pad (t ∷ l) n zero = refl
+pad (t ∷ l) n (suc i) = pad l n i
+
+-- its sheet is that of the tasks
+pub view-set : (l : List Task) → viewOf (setOf l) ≡ sheetOf l
 unfolding setOf
-set-sheet l =
-    let e : (i : ℕ) → i < length l → getD l i noTask ≡ getD (l ++ replicate (maxTasks - length l) noTask) i noTask = λ i k. sym (List·getD-append l (replicate (maxTasks - length l) noTask) noTask i k) in
-    record {
-      count = refl;
-      period = λ i k. ap (λ t. t .period) (e i k);
-      jitter = λ i k. ap (λ t. t .jitter) (e i k);
-      cost = λ i k. ap (λ t. t .cost) (e i k);
-      deadline = λ i k. ap (λ t. t .deadline) (e i k);
-    }
+view-set l = λ t. record {
+  count = length l;
+  period = λ i. pad l (maxTasks - length l) i t .period;
+  jitter = λ i. pad l (maxTasks - length l) i t .jitter;
+  cost = λ i. pad l (maxTasks - length l) i t .cost;
+  deadline = λ i. pad l (maxTasks - length l) i t .deadline;
+}
 
 -- the releases of the columns that are written
 module _ (l : List Release) (a b c : List ℕ) where
@@ -98,12 +103,12 @@ read-passes f x a b c e =
     let long : (g : Release → ℕ) (y : List ℕ) → length (x .releases) ≤ length (map g (x .releases) ++ y) = λ g y. omega (arith, length-append (map g (x .releases)) y, length-map (x .releases) g) in
     accepts _
     (record {
-      tasks = sym (v .tasks) ∙ tasks-same _ _ (set-sheet (x .tasks));
+      tasks = rw (view-set (x .tasks)) (sym (v .tasks));
       single = no-single _;
       count = count-few _ (v .few);
       lent = slots-none ∙ sym (slots-next _ _ (long (λ r. r .task) a) ∙ slots-next _ _ (long (λ r. r .tick) b) ∙ slots-next _ _ (long (λ r. r .cost) c));
       kept = no-kept _;
-      releases = sym (ap (checkReleases (viewOf (setOf (x .tasks))) 0 0) (releases-of-columns (x .releases) a b c) ∙ sym (releases-same _ _ (set-sheet (x .tasks)) 0 0 (x .releases)) ∙ v .releases);
+      releases = rw (view-set (x .tasks), releases-of-columns (x .releases) a b c) (sym (v .releases));
       unfit = no-unfit;
     })
 

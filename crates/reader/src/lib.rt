@@ -1,4 +1,5 @@
 // Reader of the file.
+use numbers::wide_byte;
 use taskset::Checked;
 use taskset::Task;
 use taskset::TaskSet;
@@ -37,21 +38,15 @@ pub struct Scanned {
     pub releases: usize,
 }
 
-fn wide(b: u8) -> u32
-    ensures { λ r. ⌜ (r ≡ b) × (r < 256) ⌝ }
-{
-    b as u32
-}
-
 // The number of the four bytes at an offset, the low byte first.
 fn number_at(f: &[u8], at: usize) -> u32
     requires { ⌜ at + 4 ≤ length (now f) ⌝ }
     ensures { λ r. ⌜ r ≡ field at 4 (now (f .entry)) ⌝ }
 {
-    let a = wide(f[at]);
-    let b = wide(f[at + 1]);
-    let c = wide(f[at + 2]);
-    let d = wide(f[at + 3]);
+    let a = wide_byte(f[at]);
+    let b = wide_byte(f[at + 1]);
+    let c = wide_byte(f[at + 2]);
+    let d = wide_byte(f[at + 3]);
     a + 256 * b + 65536 * c + 16777216 * d
 }
 
@@ -77,7 +72,7 @@ fn job_at(f: &[u8], at: usize) -> Job
     requires { ⌜ at + 9 ≤ length (now f) ⌝ }
     ensures { λ r. ⌜ releaseOf r ≡ releaseFrom (drop at (now (f .entry))) ⌝ }
 {
-    let task = wide(f[at]);
+    let task = wide_byte(f[at]);
     let tick = number_at(f, at + 1);
     let cost = number_at(f, at + 5);
     Job {

@@ -45,7 +45,7 @@ fn wake_of(ready: &[u32], n: usize, p: usize) -> u64
     ensures { λ r. ⌜ r ≡ wakeOf (now (ready .entry)) n p ⌝ }
 {
     if p < n {
-        return shaper::wide(ready[p]);
+        return numbers::wide(ready[p]);
     }
     NEVER
 }

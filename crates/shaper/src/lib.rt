@@ -1,30 +1,11 @@
 // Gap and shaper of one task.
+use numbers::larger;
+use numbers::less;
+use numbers::wide;
 ghost use mathlib.Core.Path.{_≡_};
-ghost use Prim.Native.Nat.{_-_, max};
 ghost use mathlib.Core.List.{List, []};
 ghost use Rattle.model.specs.Gap as model_gap;
 ghost use Rattle.shaper.specs.Shaper.{stateOf, Small, Shapes};
-
-// The larger of two numbers.
-pub fn larger(a: u64, b: u64) -> u64
-    ensures { λ r. ⌜ r ≡ max a b ⌝ }
-{
-    if a < b { b } else { a }
-}
-
-// What is left of a when b is taken away, 0 where b is over a.
-pub fn less(a: u64, b: u64) -> u64
-    ensures { λ r. ⌜ r ≡ a - b ⌝ }
-{
-    if a < b { 0 } else { a - b }
-}
-
-// A number of 32 bits as one of 64.
-pub fn wide(a: u32) -> u64
-    ensures { λ r. ⌜ r ≡ a ⌝ }
-{
-    a as u64
-}
 
 // d_K(k) = max(0, kP − K): the least distance between a ready tick and the one k places before, with kept jitter K.
 pub fn gap(period: u32, keep: u32, k: u32) -> u64

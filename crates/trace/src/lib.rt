@@ -1,6 +1,6 @@
 // The trace check and the ready ticks of a list of releases: one shaper for each task of the sheet.
+use numbers::wide;
 use shaper::Shaper;
-use shaper::wide;
 use taskset::Checked;
 use taskset::TaskSet;
 ghost use mathlib.Core.Path.{_≡_};

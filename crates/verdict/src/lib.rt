@@ -92,7 +92,7 @@ fn walk(
     let mut best = Best { worst: 0, first: 0 };
     let mut q: u32 = 0;
     'walk: loop {
-        let own = demand::wide(q + 1) * demand::wide(cost);
+        let own = numbers::wide(q + 1) * numbers::wide(cost);
         let mut t = own + once;
         'find: loop {
             if 10000000 < t {

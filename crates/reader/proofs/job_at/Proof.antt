@@ -6,11 +6,11 @@ use borrow.Author.Needs.{needs}
 use Rattle.reader.proofs.job_at.Statement.{statement}
 use Rattle.reader.proofs.job_at.Tie as tie
 
-shared-slice-read-wide : tie.Need-shared-slice-read-wide
-shared-slice-read-wide c = search needs
+shared-slice-read-wide-byte : tie.Need-shared-slice-read-wide-byte
+shared-slice-read-wide-byte c = search needs
 
-wide-requires : tie.Need-wide-requires
-wide-requires c κs = search needs
+wide-byte-requires : tie.Need-wide-byte-requires
+wide-byte-requires c κs = search needs
 
 add-number-at : tie.Need-add-number-at
 add-number-at c = search needs
@@ -26,14 +26,14 @@ number-at-requires-2 c κs = search needs
 
 returns : tie.Need-returns
 returns c =
-    release-fields _ _ _ _ _ (c .before .before .wide .ensures .0 ∙ sym (field-one _ _ (omega arith))) (c .before .number-at .ensures) (c .number-at2 .ensures)
+    release-fields _ _ _ _ _ (c .before .before .wide-byte .ensures .0 ∙ sym (field-one _ _ (omega arith))) (c .before .number-at .ensures) (c .number-at2 .ensures)
 
 pub job-at-spec : {M : Type 1} → statement M
 job-at-spec =
     tie.close
     (tie.spec
-    shared-slice-read-wide
-    wide-requires
+    shared-slice-read-wide-byte
+    wide-byte-requires
     add-number-at
     number-at-requires
     add-number-at-2

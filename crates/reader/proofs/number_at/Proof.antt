@@ -5,38 +5,38 @@ use borrow.Author.Needs.{needs}
 use Rattle.reader.proofs.number_at.Statement.{statement}
 use Rattle.reader.proofs.number_at.Tie as tie
 
-shared-slice-read-wide : tie.Need-shared-slice-read-wide
-shared-slice-read-wide c = search needs
+shared-slice-read-wide-byte : tie.Need-shared-slice-read-wide-byte
+shared-slice-read-wide-byte c = search needs
 
-wide-requires : tie.Need-wide-requires
-wide-requires c κs = search needs
+wide-byte-requires : tie.Need-wide-byte-requires
+wide-byte-requires c κs = search needs
 
-add-wide : tie.Need-add-wide
-add-wide c = search needs
+add-wide-byte : tie.Need-add-wide-byte
+add-wide-byte c = search needs
 
-shared-slice-read-wide-2 : tie.Need-shared-slice-read-wide-2
-shared-slice-read-wide-2 c = search needs
+shared-slice-read-wide-byte-2 : tie.Need-shared-slice-read-wide-byte-2
+shared-slice-read-wide-byte-2 c = search needs
 
-wide-requires-2 : tie.Need-wide-requires-2
-wide-requires-2 c κs = search needs
+wide-byte-requires-2 : tie.Need-wide-byte-requires-2
+wide-byte-requires-2 c κs = search needs
 
-add-wide-2 : tie.Need-add-wide-2
-add-wide-2 c = search needs
+add-wide-byte-2 : tie.Need-add-wide-byte-2
+add-wide-byte-2 c = search needs
 
-shared-slice-read-wide-3 : tie.Need-shared-slice-read-wide-3
-shared-slice-read-wide-3 c = search needs
+shared-slice-read-wide-byte-3 : tie.Need-shared-slice-read-wide-byte-3
+shared-slice-read-wide-byte-3 c = search needs
 
-wide-requires-3 : tie.Need-wide-requires-3
-wide-requires-3 c κs = search needs
+wide-byte-requires-3 : tie.Need-wide-byte-requires-3
+wide-byte-requires-3 c κs = search needs
 
-add-wide-3 : tie.Need-add-wide-3
-add-wide-3 c = search needs
+add-wide-byte-3 : tie.Need-add-wide-byte-3
+add-wide-byte-3 c = search needs
 
-shared-slice-read-wide-4 : tie.Need-shared-slice-read-wide-4
-shared-slice-read-wide-4 c = search needs
+shared-slice-read-wide-byte-4 : tie.Need-shared-slice-read-wide-byte-4
+shared-slice-read-wide-byte-4 c = search needs
 
-wide-requires-4 : tie.Need-wide-requires-4
-wide-requires-4 c κs = search needs
+wide-byte-requires-4 : tie.Need-wide-byte-requires-4
+wide-byte-requires-4 c κs = search needs
 
 mul-result : tie.Need-mul-result
 mul-result c = search needs
@@ -63,17 +63,17 @@ pub number-at-spec : {M : Type 1} → statement M
 number-at-spec =
     tie.close
     (tie.spec
-    shared-slice-read-wide
-    wide-requires
-    add-wide
-    shared-slice-read-wide-2
-    wide-requires-2
-    add-wide-2
-    shared-slice-read-wide-3
-    wide-requires-3
-    add-wide-3
-    shared-slice-read-wide-4
-    wide-requires-4
+    shared-slice-read-wide-byte
+    wide-byte-requires
+    add-wide-byte
+    shared-slice-read-wide-byte-2
+    wide-byte-requires-2
+    add-wide-byte-2
+    shared-slice-read-wide-byte-3
+    wide-byte-requires-3
+    add-wide-byte-3
+    shared-slice-read-wide-byte-4
+    wide-byte-requires-4
     mul-result
     add-result
     mul-result-2
