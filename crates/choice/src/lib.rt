@@ -35,7 +35,7 @@ pub enum Step {
     Next(u32),
 }
 
-// Kept jitters and largest R of the first tasks, as many as fit.
+// Kept jitters and largest R of the first tasks, as many as fit; 0 past them.
 pub struct Choices {
     pub keep: [u32; 32],
     pub worst: [u32; 32],

@@ -73,7 +73,7 @@ pub fn once_each(loads: &[u32], periods: &[u32], keeps: &[u32], n: usize) -> u64
     sum
 }
 
-// Loads and periods of the tasks of a sheet, copied once.
+// Loads and periods of the tasks of a sheet, copied once. Slots past the count are 0.
 pub fn columns_of(s: TaskSet) -> TaskColumns
     requires { ⌜ s .count ≤ 32 ⌝ }
     ensures { λ r. ⌜ Copied s (s .count) (r .loads) (r .periods) ⌝ }

@@ -79,7 +79,7 @@ fn wake_all(head: &[usize; 32], ready: &[u32], n: usize, tasks: usize) -> u64
     wake
 }
 
-// The work that each job has before the first tick.
+// The work that each job has before the first tick; 0 past the list.
 fn whole_work(cost: &[u32], n: usize) -> [u32; 1024]
     requires { ⌜ (n ≤ 1024) × (n ≤ length (now cost)) ⌝ }
     ensures { λ r. ⌜ Holds (λ p. getD (now (cost .entry)) p 0) n 1024 r ⌝ }
@@ -93,7 +93,7 @@ fn whole_work(cost: &[u32], n: usize) -> [u32; 1024]
     left
 }
 
-// The oldest job of each task.
+// The oldest job of each task; 0 past the tasks.
 fn first_jobs(task: &[u32], n: usize, tasks: usize) -> [usize; 32]
     requires { ⌜ (tasks ≤ 32) × (n ≤ length (now task)) ⌝ }
     ensures { λ r. ⌜ Holds (λ i. nextOf (now (task .entry)) n i 0) tasks 32 r ⌝ }
