@@ -56,4 +56,10 @@ unfolding runText runLine
 run-text-same n a b c d ra rb rc rd ha hb hc hd =
     ap (λ (t : List ℕ). runHeader ++ t)
     (lines-same (runLine (a ++ ra) (b ++ rb) (c ++ rc) (d ++ rd)) (runLine a b c d) n
-    (λ p l. rw (List·getD-append a ra 0 p (omega arith), List·getD-append b rb 0 p (omega arith), List·getD-append c rc 0 p (omega arith), List·getD-append d rd 0 p (omega arith))))
+    (λ p l. rw (
+      List·getD-append a ra 0 p (omega arith),
+      List·getD-append b rb 0 p (omega arith),
+      List·getD-append c rc 0 p (omega arith),
+      List·getD-append d rd 0 p
+          (omega arith),
+    )))

@@ -18,9 +18,11 @@ replay-first n f h = rw (replayText, decode-first n f h)
 
 -- a text of the bytes that were read into a buffer of 10,801 bytes or more is that of the whole file
 pub choose-printed
-    : (m : ℕ) (buffer : List ℕ) (n : ℕ) (held now : List ℕ) (r : ℕ) → 10801 ≤ length buffer → PutLine m held 0 (chooseText (take n buffer)) now r → Printed chooseText m buffer n held now r
+    : (m : ℕ) (buffer : List ℕ) (n : ℕ) (held now : List ℕ) (r : ℕ) → 10801 ≤ length buffer → PutLine m held 0 (chooseText (take n buffer)) now r
+    → Printed chooseText m buffer n held now r
 choose-printed m buffer n held now r h p = record { line = p; whole = λ f e. ap chooseText e ∙ choose-first (length buffer) f h }
 
 pub replay-printed
-    : (m : ℕ) (buffer : List ℕ) (n : ℕ) (held now : List ℕ) (r : ℕ) → 10801 ≤ length buffer → PutLine m held 0 (replayText (take n buffer)) now r → Printed replayText m buffer n held now r
+    : (m : ℕ) (buffer : List ℕ) (n : ℕ) (held now : List ℕ) (r : ℕ) → 10801 ≤ length buffer → PutLine m held 0 (replayText (take n buffer)) now r
+    → Printed replayText m buffer n held now r
 replay-printed m buffer n held now r h p = record { line = p; whole = λ f e. ap replayText e ∙ replay-first (length buffer) f h }

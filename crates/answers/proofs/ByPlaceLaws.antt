@@ -16,7 +16,7 @@ use Rattle.fileformat.proofs.RoundTripCalls.{releases-of-columns}
 use Rattle.report.specs.Report.{runHeader, runFields, runLine, runText}
 use Rattle.answers.specs.Answers.{tasksOf, ticksOf, costsOf, listText, replayText}
 use Rattle.answers.proofs.AnswerColumnLaws.{lines-same}
-use Rattle.answers.specs.RunByPlace.{jobLine, jobsText, withChosen, replayByPlace}
+use Rattle.answers.specs.RunByPlace.{jobLine, jobsText, withChosen, replayByPlace, ReplayIsByPlace}
 
 module _ (s : Tasks) (k : ℕ → ℕ) (l : List Release) where
   -- a line of the columns is the line by definition
@@ -46,7 +46,7 @@ list-by-place s l (chosen ks ws) =
     ∙ same-text s (column ks) l
 
 -- the text of every file
-pub replay-by-place : (f : List ℕ) → replayText f ≡ replayByPlace f
+pub replay-by-place : ReplayIsByPlace
 unfolding replayText replayByPlace
 replay-by-place f = go (decode f) refl
   where
@@ -55,6 +55,8 @@ replay-by-place f = go (decode f) refl
     go (answered x) e = rw (replayText, replayByPlace, e) (list-by-place (sheetOf (x .tasks)) (x .releases) (choice (sheetOf (x .tasks))))
 
 -- of an accepted file whose tasks fit: a line for each release, its last field the response
-pub replay-jobs : (f : List ℕ) (x : File) (ks : List ℕ) (ws : List ℤ) → decode f ≡ answered x → choice (sheetOf (x .tasks)) ≡ chosen ks ws → replayText f ≡ jobsText (sheetOf (x .tasks)) (column ks) (x .releases)
+pub replay-jobs
+    : (f : List ℕ) (x : File) (ks : List ℕ) (ws : List ℤ) → decode f ≡ answered x → choice (sheetOf (x .tasks)) ≡ chosen ks ws
+    → replayText f ≡ jobsText (sheetOf (x .tasks)) (column ks) (x .releases)
 unfolding replayByPlace withChosen
 replay-jobs f x ks ws e c = replay-by-place f ∙ rw (replayByPlace, e, withChosen, c)

@@ -88,7 +88,9 @@ module _ (f a b c : List ℕ) (ha : maxReleases ≤ length a) (hb : maxReleases 
           let q′ : _≡_ {A = Refusal} (record { number = n; place = p }) q = cc in
           let j : decode f ≡ refused (record { number = n; place = p }) = g ∙ ap refused (sym q′) in
           record { small = decode-within f (record { number = n; place = p }) j .place-high; choose = rw (chooseText, j); replay = rw (replayText, j) }
-      go (answered x) g = let i : refused (record { number = n; place = p }) ≡ answered (length (x .releases)) = said ∙ ap readCount g in let z : _≡_ {A = ℕ} 0 1 = cc in absurd (omega arith)
+      go (answered x) g =
+          let i : refused (record { number = n; place = p }) ≡ answered (length (x .releases)) = said ∙ ap readCount g in let z : _≡_ {A = ℕ} 0 1 = cc in absurd
+          (omega arith)
 
   -- a file that was accepted: the task set t and the columns p, q, r hold what it holds
   pub record Holds (n : ℕ) (t : TaskSet) (p q r : List ℕ) : Type 0 where
@@ -154,7 +156,8 @@ module _ (f a b c : List ℕ) (ha : maxReleases ≤ length a) (hb : maxReleases 
       build x g en ev ap′ aq ar =
           let v : ValidFile x = decode-valid f x g in
           let back : releasesOf n p q r ≡ x .releases =
-          rw (en, ap′, aq, ar) (releases-of-columns (x .releases) (drop (length (tasksOf (x .releases))) a) (drop (length (ticksOf (x .releases))) b) (drop (length (costsOf (x .releases))) c)) in
+          rw (en, ap′, aq, ar) (releases-of-columns (x .releases) (drop (length (tasksOf (x .releases))) a) (drop (length (ticksOf (x .releases))) b)
+          (drop (length (costsOf (x .releases))) c)) in
           let ok : none ≡ checkTasks (viewOf t) = rw ev (sym (v .tasks)) in
           record {
             sheet = ok;
@@ -162,9 +165,30 @@ module _ (f a b c : List ℕ) (ha : maxReleases ≤ length a) (hb : maxReleases 
             listed = record {
               sheet = ok;
               few = omega (arith, v .few);
-              task-long = omega (arith, ap length ap′, length-append (tasksOf (x .releases)) (drop (length (tasksOf (x .releases))) a), length-map (x .releases) (λ (y : Release). y .task));
-              tick-long = omega (arith, ap length aq, length-append (ticksOf (x .releases)) (drop (length (ticksOf (x .releases))) b), length-map (x .releases) (λ (y : Release). y .tick));
-              cost-long = omega (arith, ap length ar, length-append (costsOf (x .releases)) (drop (length (costsOf (x .releases))) c), length-map (x .releases) (λ (y : Release). y .cost));
+              task-long =
+                  omega (
+                    arith,
+                    ap length ap′,
+                    length-append (tasksOf (x .releases)) (drop (length (tasksOf (x .releases))) a),
+                    length-map (x .releases)
+                        (λ (y : Release). y .task),
+                  );
+              tick-long =
+                  omega (
+                    arith,
+                    ap length aq,
+                    length-append (ticksOf (x .releases)) (drop (length (ticksOf (x .releases))) b),
+                    length-map (x .releases)
+                        (λ (y : Release). y .tick),
+                  );
+              cost-long =
+                  omega (
+                    arith,
+                    ap length ar,
+                    length-append (costsOf (x .releases)) (drop (length (costsOf (x .releases))) c),
+                    length-map (x .releases)
+                        (λ (y : Release). y .cost),
+                  );
               list = rw (ev, back) (sym (v .releases));
             };
             replay = rw (replayText, g, en, ap′, aq, ar, ev) (list-same (sheetOf (x .tasks)) (x .releases) _ _ _ (choice (sheetOf (x .tasks))));

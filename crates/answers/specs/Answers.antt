@@ -48,7 +48,8 @@ unfoldable pub replayText : List ℕ → List ℕ
 replayText f =
     elim (decode f) [
       | refused r ↦ refusalText (r .number) (r .place)
-      | answered x ↦ listText (sheetOf (x .tasks)) (length (x .releases)) (tasksOf (x .releases)) (ticksOf (x .releases)) (costsOf (x .releases)) (choice (sheetOf (x .tasks)))
+      | answered x ↦ listText (sheetOf (x .tasks)) (length (x .releases)) (tasksOf (x .releases)) (ticksOf (x .releases)) (costsOf (x .releases))
+          (choice (sheetOf (x .tasks)))
     ]
 
 -- n bytes of a file were read into a buffer: the file's first bytes, to its end or until the buffer was full

@@ -1,5 +1,6 @@
 -- The text of the second program, release by release: what each field of a line means.
 use Prim.Native.Nat.{ℕ}
+use mathlib.Core.Path.{_≡_}
 use mathlib.Core.List.{List, _++_}
 use lib.ListN.{length}
 use Rattle.model.specs.Tasks.{Tasks, Release, releaseAt}
@@ -9,6 +10,7 @@ use Rattle.model.specs.Run.{finishAt, responseAt}
 use Rattle.model.specs.Choice.{Choice, unfit, chosen, column, choice}
 use Rattle.fileformat.specs.File.{sheetOf, decode}
 use Rattle.text.specs.Text.{lines}
+use Rattle.answers.specs.Answers.{replayText}
 use Rattle.report.specs.Report.{runHeader, runFields, refusalText}
 
 -- the line of the release at p: "place in the list, task, release, ready, finish, response", the response being the one that "late" is about
@@ -31,3 +33,7 @@ replayByPlace f =
       | refused r ↦ refusalText (r .number) (r .place)
       | answered x ↦ withChosen (sheetOf (x .tasks)) (x .releases) (choice (sheetOf (x .tasks)))
     ]
+
+-- `replay-by-place` (proofs/ByPlaceLaws.antt): what the second program prints is this text, for every file
+abbrev pub ReplayIsByPlace : Type 0
+ReplayIsByPlace = (f : List ℕ) → replayText f ≡ replayByPlace f

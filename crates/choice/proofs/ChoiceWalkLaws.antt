@@ -148,7 +148,9 @@ module _ (s : Tasks) (above : List ℕ) (i : ℕ) (W : ℕ → Option ℕ) (len 
         reach-next = omega arith
 
         met-next : Met (s .period i) (s .jitter i) W (suc q) N
-        met-next = ⊎-elim (λ z. let e : q * s .period i ≡ 0 = rw z (zero-mul (s .period i)) in here (omega (arith, walked .first-zero z))) (λ p. dite (decLt A (w + s .jitter i - q * s .period i)) (λ l. here (omega arith)) (λ l. there (walked .met p) (omega arith))) (eq-zero-or-pos q)
+        met-next =
+            ⊎-elim (λ z. let e : q * s .period i ≡ 0 = rw z (zero-mul (s .period i)) in here (omega (arith, walked .first-zero z)))
+            (λ p. dite (decLt A (w + s .jitter i - q * s .period i)) (λ l. here (omega arith)) (λ l. there (walked .met p) (omega arith))) (eq-zero-or-pos q)
           where
             here : N + q * s .period i ≡ w + s .jitter i → Met (s .period i) (s .jitter i) W (suc q) N
             here e = record { at = q; ticks = w; before = omega arith; is = is; value = e }
@@ -175,7 +177,9 @@ module _ (s : Tasks) (above : List ℕ) (i : ℕ) (W : ℕ → Option ℕ) (len 
                 here d = rw d (passes-on s (andKeep above K) i q w (same K q ∙ is) (in-time K l) (last-no K q w (omega arith) (omega arith)))
 
         module _ (stop : N - s .deadline i + w ≤ suc q * s .period i) where
-          fits-next : verdict s (andKeep above (N - s .deadline i)) i ≡ fits (peak (boundAt s (andKeep above (N - s .deadline i)) i) q .value) (peak (boundAt s (andKeep above (N - s .deadline i)) i) q .at)
+          fits-next
+              : verdict s (andKeep above (N - s .deadline i)) i ≡ fits (peak (boundAt s (andKeep above (N - s .deadline i)) i) q .value)
+              (peak (boundAt s (andKeep above (N - s .deadline i)) i) q .at)
           fits-next =
               let K = N - s .deadline i in
               fits-at s (andKeep above K) i q w (walked .within) (walked .passes K (omega arith)) (same K q ∙ is) (in-time K (omega arith)) (last-yes K q w stop)
@@ -202,7 +206,9 @@ module _ (s : Tasks) (above : List ℕ) (i : ℕ) (W : ℕ → Option ℕ) (len 
           -- and its largest R is the smaller of A and D
           pub walk-worst : worstOf (verdict s (andKeep above (N - s .deadline i)) i) ≡ pos (min N (s .deadline i))
           unfolding worstOf
-          walk-worst = ap worstOf fits-next ∙ peak-is (boundAt s (andKeep above (N - s .deadline i)) i) q (min N (s .deadline i)) (met-next .at) not-above (omega (arith, met-next .before)) met-there
+          walk-worst =
+              ap worstOf fits-next ∙ peak-is (boundAt s (andKeep above (N - s .deadline i)) i) q (min N (s .deadline i)) (met-next .at) not-above
+              (omega (arith, met-next .before)) met-there
             where
               not-above : (x : ℕ) → x ≤ q → ltZ (pos (min N (s .deadline i))) (boundAt s (andKeep above (N - s .deadline i)) i x) ≡ false
               not-above x l = go (timely x (omega arith))

@@ -101,9 +101,11 @@ module _ (s : TaskSet) (loads periods : List ℕ) where
       }
 
       -- a task that fits at no K
-      pub choosing-unfit : LeastOf loads periods keep i (viewOf s .jitter i) (viewOf s .deadline i) Unfit → ChoicesAre (viewOf s) (record { keep = keep; worst = worst; fitted = i })
+      pub choosing-unfit
+          : LeastOf loads periods keep i (viewOf s .jitter i) (viewOf s .deadline i) Unfit → ChoicesAre (viewOf s) (record { keep = keep; worst = worst; fitted = i })
       choosing-unfit h = record {
-        is = rw (choiceIn, lt-leb (s .count) i l) (sym (unfit-stays (viewOf s) i (suc i) (s .count) l (next-unfit (viewOf s) i _ _ (f .so-far) (h (viewOf s) flat-view))));
+        is =
+            rw (choiceIn, lt-leb (s .count) i l) (sym (unfit-stays (viewOf s) i (suc i) (s .count) l (next-unfit (viewOf s) i _ _ (f .so-far) (h (viewOf s) flat-view))));
         within = f .within;
         so-far = f .so-far;
         keep-past = f .keep-past;

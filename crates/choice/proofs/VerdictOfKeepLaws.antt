@@ -1,6 +1,6 @@
 -- What the verdict of a task says where its walk stops, and that W(q) depends on the tasks above alone.
 use Prim.Native.Nat.{ℕ, suc, _+_, _-_, _*_, _≤_, _<_}
-use mathlib.Core.Path.{_≡_, refl, sym, ap, ap₂, _∙_, fun-ext}
+use mathlib.Core.Path.{_≡_, ap, ap₂, _∙_, fun-ext}
 use mathlib.Core.Bool.{Bool, true, false}
 use mathlib.Core.Option.{some, none}
 use mathlib.Core.List.{List, [], _∷_}
@@ -38,12 +38,6 @@ keep-above above K j h = List·getD-append above (K ∷ []) 0 j h
 
 pub keep-own : (above : List ℕ) (K i : ℕ) → length above ≡ i → andKeep above K i ≡ K
 keep-own above K i h = rw (← h) (getD-append-seam above K [] 0)
-
--- and so it does not depend on the task's own K
-pub window-any : (s : Tasks) (above : List ℕ) (K L i q : ℕ) → length above ≡ i → window s (andKeep above K) i q ≡ window s (andKeep above L) i q
-window-any s above K L i q h =
-    window-same s s (andKeep above K) (andKeep above L) i q (λ j l. refl) (λ j l. refl)
-    (λ j l. keep-above above K j (omega arith) ∙ sym (keep-above above L j (omega arith)))
 
 module _ (s : Tasks) (k : ℕ → ℕ) (i : ℕ) where
   -- the walk over q has not stopped before q

@@ -2,7 +2,7 @@
 use Prim.Native.Nat.{ℕ, zero, suc, _+_, _-_, _/_, _≤_}
 use mathlib.Core.Path.{_≡_, refl}
 use native.Mathlib.Omega.{arith}
-use native.Mathlib.Nat.{le-div-iff-mul-le, div-lt-iff-lt-mul, le-mul-of-pos-right, le-of-suc-le-suc}
+use native.Mathlib.Nat.{le-div-iff-mul-le}
 use Rattle.model.specs.Arrival.{ceilDiv, arrivals}
 
 -- from one tick on, the count is a quotient rounded up
@@ -19,9 +19,3 @@ arrivals-none P K = refl
 -- at least one arrives in one tick or more
 pub arrivals-some : (P K t : ℕ) → 1 ≤ P → 1 ≤ t → 1 ≤ arrivals P K t
 arrivals-some P K t p h = rw (arrivals-at P K t h) (le-div-iff-mul-le p .1 (omega arith))
-
--- and no more than a tick or a tick of jitter each
-pub arrivals-few : (P K t : ℕ) → 1 ≤ P → arrivals P K t ≤ t + K
-arrivals-few P K zero p = rw (arrivals-none P K) (omega arith)
-arrivals-few P K (suc t) p =
-    rw (arrivals-at P K (suc t) (omega arith)) (le-of-suc-le-suc (div-lt-iff-lt-mul p .1 (omega (arith, le-mul-of-pos-right (suc t + K) p))))

@@ -81,10 +81,6 @@ pub short-more : (s : Tasks) (k : ℕ → ℕ) (i q t : ℕ) → TooShort s k i 
 short-more s k i q t f x l h = omega (arith, f x l h, demand-next s k i q x)
 
 module _ (s : Tasks) (k : ℕ → ℕ) (i : ℕ) where
-  -- W(q) is at least (q + 1) × E
-  pub window-own : (q w : ℕ) → Window s k i q w → suc q * load s i ≤ w
-  window-own q w f = omega (arith, demand-own s k i q w)
-
   -- with one job more it is longer
   pub window-rises : Periodic s i → 1 ≤ load s i → (q v w : ℕ) → Window s k i q v → Window s k i (suc q) w → v < w
   window-rises p h q v w f g = dite (decLe w v) (λ b. absurd (shorter b)) (λ b. omega arith)

@@ -54,5 +54,6 @@ module _ (loads periods keeps : List ℕ) (i J D : ℕ) (c : Searchable loads pe
           }
 
       -- the last member is W(q)
-      pub search-found : Search (flatTasks loads periods J D) (column keeps) i q t → t ≤ horizonTick → own + a ≤ t → Window (flatTasks loads periods J D) (column keeps) i q t
+      pub search-found
+          : Search (flatTasks loads periods J D) (column keeps) i q t → t ≤ horizonTick → own + a ≤ t → Window (flatTasks loads periods J D) (column keeps) i q t
       search-found f l h = record { low = f .low; high = l; met = rw (← demand-is) h; least = f .short }

@@ -36,11 +36,14 @@ record-number (k ∷ l) n e = go (eqb k 1) (eqb k 2) (eqb k 3) (ltb (length l) 1
 
     go : (a b c x y z : Bool) → eqb k 1 ≡ a → eqb k 2 ≡ b → eqb k 3 ≡ c → ltb (length l) 16 ≡ x → ltb (length l) 9 ≡ y → ltb (length l) 0 ≡ z → Number n
     go true b c true y z p q r t u v = is 2 (omega arith) (omega arith) (rw (recordOf, p, whole, t) at e)
-    go true b c false y z p q r t u v = let w : taskRecord (taskFrom l) ≡ broken n = rw (recordOf, p, whole, t) at e in let z : _≡_ {A = ℕ} 0 1 = cc in absurd (omega arith)
+    go true b c false y z p q r t u v =
+        let w : taskRecord (taskFrom l) ≡ broken n = rw (recordOf, p, whole, t) at e in let z : _≡_ {A = ℕ} 0 1 = cc in absurd (omega arith)
     go false true c x true z p q r t u v = is 2 (omega arith) (omega arith) (rw (recordOf, p, q, whole, u) at e)
-    go false true c x false z p q r t u v = let w : releaseRecord (releaseFrom l) ≡ broken n = rw (recordOf, p, q, whole, u) at e in let z : _≡_ {A = ℕ} 0 1 = cc in absurd (omega arith)
+    go false true c x false z p q r t u v =
+        let w : releaseRecord (releaseFrom l) ≡ broken n = rw (recordOf, p, q, whole, u) at e in let z : _≡_ {A = ℕ} 0 1 = cc in absurd (omega arith)
     go false false true x y true p q r t u v = is 2 (omega arith) (omega arith) (rw (recordOf, p, q, r, whole, v) at e)
-    go false false true x y false p q r t u v = let w : endRecord ≡ broken n = rw (recordOf, p, q, r, whole, v) at e in let z : _≡_ {A = ℕ} 0 1 = cc in absurd (omega arith)
+    go false false true x y false p q r t u v =
+        let w : endRecord ≡ broken n = rw (recordOf, p, q, r, whole, v) at e in let z : _≡_ {A = ℕ} 0 1 = cc in absurd (omega arith)
     go false false false x y z p q r t u v = is 1 (omega arith) (omega arith) (rw (recordOf, p, q, r) at e)
 
 -- a number that is known

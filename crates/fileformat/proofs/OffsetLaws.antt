@@ -48,11 +48,15 @@ module _ (f : List ℕ) (at : ℕ) where
   room r h e = rw e (omega (arith, size-in (drop at f) (recordOf (drop at f)) (shape (drop at f)), length-drop at f))
 
   -- its fields
-  pub task-fields : (p j e d : ℕ) → p ≡ field at 4 f → j ≡ field (at + 4) 4 f → e ≡ field (at + 8) 4 f → d ≡ field (at + 12) 4 f → _≡_ {A = Task} (record { period = p; jitter = j; cost = e; deadline = d }) (taskFrom (drop at f))
+  pub task-fields
+      : (p j e d : ℕ) → p ≡ field at 4 f → j ≡ field (at + 4) 4 f → e ≡ field (at + 8) 4 f → d ≡ field (at + 12) 4 f
+      → _≡_ {A = Task} (record { period = p; jitter = j; cost = e; deadline = d }) (taskFrom (drop at f))
   unfolding taskFrom
   task-fields p j e d a b c g =
       rw (field-drop at 0 4 f, field-drop at 4 4 f, field-drop at 8 4 f, field-drop at 12 4 f, a, b, c, g, add-zero)
 
-  pub release-fields : (i t c : ℕ) → i ≡ field at 1 f → t ≡ field (at + 1) 4 f → c ≡ field (at + 5) 4 f → _≡_ {A = Release} (record { task = i; tick = t; cost = c }) (releaseFrom (drop at f))
+  pub release-fields
+      : (i t c : ℕ) → i ≡ field at 1 f → t ≡ field (at + 1) 4 f → c ≡ field (at + 5) 4 f
+      → _≡_ {A = Release} (record { task = i; tick = t; cost = c }) (releaseFrom (drop at f))
   unfolding releaseFrom
   release-fields i t c a b g = rw (field-drop at 0 1 f, field-drop at 1 4 f, field-drop at 5 4 f, a, b, g, add-zero)

@@ -68,12 +68,16 @@ record Stands (s : State) (at m : ℕ) : Type 0 where
 
 module _ (n n′ : ℕ) (s : State) (at m : ℕ) (f : List ℕ) (a : Stands s at m) (h : length f < suc n) (h′ : length (take m f) < suc n′) where
   abbrev Rest : ℕ → Type 0
-  Rest k = (s′ : State) → Stands s′ (at + k) (m - k) → length (drop k f) < n → length (take (m - k) (drop k f)) < n′ → readFrom n′ s′ (at + k) (take (m - k) (drop k f)) ≡ readFrom n s′ (at + k) (drop k f)
+  Rest k =
+      (s′ : State) → Stands s′ (at + k) (m - k) → length (drop k f) < n → length (take (m - k) (drop k f)) < n′ → readFrom n′ s′ (at + k)
+      (take (m - k) (drop k f)) ≡ readFrom n s′ (at + k) (drop k f)
 
   long-enough : 17 ≤ m
   long-enough = omega (arith, a .offset, a .few-tasks, a .few-releases, a .ahead)
 
-  taken : (r : Record) (s′ : State) → recordOf f ≡ r → recordOf (take m f) ≡ r → advance s r ≡ next s′ → 1 ≤ sizeOf r → sizeOf r ≤ 17 → Stands s′ (at + sizeOf r) (m - sizeOf r) → Rest (sizeOf r) → readFrom (suc n′) s at (take m f) ≡ readFrom (suc n) s at f
+  taken
+      : (r : Record) (s′ : State) → recordOf f ≡ r → recordOf (take m f) ≡ r → advance s r ≡ next s′ → 1 ≤ sizeOf r → sizeOf r ≤ 17
+      → Stands s′ (at + sizeOf r) (m - sizeOf r) → Rest (sizeOf r) → readFrom (suc n′) s at (take m f) ≡ readFrom (suc n) s at f
   taken r s′ d d′ e l l′ b ih =
       let i : sizeOf r ≤ length f = size-in f r (rw d at (shape f)) in
       let c : drop (sizeOf r) (take m f) ≡ take (m - sizeOf r) (drop (sizeOf r) f) = drop-take (sizeOf r) m f (omega (arith, long-enough)) in

@@ -108,13 +108,17 @@ pub record ReleaseFits (r : Release) : Type 0 where
   pub cost : r .cost < 4294967296
 
 -- the bytes of a task give it back
-task-from : (t : Task) (m : List ℕ) → TaskFits t → taskFrom (bytesOf 4 (t .period) ++ (bytesOf 4 (t .jitter) ++ (bytesOf 4 (t .cost) ++ (bytesOf 4 (t .deadline) ++ m)))) ≡ t
+task-from
+    : (t : Task) (m : List ℕ) → TaskFits t → taskFrom (bytesOf 4 (t .period) ++ (bytesOf 4 (t .jitter) ++ (bytesOf 4 (t .cost) ++ (bytesOf 4 (t .deadline) ++ m)))) ≡ t
 unfolding taskFrom
 task-from t m f =
     let e1 = field-here 4 (t .period) (bytesOf 4 (t .jitter) ++ (bytesOf 4 (t .cost) ++ (bytesOf 4 (t .deadline) ++ m))) (f .period) in
-    let e2 = field-after 0 4 4 (t .period) (bytesOf 4 (t .jitter) ++ (bytesOf 4 (t .cost) ++ (bytesOf 4 (t .deadline) ++ m))) ∙ field-here 4 (t .jitter) (bytesOf 4 (t .cost) ++ (bytesOf 4 (t .deadline) ++ m)) (f .jitter) in
-    let e3 = field-after 4 4 4 (t .period) (bytesOf 4 (t .jitter) ++ (bytesOf 4 (t .cost) ++ (bytesOf 4 (t .deadline) ++ m))) ∙ field-after 0 4 4 (t .jitter) (bytesOf 4 (t .cost) ++ (bytesOf 4 (t .deadline) ++ m)) ∙ field-here 4 (t .cost) (bytesOf 4 (t .deadline) ++ m) (f .cost) in
-    let e4 = field-after 8 4 4 (t .period) (bytesOf 4 (t .jitter) ++ (bytesOf 4 (t .cost) ++ (bytesOf 4 (t .deadline) ++ m))) ∙ field-after 4 4 4 (t .jitter) (bytesOf 4 (t .cost) ++ (bytesOf 4 (t .deadline) ++ m)) ∙ field-after 0 4 4 (t .cost) (bytesOf 4 (t .deadline) ++ m) ∙ field-here 4 (t .deadline) m (f .deadline) in
+    let e2 = field-after 0 4 4 (t .period) (bytesOf 4 (t .jitter) ++ (bytesOf 4 (t .cost) ++ (bytesOf 4 (t .deadline) ++ m))) ∙ field-here 4 (t .jitter)
+    (bytesOf 4 (t .cost) ++ (bytesOf 4 (t .deadline) ++ m)) (f .jitter) in
+    let e3 = field-after 4 4 4 (t .period) (bytesOf 4 (t .jitter) ++ (bytesOf 4 (t .cost) ++ (bytesOf 4 (t .deadline) ++ m))) ∙ field-after 0 4 4 (t .jitter)
+    (bytesOf 4 (t .cost) ++ (bytesOf 4 (t .deadline) ++ m)) ∙ field-here 4 (t .cost) (bytesOf 4 (t .deadline) ++ m) (f .cost) in
+    let e4 = field-after 8 4 4 (t .period) (bytesOf 4 (t .jitter) ++ (bytesOf 4 (t .cost) ++ (bytesOf 4 (t .deadline) ++ m))) ∙ field-after 4 4 4 (t .jitter)
+    (bytesOf 4 (t .cost) ++ (bytesOf 4 (t .deadline) ++ m)) ∙ field-after 0 4 4 (t .cost) (bytesOf 4 (t .deadline) ++ m) ∙ field-here 4 (t .deadline) m (f .deadline) in
     rw (e1, e2, e3, e4)
 
 pub task-read : (t : Task) (m : List ℕ) → TaskFits t → recordOf (taskBytes t ++ m) ≡ taskRecord t
@@ -130,7 +134,8 @@ unfolding releaseFrom
 release-from r m f =
     let e1 = field-here 1 (r .task) (bytesOf 4 (r .tick) ++ (bytesOf 4 (r .cost) ++ m)) (f .task) in
     let e2 = field-after 0 4 1 (r .task) (bytesOf 4 (r .tick) ++ (bytesOf 4 (r .cost) ++ m)) ∙ field-here 4 (r .tick) (bytesOf 4 (r .cost) ++ m) (f .tick) in
-    let e3 = field-after 4 4 1 (r .task) (bytesOf 4 (r .tick) ++ (bytesOf 4 (r .cost) ++ m)) ∙ field-after 0 4 4 (r .tick) (bytesOf 4 (r .cost) ++ m) ∙ field-here 4 (r .cost) m (f .cost) in
+    let e3 = field-after 4 4 1 (r .task) (bytesOf 4 (r .tick) ++ (bytesOf 4 (r .cost) ++ m)) ∙ field-after 0 4 4 (r .tick) (bytesOf 4 (r .cost) ++ m) ∙ field-here 4
+    (r .cost) m (f .cost) in
     rw (e1, e2, e3)
 
 pub release-read : (r : Release) (m : List ℕ) → ReleaseFits r → recordOf (releaseBytes r ++ m) ≡ releaseRecord r

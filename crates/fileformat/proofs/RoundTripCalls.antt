@@ -100,7 +100,8 @@ pub read-passes : ReadPasses
 read-passes f x a b c e =
     let v = decode-valid f x e in
     let l = x .releases in
-    let long : (g : Release → ℕ) (y : List ℕ) → length (x .releases) ≤ length (map g (x .releases) ++ y) = λ g y. omega (arith, length-append (map g (x .releases)) y, length-map (x .releases) g) in
+    let long : (g : Release → ℕ) (y : List ℕ) → length (x .releases) ≤ length (map g (x .releases) ++ y) = λ g y. omega
+    (arith, length-append (map g (x .releases)) y, length-map (x .releases) g) in
     accepts _
     (record {
       tasks = rw (view-set (x .tasks)) (sym (v .tasks));

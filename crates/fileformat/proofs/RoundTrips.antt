@@ -97,14 +97,19 @@ after-end s at [] x e = (refl, (cc))
 after-end s at (b ∷ l) x e = let z : _≡_ {A = ℕ} 0 1 = cc in absurd (omega arith)
 
 -- the bytes of a record that is taken follow those read before
-follows : (s s′ : State) (f : List ℕ) (r : Record) (x : File) → partOf s′ ≡ partOf s ++ recordBytes r → recordBytes r ++ drop (sizeOf r) f ≡ f → encode x ≡ partOf s′ ++ drop (sizeOf r) f → encode x ≡ partOf s ++ f
+follows
+    : (s s′ : State) (f : List ℕ) (r : Record) (x : File) → partOf s′ ≡ partOf s ++ recordBytes r → recordBytes r ++ drop (sizeOf r) f ≡ f
+    → encode x ≡ partOf s′ ++ drop (sizeOf r) f → encode x ≡ partOf s ++ f
 follows s s′ f r x p q e =
     e ∙ ap (λ y. y ++ drop (sizeOf r) f) p ∙ append-assoc (partOf s) (recordBytes r) (drop (sizeOf r) f) ∙ ap (λ y. partOf s ++ y) q
 
 never-answered : (q : Refusal) (x : File) → refused q ≡ answered x → ⊥
 never-answered q x e = let z : _≡_ {A = ℕ} 0 1 = cc in omega arith
 
-written-step : (n : ℕ) (s : State) (at : ℕ) (f : List ℕ) (x : File) (r : Record) (t : Step) → recordOf f ≡ r → advance s r ≡ t → Moves s r t → Bytes f → readFrom (suc n) s at f ≡ answered x → ((s′ : State) → readFrom n s′ (at + sizeOf r) (drop (sizeOf r) f) ≡ answered x → encode x ≡ partOf s′ ++ drop (sizeOf r) f) → encode x ≡ partOf s ++ f
+written-step
+    : (n : ℕ) (s : State) (at : ℕ) (f : List ℕ) (x : File) (r : Record) (t : Step) → recordOf f ≡ r → advance s r ≡ t → Moves s r t → Bytes f
+    → readFrom (suc n) s at f ≡ answered x → ((s′ : State) → readFrom n s′ (at + sizeOf r) (drop (sizeOf r) f) ≡ answered x → encode x ≡ partOf s′ ++ drop (sizeOf r) f)
+    → encode x ≡ partOf s ++ f
 unfolding recordBytes
 written-step n s at f x r t d a (stops q k) b e ih =
     absurd (never-answered _ x (sym (read-stop n s at f r d k a) ∙ e))
@@ -149,14 +154,18 @@ drop-task t m = drop-at (taskBytes t) m 17 (length-task t)
 drop-release : (r : Release) (m : List ℕ) → drop 10 (releaseBytes r ++ m) ≡ m
 drop-release r m = drop-at (releaseBytes r) m 10 (length-release r)
 
-reads-task : (t : Task) (n : ℕ) (ts : List Task) (at : ℕ) (m : List ℕ) → Ranged t → length ts < maxTasks → readFrom (suc n) (tasksOnly ts) at (taskBytes t ++ m) ≡ readFrom n (tasksOnly (ts ++ (t ∷ []))) (at + 17) m
+reads-task
+    : (t : Task) (n : ℕ) (ts : List Task) (at : ℕ) (m : List ℕ) → Ranged t → length ts < maxTasks
+    → readFrom (suc n) (tasksOnly ts) at (taskBytes t ++ m) ≡ readFrom n (tasksOnly (ts ++ (t ∷ []))) (at + 17) m
 unfolding sizeOf
 reads-task t n ts at m h l =
     read-next n (tasksOnly ts) at (taskBytes t ++ m) (taskRecord t) (task-read t m (ranged-fits t h)) (tasksOnly (ts ++ (t ∷ [])))
     (task-taken (tasksOnly ts) t (task-fine _ _ t refl l (in-range-yes _ _ _ _ h)))
     ∙ ap (readFrom n (tasksOnly (ts ++ (t ∷ []))) (at + 17)) (drop-task t m)
 
-reads-tasks : (l : List Task) (n : ℕ) (ts : List Task) (at : ℕ) (m : List ℕ) → AllRanged l → length ts + length l ≤ maxTasks → readFrom (length l + n) (tasksOnly ts) at (taskPart l ++ m) ≡ readFrom n (tasksOnly (ts ++ l)) (at + 17 * length l) m
+reads-tasks
+    : (l : List Task) (n : ℕ) (ts : List Task) (at : ℕ) (m : List ℕ) → AllRanged l → length ts + length l ≤ maxTasks
+    → readFrom (length l + n) (tasksOnly ts) at (taskPart l ++ m) ≡ readFrom n (tasksOnly (ts ++ l)) (at + 17 * length l) m
 unfolding joined recordBytes
 reads-tasks [] n ts at m h c =
     let e : 0 + n ≡ n = omega arith in
@@ -178,7 +187,9 @@ passed-fits : (ts : List Task) (before : ℕ) (r : Release) → Valid (sheetOf t
 passed-fits ts before r v p =
     record { task = omega (arith, v .few-tasks, p .known); tick = omega (arith, p .tick-high); cost = omega (arith, p .cost-high, v .in-range (r .task) (p .known)) }
 
-reads-release : (r : Release) (n : ℕ) (ts : List Task) (rs : List Release) (before at : ℕ) (m : List ℕ) → Valid (sheetOf ts) → releaseFault (sheetOf ts) before r ≡ none → length rs < maxReleases → readFrom (suc n) (readTo ts rs before) at (releaseBytes r ++ m) ≡ readFrom n (readTo ts (rs ++ (r ∷ [])) (r .tick)) (at + 10) m
+reads-release
+    : (r : Release) (n : ℕ) (ts : List Task) (rs : List Release) (before at : ℕ) (m : List ℕ) → Valid (sheetOf ts) → releaseFault (sheetOf ts) before r ≡ none
+    → length rs < maxReleases → readFrom (suc n) (readTo ts rs before) at (releaseBytes r ++ m) ≡ readFrom n (readTo ts (rs ++ (r ∷ [])) (r .tick)) (at + 10) m
 unfolding sizeOf
 reads-release r n ts rs before at m v h l =
     read-next n (readTo ts rs before) at (releaseBytes r ++ m) (releaseRecord r)
@@ -186,7 +197,10 @@ reads-release r n ts rs before at m v h l =
     (release-taken (readTo ts rs before) r (list-fine (sheetOf ts) _ _ r (v .some-task) h l))
     ∙ ap (readFrom n (readTo ts (rs ++ (r ∷ [])) (r .tick)) (at + 10)) (drop-release r m)
 
-reads-releases : (l : List Release) (n : ℕ) (ts : List Task) (rs : List Release) (before p at : ℕ) (m : List ℕ) (x : File) → Valid (sheetOf ts) → checkReleases (sheetOf ts) before p l ≡ none → length rs + length l ≤ maxReleases → ((b k : ℕ) → readFrom n (readTo ts (rs ++ l) b) k m ≡ answered x) → readFrom (length l + n) (readTo ts rs before) at (releasePart l ++ m) ≡ answered x
+reads-releases
+    : (l : List Release) (n : ℕ) (ts : List Task) (rs : List Release) (before p at : ℕ) (m : List ℕ) (x : File) → Valid (sheetOf ts)
+    → checkReleases (sheetOf ts) before p l ≡ none → length rs + length l ≤ maxReleases → ((b k : ℕ) → readFrom n (readTo ts (rs ++ l) b) k m ≡ answered x)
+    → readFrom (length l + n) (readTo ts rs before) at (releasePart l ++ m) ≡ answered x
 unfolding joined recordBytes
 reads-releases [] n ts rs before p at m x v h c g =
     let e : 0 + n ≡ n = omega arith in
@@ -199,7 +213,9 @@ reads-releases (r ∷ l) n ts rs before p at m x v h c g =
     ∙ reads-releases l n ts (rs ++ (r ∷ [])) (r .tick) (suc p) (at + 10) m x v (q .1) (omega (arith, length-append rs (r ∷ [])))
     (λ b k. rw (append-snoc rs r l) (g b k))
 
-reads-end : (n : ℕ) (ts : List Task) (rs : List Release) (b k : ℕ) → 1 ≤ length ts → readFrom (suc n) (readTo ts rs b) k (3 ∷ []) ≡ answered (record { tasks = ts; releases = rs })
+reads-end
+    : (n : ℕ) (ts : List Task) (rs : List Release) (b k : ℕ) → 1 ≤ length ts
+    → readFrom (suc n) (readTo ts rs b) k (3 ∷ []) ≡ answered (record { tasks = ts; releases = rs })
 unfolding sizeOf afterEnd
 reads-end n ts rs b k l = read-last n (readTo ts rs b) k (3 ∷ []) endRecord (record-end []) (end-taken (readTo ts rs b) (end-fine _ l))
 
@@ -209,10 +225,13 @@ unfolding decode
 decode-encode x h =
     let v = valid-of (sheetOf (x .tasks)) (h .tasks) in
     let c : length (x .tasks) ≤ maxTasks = v .few-tasks in
-    let e : suc (length (encode x)) ≡ length (x .tasks) + (length (x .releases) + suc (16 * length (x .tasks) + 9 * length (x .releases) + 1)) = omega (arith, length-encode x) in
+    let e : suc (length (encode x)) ≡ length (x .tasks) + (length (x .releases) + suc (16 * length (x .tasks) + 9 * length (x .releases) + 1)) = omega
+    (arith, length-encode x) in
     ap₂ (λ k f. readFrom k empty 0 f) e (encode-parts x)
-    ∙ reads-tasks (x .tasks) (length (x .releases) + suc (16 * length (x .tasks) + 9 * length (x .releases) + 1)) [] 0 (releasePart (x .releases) ++ (3 ∷ [])) (v .in-range) (omega arith)
-    ∙ reads-releases (x .releases) (suc (16 * length (x .tasks) + 9 * length (x .releases) + 1)) (x .tasks) [] 0 0 (0 + 17 * length (x .tasks)) (3 ∷ []) x v (h .releases) (omega (arith, h .few))
+    ∙ reads-tasks (x .tasks) (length (x .releases) + suc (16 * length (x .tasks) + 9 * length (x .releases) + 1)) [] 0 (releasePart (x .releases) ++ (3 ∷ []))
+    (v .in-range) (omega arith)
+    ∙ reads-releases (x .releases) (suc (16 * length (x .tasks) + 9 * length (x .releases) + 1)) (x .tasks) [] 0 0 (0 + 17 * length (x .tasks)) (3 ∷ []) x v (h .releases)
+    (omega (arith, h .few))
     (λ b k. reads-end (16 * length (x .tasks) + 9 * length (x .releases) + 1) (x .tasks) (x .releases) b k (v .some-task))
 
 -- what is read so far is within document 01's limits
@@ -266,7 +285,9 @@ good-valid s g l =
       few = g .few-releases;
     }
 
-valid-step : (n : ℕ) (s : State) (at : ℕ) (f : List ℕ) (x : File) (r : Record) (t : Step) → recordOf f ≡ r → advance s r ≡ t → Moves s r t → Good s → readFrom (suc n) s at f ≡ answered x → ((s′ : State) → Good s′ → readFrom n s′ (at + sizeOf r) (drop (sizeOf r) f) ≡ answered x → ValidFile x) → ValidFile x
+valid-step
+    : (n : ℕ) (s : State) (at : ℕ) (f : List ℕ) (x : File) (r : Record) (t : Step) → recordOf f ≡ r → advance s r ≡ t → Moves s r t → Good s
+    → readFrom (suc n) s at f ≡ answered x → ((s′ : State) → Good s′ → readFrom n s′ (at + sizeOf r) (drop (sizeOf r) f) ≡ answered x → ValidFile x) → ValidFile x
 valid-step n s at f x r t d a (stops q k) g e ih = absurd (never-answered _ x (sym (read-stop n s at f r d k a) ∙ e))
 valid-step n s at f x r t d a (takes-task t′ z l h) g e ih =
     ih _ (good-task s t′ g z l h) (sym (read-next n s at f r d _ a) ∙ e)

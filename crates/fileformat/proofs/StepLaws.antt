@@ -97,13 +97,17 @@ module _ (s : State) where
 pub data Moves (s : State) : Record → Step → Type 0 where
   stops : (r : Record) (n : ℕ) → Moves s r (stop n)
   takes-task : (t : Task) → length (s .releases) ≡ 0 → length (s .tasks) < maxTasks → Ranged t → Moves s (taskRecord t) (next (withTask s t))
-  takes-release : (r : Release) → 1 ≤ length (s .tasks) → releaseFault (sheetOf (s .tasks)) (s .before) r ≡ none → length (s .releases) < maxReleases → Moves s (releaseRecord r) (next (withRelease s r))
+  takes-release
+      : (r : Release) → 1 ≤ length (s .tasks) → releaseFault (sheetOf (s .tasks)) (s .before) r ≡ none → length (s .releases) < maxReleases
+      → Moves s (releaseRecord r) (next (withRelease s r))
   ends : 1 ≤ length (s .tasks) → Moves s endRecord last
 
 task-moves : (s : State) (t : Task) → Moves s (taskRecord t) (advance s (taskRecord t))
 task-moves s t = after (ltb 0 (length (s .releases))) refl
   where
-    ranged : length (s .releases) ≡ 0 → length (s .tasks) < maxTasks → (b : Bool) → inRange (t .period) (t .jitter) (t .cost) (t .deadline) ≡ b → Moves s (taskRecord t) (advance s (taskRecord t))
+    ranged
+        : length (s .releases) ≡ 0 → length (s .tasks) < maxTasks → (b : Bool) → inRange (t .period) (t .jitter) (t .cost) (t .deadline) ≡ b
+        → Moves s (taskRecord t) (advance s (taskRecord t))
     ranged z l true e = rw (task-taken s t (task-fine _ _ t z l e)) (takes-task t z l (in-range-of _ _ _ _ e))
     ranged z l false e = rw (task-stops s t 6 (task-outside _ _ t z l e)) (stops _ 6)
 
@@ -118,7 +122,9 @@ task-moves s t = after (ltb 0 (length (s .releases))) refl
 release-moves : (s : State) (r : Release) → Moves s (releaseRecord r) (advance s (releaseRecord r))
 release-moves s r = early (ltb 0 (length (s .tasks))) refl
   where
-    over : 1 ≤ length (s .tasks) → releaseFault (sheetOf (s .tasks)) (s .before) r ≡ none → (b : Bool) → leb maxReleases (length (s .releases)) ≡ b → Moves s (releaseRecord r) (advance s (releaseRecord r))
+    over
+        : 1 ≤ length (s .tasks) → releaseFault (sheetOf (s .tasks)) (s .before) r ≡ none → (b : Bool) → leb maxReleases (length (s .releases)) ≡ b
+        → Moves s (releaseRecord r) (advance s (releaseRecord r))
     over l f true e = rw (release-stops s r 10 (list-over (sheetOf (s .tasks)) _ _ r l f (leb-true _ _ e))) (stops _ 10)
     over l f false e = rw (release-taken s r (list-fine (sheetOf (s .tasks)) _ _ r l f (leb-false _ _ e))) (takes-release r l f (leb-false _ _ e))
 

@@ -15,6 +15,7 @@ use Rattle.theory.proofs.RunLaws.{runs-some}
 use Rattle.theory.proofs.FinishLaws.{finish-ran, finish-over}
 use Rattle.processor.proofs.PlainDemand.{regular}
 use Rattle.processor.proofs.JobLaws.{some-work}
+use Rattle.guarantee.specs.Idle.{IdleAfterLast}
 use Rattle.guarantee.proofs.PlainRun.{all-ours}
 
 -- a largest value that is not 0 is one of some values
@@ -34,15 +35,16 @@ module _ (s : Tasks) (k : ℕ → ℕ) (l : List Release) (tr : Trace s l) where
           let b : p < length l = runs-some (jobs s k l) t p e .in-list in
           absurd (finish-over (jobs s k l) (all-ours s k l) p b (some-work plain regular s k l tr p b) t (h p b) e)
 
-  -- from the last finish on, every tick is idle
-  pub idle-from : (t : ℕ) → most (finishAt s k l) (length l) ≤ t → runs (jobs s k l) t ≡ none
-  idle-from t h = idle-at t (λ p b. omega (arith, most-ge (finishAt s k l) (length l) p b))
-
-  -- and not sooner: in the tick before the last finish a job runs
+  -- in the tick before the last finish a job runs
   pub busy-last : (t : ℕ) → most (finishAt s k l) (length l) ≡ suc t → (p : ℕ) × (p < length l) × (runs (jobs s k l) t ≡ some p)
   unfolding finishAt
   busy-last t e =
-      let m : (p : ℕ) × (p < length l) × (most (finishAt s k l) (length l) ≡ finishAt s k l p) = most-is (finishAt s k l) (length l) (some-value (finishAt s k l) (length l) t e) in
+      let m : (p : ℕ) × (p < length l) × (most (finishAt s k l) (length l) ≡ finishAt s k l p) = most-is (finishAt s k l) (length l)
+      (some-value (finishAt s k l) (length l) t e) in
       let r = finish-ran (jobs s k l) (all-ours s k l) (m .0) (m .1) (some-work plain regular s k l tr (m .0) (m .1)) in
       let u : r .0 ≡ t = omega (arith, r .1, m .2) in
       (m .0, m .1, rw u at (r .2 .0))
+
+-- from the last finish on, every tick is idle
+pub idle-from : IdleAfterLast
+idle-from s k l tr t h = idle-at s k l tr t (λ p b. omega (arith, most-ge (finishAt s k l) (length l) p b))

@@ -25,7 +25,16 @@ is-false false h = refl
 pub in-range-yes : (P J E D : ℕ) → InRange P J E D → inRange P J E D ≡ true
 unfolding inRange
 in-range-yes P J E D h =
-    rw (le-leb 1 P (omega arith), le-leb P maxTime (omega arith), le-leb J maxTime (omega arith), le-leb 1 E (omega arith), le-leb E P (omega arith), le-leb E D (omega arith), le-leb D maxTime (omega arith))
+    rw (
+      le-leb 1 P (omega arith),
+      le-leb P maxTime (omega arith),
+      le-leb J maxTime (omega arith),
+      le-leb 1 E (omega arith),
+      le-leb E P (omega arith),
+      le-leb E D
+          (omega arith),
+      le-leb D maxTime (omega arith),
+    )
 
 both : (a b : Bool) → (a && b) ≡ true → (a ≡ true) × (b ≡ true)
 both a b h = and-eq-true-iff a b .0 h

@@ -64,11 +64,14 @@ module _ (c : Inputs) (r : Refusal) where
   unfolding refusalOf
   refused-count t i e = first-refusal _ _ r e ∙ next-check _ _ i ∙ next-check _ _ t
 
-  pub refused-slots : none ≡ checkTasks (c .tasks) → none ≡ checkTask (c .tasks) (c .single) → none ≡ checkCount (c .count) → some r ≡ checkSlots (c .lent) → some r ≡ refusalOf c
+  pub refused-slots
+      : none ≡ checkTasks (c .tasks) → none ≡ checkTask (c .tasks) (c .single) → none ≡ checkCount (c .count) → some r ≡ checkSlots (c .lent) → some r ≡ refusalOf c
   unfolding refusalOf
   refused-slots t i n e = first-refusal _ _ r e ∙ next-check _ _ n ∙ next-check _ _ i ∙ next-check _ _ t
 
-  pub refused-kept : none ≡ checkTasks (c .tasks) → none ≡ checkTask (c .tasks) (c .single) → none ≡ checkCount (c .count) → none ≡ checkSlots (c .lent) → some r ≡ checkKept (c .tasks) (c .kept) → some r ≡ refusalOf c
+  pub refused-kept
+      : none ≡ checkTasks (c .tasks) → none ≡ checkTask (c .tasks) (c .single) → none ≡ checkCount (c .count) → none ≡ checkSlots (c .lent)
+      → some r ≡ checkKept (c .tasks) (c .kept) → some r ≡ refusalOf c
   unfolding refusalOf
   refused-kept t i n l e = first-refusal _ _ r e ∙ next-check _ _ l ∙ next-check _ _ n ∙ next-check _ _ i ∙ next-check _ _ t
 

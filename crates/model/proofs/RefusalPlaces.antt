@@ -48,7 +48,8 @@ within-at B n none r h g l e = let z : _≡_ {A = ℕ} 0 1 = cc in absurd (omega
 within-at B n (some p) r h g l e = within-known B n p r h g (l p refl) e
 
 -- checks in order: the first refuses, or it passes and a later one refuses
-by-first : {A : Type 0} (c : Option Refusal) (l : List (Option Refusal)) (r : Refusal) → (some r ≡ c → A) → (none ≡ c → some r ≡ firstOf l → A) → some r ≡ firstOf (c ∷ l) → A
+by-first
+    : {A : Type 0} (c : Option Refusal) (l : List (Option Refusal)) (r : Refusal) → (some r ≡ c → A) → (none ≡ c → some r ≡ firstOf l → A) → some r ≡ firstOf (c ∷ l) → A
 unfolding firstOf
 by-first none l r f g e = g refl e
 by-first (some q) l r f g e = f e
@@ -104,7 +105,9 @@ fault-number s before r n e = known (leb (s .count) (r .task)) refl
     is : (m : ℕ) → 7 ≤ m → m ≤ 9 → some m ≡ some n → (7 ≤ n) × (n ≤ 9)
     is m a b h = let w : m ≡ n = cc in (omega arith, omega arith)
 
-    cost : (a b c : Bool) → leb (s .count) (r .task) ≡ a → (ltb (r .tick) before || ltb maxTick (r .tick)) ≡ b → (eqb (r .cost) 0 || ltb (s .cost (r .task)) (r .cost)) ≡ c → (7 ≤ n) × (n ≤ 9)
+    cost
+        : (a b c : Bool) → leb (s .count) (r .task) ≡ a → (ltb (r .tick) before || ltb maxTick (r .tick)) ≡ b → (eqb (r .cost) 0 || ltb (s .cost (r .task)) (r .cost)) ≡ c
+        → (7 ≤ n) × (n ≤ 9)
     cost true b c h g f = is 7 (omega arith) (omega arith) (rw (releaseFault, h) at e)
     cost false true c h g f = is 8 (omega arith) (omega arith) (rw (releaseFault, h, g) at e)
     cost false false true h g f = is 9 (omega arith) (omega arith) (rw (releaseFault, h, g, f) at e)

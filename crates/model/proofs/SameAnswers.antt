@@ -51,7 +51,8 @@ column-same none r′ a a′ held e h = ap₂ (λ o x. columnAfter o x held) e (
 column-same (some q) r′ a a′ held e h = sym (column-kept (some q) q a held refl) ∙ column-kept r′ q a′ held e
 
 -- the fault of a release of a task of the sheet
-fault-known : (s s′ : Tasks) (before : ℕ) (r : Release) → s .count ≡ s′ .count → s .cost (r .task) ≡ s′ .cost (r .task) → releaseFault s before r ≡ releaseFault s′ before r
+fault-known
+    : (s s′ : Tasks) (before : ℕ) (r : Release) → s .count ≡ s′ .count → s .cost (r .task) ≡ s′ .cost (r .task) → releaseFault s before r ≡ releaseFault s′ before r
 unfolding releaseFault
 fault-known s s′ before r n c = λ x.
     elim (leb (n x) (r .task)) [
@@ -79,7 +80,8 @@ module _ (s s′ : Tasks) (same : SameTasks s s′) where
           ≡ first (λ i. not (inRange (s′ .period i) (s′ .jitter i) (s′ .cost i) (s′ .deadline i))) (s′ .count) 0
       ranges =
           first-eq _ _ (s .count) 0
-          (λ i l h. λ x. not (inRange (same .period i (omega arith) x) (same .jitter i (omega arith) x) (same .cost i (omega arith) x) (same .deadline i (omega arith) x)))
+          (λ i l h. λ x. not (inRange (same .period i (omega arith) x) (same .jitter i (omega arith) x) (same .cost i (omega arith) x)
+          (same .deadline i (omega arith) x)))
           ∙ ap (λ n. first (λ i. not (inRange (s′ .period i) (s′ .jitter i) (s′ .cost i) (s′ .deadline i))) n 0) (same .count)
 
   -- 14
@@ -208,11 +210,15 @@ module _ (s s′ : Tasks) (same : SameTasks s s′) where
   choice-refused kept worst =
       refusal-same none none _ _ none [] _ _ (ap (λ n. lends n kept ∷ lends n worst ∷ []) (same .count)) (ap unfitOf choice-same)
 
-  ready-refused : (kept : List ℕ) (n : ℕ) (task tick cost ready : List ℕ) → refusalOf (readyInputs s kept n task tick cost ready) ≡ refusalOf (readyInputs s′ kept n task tick cost ready)
+  ready-refused
+      : (kept : List ℕ) (n : ℕ) (task tick cost ready : List ℕ)
+      → refusalOf (readyInputs s kept n task tick cost ready) ≡ refusalOf (readyInputs s′ kept n task tick cost ready)
   ready-refused kept n task tick cost ready =
       refusal-same none (some n) _ _ (some (column kept)) (releasesOf n task tick cost) none none (lends-same kept _) refl
 
-  run-refused : (kept : List ℕ) (n : ℕ) (task tick cost ready finish : List ℕ) → refusalOf (runInputs s kept n task tick cost ready finish) ≡ refusalOf (runInputs s′ kept n task tick cost ready finish)
+  run-refused
+      : (kept : List ℕ) (n : ℕ) (task tick cost ready finish : List ℕ)
+      → refusalOf (runInputs s kept n task tick cost ready finish) ≡ refusalOf (runInputs s′ kept n task tick cost ready finish)
   run-refused kept n task tick cost ready finish =
       refusal-same none (some n) _ _ (some (column kept)) (releasesOf n task tick cost) none none (lends-same kept _) refl
 

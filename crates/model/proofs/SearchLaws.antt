@@ -70,7 +70,8 @@ first-is test (suc n) t m f = ⊎-elim here (later (first-is test n (suc t) m)) 
     here e = first-hit test n t (rw e (f .holds)) ∙ ap some e
 
     later : (Found test n (suc t) m → first test n (suc t) ≡ some m) → t < m → first test (suc n) t ≡ some m
-    later ih l = first-skip test n t (f .before t (omega arith) l) ∙ ih (record { holds = f .holds; low = l; high = omega arith; before = λ x a g. f .before x (omega arith) g })
+    later ih l =
+        first-skip test n t (f .before t (omega arith) l) ∙ ih (record { holds = f .holds; low = l; high = omega arith; before = λ x a g. f .before x (omega arith) g })
 
 -- a loop that counts i up to n: the search from i on
 module _ (test : ℕ → Bool) (n i : ℕ) where

@@ -42,12 +42,28 @@ module _ (s : Tasks) (before : ℕ) (r : Release) where
   pub fault-cost : r .task < s .count → before ≤ r .tick → r .tick ≤ maxTick → 1 ≤ r .cost → s .cost (r .task) < r .cost → releaseFault s before r ≡ some 9
   unfolding releaseFault
   fault-cost k b t l h =
-      rw (releaseFault, lt-leb (s .count) (r .task) k, le-ltb (r .tick) before b, le-ltb maxTick (r .tick) t, ne-eqb (r .cost) 0 (λ e. omega arith), lt-ltb (s .cost (r .task)) (r .cost) h)
+      rw (
+        releaseFault,
+        lt-leb (s .count) (r .task) k,
+        le-ltb (r .tick) before b,
+        le-ltb maxTick (r .tick) t,
+        ne-eqb (r .cost) 0 (λ e. omega arith),
+        lt-ltb
+            (s .cost (r .task)) (r .cost) h,
+      )
 
   pub fault-none : Passed s before r → releaseFault s before r ≡ none
   unfolding releaseFault
   fault-none p =
-      rw (releaseFault, lt-leb (s .count) (r .task) (p .known), le-ltb (r .tick) before (p .rising), le-ltb maxTick (r .tick) (p .tick-high), ne-eqb (r .cost) 0 (λ e. omega arith), le-ltb (s .cost (r .task)) (r .cost) (p .cost-high))
+      rw (
+        releaseFault,
+        lt-leb (s .count) (r .task) (p .known),
+        le-ltb (r .tick) before (p .rising),
+        le-ltb maxTick (r .tick) (p .tick-high),
+        ne-eqb (r .cost) 0
+            (λ e. omega arith),
+        le-ltb (s .cost (r .task)) (r .cost) (p .cost-high),
+      )
 
   -- a release without a fault
   pub passed-of : releaseFault s before r ≡ none → Passed s before r
@@ -123,7 +139,8 @@ from-cons s before r l q f = record { sound = sound; tick-high = tick-high; risi
 
 -- what a list that passes its check says
 pub from-of : (s : Tasks) (before p : ℕ) (l : List Release) → checkReleases s before p l ≡ none → From s before l
-from-of s before p [] h = record { sound = λ p l. absurd (omega arith); tick-high = λ p l. absurd (omega arith); rising = λ p l. absurd (omega arith); first = λ p l. absurd (omega arith) }
+from-of s before p [] h =
+    record { sound = λ p l. absurd (omega arith); tick-high = λ p l. absurd (omega arith); rising = λ p l. absurd (omega arith); first = λ p l. absurd (omega arith) }
 from-of s before p (r ∷ l) h =
     let a = passes-cons s before p r l h in
     from-cons s before r l (passed-of s before r (a .0)) (from-of s (r .tick) (suc p) l (a .1))

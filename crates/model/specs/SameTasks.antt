@@ -27,16 +27,26 @@ pub record SameAnswers (s s′ : Tasks) : Type 0 where
   pub trace : (n : ℕ) (task tick cost : List ℕ) → traceCall s n task tick cost ≡ traceCall s′ n task tick cost
   -- choice
   pub choice-refusal : (kept worst : List ℕ) → refusalOf (choiceInputs s kept worst) ≡ refusalOf (choiceInputs s′ kept worst)
-  pub choice-kept : (kept worst : List ℕ) → columnAfter (refusalOf (choiceInputs s kept worst)) (keptColumn (choice s)) kept ≡ columnAfter (refusalOf (choiceInputs s′ kept worst)) (keptColumn (choice s′)) kept
-  pub choice-worst : (kept worst : List ℕ) → columnAfter (refusalOf (choiceInputs s kept worst)) (worstColumn (choice s)) worst ≡ columnAfter (refusalOf (choiceInputs s′ kept worst)) (worstColumn (choice s′)) worst
+  pub choice-kept
+      : (kept worst : List ℕ)
+      → columnAfter (refusalOf (choiceInputs s kept worst)) (keptColumn (choice s)) kept ≡ columnAfter (refusalOf (choiceInputs s′ kept worst))
+      (keptColumn (choice s′)) kept
+  pub choice-worst
+      : (kept worst : List ℕ)
+      → columnAfter (refusalOf (choiceInputs s kept worst)) (worstColumn (choice s)) worst ≡ columnAfter (refusalOf (choiceInputs s′ kept worst))
+      (worstColumn (choice s′)) worst
   -- ready ticks
-  pub ready-refusal : (kept : List ℕ) (n : ℕ) (task tick cost ready : List ℕ) → refusalOf (readyInputs s kept n task tick cost ready) ≡ refusalOf (readyInputs s′ kept n task tick cost ready)
+  pub ready-refusal
+      : (kept : List ℕ) (n : ℕ) (task tick cost ready : List ℕ)
+      → refusalOf (readyInputs s kept n task tick cost ready) ≡ refusalOf (readyInputs s′ kept n task tick cost ready)
   pub ready-ticks
       : (kept : List ℕ) (n : ℕ) (task tick cost ready : List ℕ)
       → columnAfter (refusalOf (readyInputs s kept n task tick cost ready)) (readyList s (column kept) (releasesOf n task tick cost)) ready
       ≡ columnAfter (refusalOf (readyInputs s′ kept n task tick cost ready)) (readyList s′ (column kept) (releasesOf n task tick cost)) ready
   -- run
-  pub run-refusal : (kept : List ℕ) (n : ℕ) (task tick cost ready finish : List ℕ) → refusalOf (runInputs s kept n task tick cost ready finish) ≡ refusalOf (runInputs s′ kept n task tick cost ready finish)
+  pub run-refusal
+      : (kept : List ℕ) (n : ℕ) (task tick cost ready finish : List ℕ)
+      → refusalOf (runInputs s kept n task tick cost ready finish) ≡ refusalOf (runInputs s′ kept n task tick cost ready finish)
   pub run-ready
       : (kept : List ℕ) (n : ℕ) (task tick cost ready finish : List ℕ)
       → columnAfter (refusalOf (runInputs s kept n task tick cost ready finish)) (readyList s (column kept) (releasesOf n task tick cost)) ready

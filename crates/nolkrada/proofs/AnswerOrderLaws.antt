@@ -54,7 +54,8 @@ side-none b = omega arith
 -- on which side each check stands
 tasks-side : (s : Tasks) → Side false (checkTasks s)
 unfolding checkTasks checkRanges afterSlots
-tasks-side s = side-first false _ _ (side-if false _ 5 _ refl) (side-first false _ _ (side-if false _ 4 _ refl) (side-first false _ _ (side-at false 6 _ refl) (side-none false)))
+tasks-side s =
+    side-first false _ _ (side-if false _ 5 _ refl) (side-first false _ _ (side-if false _ 4 _ refl) (side-first false _ _ (side-at false 6 _ refl) (side-none false)))
 
 task-side : (s : Tasks) (o : Option ℕ) → Side false (checkTask s o)
 unfolding checkTask afterSlots

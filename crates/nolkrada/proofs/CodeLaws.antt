@@ -88,7 +88,8 @@ slots-told n slots (answered x) h f = go (ltb slots n) refl
     go false e = rw (withSlots, e) (tells-of (answered x) (λ r g. let z : _≡_ {A = ℕ} 0 1 = cc in absurd (omega arith)))
 slots-told n slots (refused q) h f = told-code (orTooFew n slots q) (more-within n slots q h (f q refl))
 
-words-told : {A : Type 0} (n slots : ℕ) (f : A → List ℕ) (a : Answer A) → n ≤ 3 → ((r : Refusal) → a ≡ refused r → Within top r) → TellsOf (withSlots n slots (asWords f a))
+words-told
+    : {A : Type 0} (n slots : ℕ) (f : A → List ℕ) (a : Answer A) → n ≤ 3 → ((r : Refusal) → a ≡ refused r → Within top r) → TellsOf (withSlots n slots (asWords f a))
 words-told n slots f a h g = slots-told n slots (asWords f a) h (λ r e. g r (words-refused f a r e))
 
 -- a read: the file's refusal, or 13 for at most 1,024 slots
@@ -96,7 +97,8 @@ lent-needs : (m sheet task tick cost answer : ℕ) → m ≤ maxReleases → Nee
 lent-needs m sheet task tick cost answer h =
     let a : 128 ≤ maxReleases = omega arith in let b : 2 ≤ maxReleases = omega arith in needs a (needs h (needs h (needs h (needs b needs-none))))
 
-read-within : (f : List ℕ) (a : Answer File) (sheet task tick cost answer : ℕ) (r : Refusal) → decode f ≡ a → readWithin a sheet task tick cost answer ≡ refused r → Within top r
+read-within
+    : (f : List ℕ) (a : Answer File) (sheet task tick cost answer : ℕ) (r : Refusal) → decode f ≡ a → readWithin a sheet task tick cost answer ≡ refused r → Within top r
 unfolding readWithin
 read-within f (refused q) sheet task tick cost answer r d e = within-more 10785 top r (omega arith) (decode-within f r (d ∙ e))
 read-within f (answered x) sheet task tick cost answer r d e = go (checkSlots (readLent (length (x .releases)) sheet task tick cost answer)) refl
@@ -125,10 +127,14 @@ codes-tell = record {
       words-told 2 (length answer) traceWords _ (omega arith)
       (λ r e. within-more maxReleases top r (omega arith) (answer-within maxReleases _ _ r (list-limited (viewOf (sheetFrom sheet count)) n task tick cost) e));
   ready = λ sheet count kept n task tick cost ready.
-      tells _ (λ r e. within-more maxReleases top r (omega arith) (refusal-within maxReleases _ (ready-limited (viewOf (sheetFrom sheet count)) kept n task tick cost ready) r e));
+      tells _ (λ r e. within-more maxReleases top r (omega arith)
+      (refusal-within maxReleases _ (ready-limited (viewOf (sheetFrom sheet count)) kept n task tick cost ready) r e));
   run = λ sheet count kept n task tick cost ready finish.
-      tells _ (λ r e. within-more maxReleases top r (omega arith) (refusal-within maxReleases _ (run-limited (viewOf (sheetFrom sheet count)) kept n task tick cost ready finish) r e));
-  read = λ file sheet task tick cost answer. tells-of _ (λ r. read-within file (decode file) (length sheet) (length task) (length tick) (length cost) (length answer) r refl);
+      tells _ (λ r e. within-more maxReleases top r (omega arith)
+      (refusal-within maxReleases _ (run-limited (viewOf (sheetFrom sheet count)) kept n task tick cost ready finish) r e));
+  read =
+      λ file sheet task tick cost answer. tells-of _
+      (λ r. read-within file (decode file) (length sheet) (length task) (length tick) (length cost) (length answer) r refl);
   write = λ sheet count n task tick cost out answer.
       slots-told 1 (length answer) _ (omega arith)
       (λ r e. within-more 10785 top r (omega arith) (answer-within 10785 _ _ r (write-limited (viewOf (sheetFrom sheet count)) n task tick cost (length out)) e));

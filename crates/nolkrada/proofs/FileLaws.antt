@@ -67,7 +67,9 @@ put-next held tasks now now′ i f h e =
       within = omega arith;
       room = f .room;
       long = ap length e ∙ length-sets now (4 * i) (taskNumbers t) ∙ f .long;
-      whole = e ∙ ap (λ (l : List ℕ). sets l (4 * i) (taskNumbers t)) (f .whole) ∙ stored-at held front (taskNumbers t) 0 (4 * i) (omega (arith, n)) ∙ sym (ap (sets held 0) more);
+      whole =
+          e ∙ ap (λ (l : List ℕ). sets l (4 * i) (taskNumbers t)) (f .whole) ∙ stored-at held front (taskNumbers t) 0 (4 * i) (omega (arith, n)) ∙ sym
+          (ap (sets held 0) more);
     }
 
 pub put-all : (held : List ℕ) (tasks : List Task) (now : List ℕ) (i : ℕ) → Put held tasks now i → 32 ≤ i → now ≡ numbersOf tasks ++ drop (length (numbersOf tasks)) held

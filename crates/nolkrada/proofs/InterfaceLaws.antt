@@ -29,7 +29,8 @@ pub entries-none : (l : List ℕ) (used : ℕ) (tasks : List Task) → used ≤ 
 unfolding table
 entries-none l used tasks h e = record { long = ap length e; few = h; within = omega arith; front = refl; padded = e }
 
-pub entries-next : (l : List ℕ) (used : ℕ) (tasks : List Task) (i : ℕ) (t : Task) → Entries l used tasks i → i < used → t ≡ taskAt l i → Entries l used (set tasks i t) (i + 1)
+pub entries-next
+    : (l : List ℕ) (used : ℕ) (tasks : List Task) (i : ℕ) (t : Task) → Entries l used tasks i → i < used → t ≡ taskAt l i → Entries l used (set tasks i t) (i + 1)
 unfolding table
 entries-next l used tasks i t f h e =
     let k : 32 - i ≡ suc (32 - (i + 1)) = omega arith in
@@ -43,7 +44,9 @@ entries-next l used tasks i t f h e =
           ∙ ap (drop 1) (f .padded ∙ ap (λ n. replicate n noTask) k);
     }
 
-pub entries-sheet : (l : List ℕ) (n used : ℕ) (tasks : List Task) (i : ℕ) → Entries l used tasks i → used ≡ min n 32 → used ≤ i → _≡_ {A = TaskSet} (record { tasks = tasks; count = n }) (sheetFrom l n)
+pub entries-sheet
+    : (l : List ℕ) (n used : ℕ) (tasks : List Task) (i : ℕ) → Entries l used tasks i → used ≡ min n 32 → used ≤ i
+    → _≡_ {A = TaskSet} (record { tasks = tasks; count = n }) (sheetFrom l n)
 entries-sheet l n used tasks i f u h =
     let e : i ≡ min n 32 = omega (arith, f .within) in
     let k : 32 - i ≡ 32 - n = omega arith in

@@ -104,7 +104,8 @@ end-of-low s at (b ∷ l) = omega arith
 from-low : (n : ℕ) (s : State) (at : ℕ) (f : List ℕ) → LowAnswer (readFrom n s at f)
 unfolding readFrom
 from-low zero s at f = omega arith
-from-low (suc n) s at f = go (advance s (recordOf f)) (advance-low s (recordOf f) (record-low f)) (λ s′. from-low n s′ (at + sizeOf (recordOf f)) (drop (sizeOf (recordOf f)) f))
+from-low (suc n) s at f =
+    go (advance s (recordOf f)) (advance-low s (recordOf f) (record-low f)) (λ s′. from-low n s′ (at + sizeOf (recordOf f)) (drop (sizeOf (recordOf f)) f))
   where
     go
         : (t : Step)

@@ -4,7 +4,6 @@ use mathlib.Core.Path.{_≡_, ap}
 use mathlib.Core.List.{List, _++_}
 use native.Mathlib.Omega.{arith}
 use lib.ListN.{getD, replicate}
-use Rattle.model.specs.Series.{table}
 use Rattle.model.proofs.TableLaws.{table-agree}
 use Rattle.taskset.specs.declared.Task.{Task}
 use Rattle.taskset.specs.TaskSet.{noTask}

@@ -88,7 +88,8 @@ pub record Putting (f : List ℕ) (start count : ℕ) (task₀ tick₀ cost₀ t
   pub cost-copied : Copied (map (λ r. r .cost) (releasesAt f start count)) cost₀ cost i
 
 module _ (f : List ℕ) (start count : ℕ) (task₀ tick₀ cost₀ : List ℕ) where
-  pub putting-none : start + 10 * count ≤ length f → count ≤ length task₀ → count ≤ length tick₀ → count ≤ length cost₀ → Putting f start count task₀ tick₀ cost₀ task₀ tick₀ cost₀ 0
+  pub putting-none
+      : start + 10 * count ≤ length f → count ≤ length task₀ → count ≤ length tick₀ → count ≤ length cost₀ → Putting f start count task₀ tick₀ cost₀ task₀ tick₀ cost₀ 0
   putting-none h a b c =
       record {
         in-file = h;
@@ -102,7 +103,9 @@ module _ (f : List ℕ) (start count : ℕ) (task₀ tick₀ cost₀ : List ℕ)
       }
 
   module _ (task tick cost : List ℕ) (i : ℕ) (p : Putting f start count task₀ tick₀ cost₀ task tick cost i) where
-    pub putting-next : (j : Job) → i < count → releaseOf j ≡ releaseFrom (drop (start + 10 * i + 1) f) → Putting f start count task₀ tick₀ cost₀ (set task i (j .task)) (set tick i (j .tick)) (set cost i (j .cost)) (i + 1)
+    pub putting-next
+        : (j : Job) → i < count → releaseOf j ≡ releaseFrom (drop (start + 10 * i + 1) f)
+        → Putting f start count task₀ tick₀ cost₀ (set task i (j .task)) (set tick i (j .tick)) (set cost i (j .cost)) (i + 1)
     putting-next j h e =
         record {
           in-file = p .in-file;
@@ -129,16 +132,24 @@ module _ (f task tick cost : List ℕ) where
   unfolding readCall
   call-refused q e = rw (readCall, ← e)
 
-  call-short : (x : File) (q : Refusal) → answered x ≡ decode f → some q ≡ checkSlots (lends (length (x .releases)) task ∷ lends (length (x .releases)) tick ∷ lends (length (x .releases)) cost ∷ []) → refused q ≡ readCall f task tick cost
+  call-short
+      : (x : File) (q : Refusal) → answered x ≡ decode f
+      → some q ≡ checkSlots (lends (length (x .releases)) task ∷ lends (length (x .releases)) tick ∷ lends (length (x .releases)) cost ∷ [])
+      → refused q ≡ readCall f task tick cost
   unfolding readCall
   call-short x q e h = rw (readCall, ← e, ← h)
 
-  call-fine : (x : File) → answered x ≡ decode f → none ≡ checkSlots (lends (length (x .releases)) task ∷ lends (length (x .releases)) tick ∷ lends (length (x .releases)) cost ∷ []) → answered x ≡ readCall f task tick cost
+  call-fine
+      : (x : File) → answered x ≡ decode f
+      → none ≡ checkSlots (lends (length (x .releases)) task ∷ lends (length (x .releases)) tick ∷ lends (length (x .releases)) cost ∷ [])
+      → answered x ≡ readCall f task tick cost
   unfolding readCall
   call-fine x e h = rw (readCall, ← e, ← h)
 
   -- a refusal changes no slot
-  says-refused : (n p : ℕ) (s : TaskSet) → s ≡ setOf [] → refused (record { number = n; place = p }) ≡ readCall f task tick cost → ReadSays f task tick cost (record { outcome = Halted n p; tasks = s }) task tick cost
+  says-refused
+      : (n p : ℕ) (s : TaskSet) → s ≡ setOf [] → refused (record { number = n; place = p }) ≡ readCall f task tick cost
+      → ReadSays f task tick cost (record { outcome = Halted n p; tasks = s }) task tick cost
   unfolding readCount readSheet readColumn columnAfter
   says-refused n p s z e =
       record {
@@ -166,7 +177,9 @@ module _ (f task tick cost : List ℕ) where
         let d : refused (record { number = n; place = p }) ≡ decode f = ap (answerWith (fileIn f r)) (sym e) ∙ h .answer in
         says-refused n p (r .tasks) (h .sheet ∙ ap readSheet (sym d)) (call-refused _ d)
 
-    pub reads-short : (n p : ℕ) (s : TaskSet) → r .answer ≡ Fine → s ≡ setOf [] → refuse n p ≡ checkSlots (slots (r .releases)) → ReadSays f task tick cost (record { outcome = Halted n p; tasks = s }) task tick cost
+    pub reads-short
+        : (n p : ℕ) (s : TaskSet) → r .answer ≡ Fine → s ≡ setOf [] → refuse n p ≡ checkSlots (slots (r .releases))
+        → ReadSays f task tick cost (record { outcome = Halted n p; tasks = s }) task tick cost
     reads-short n p s e z g = says-refused n p s z (call-short (fileIn f r) _ (found e) (g ∙ ap (λ k. checkSlots (slots k)) length-in))
 
     pub reads-fine

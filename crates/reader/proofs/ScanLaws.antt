@@ -31,7 +31,8 @@ use Rattle.reader.specs.declared.Scanned.{Scanned}
 use Rattle.reader.specs.Reader.{releaseOf, releasesAt, answerWith, fileIn, ScanSays, Refuses}
 
 -- the fault of a release decides its record's
-pub list-refused : (s : Tasks) (n before p : ℕ) (r : Release) (q : Refusal) → 1 ≤ s .count → some q ≡ faultAt p (releaseFault s before r) → some q ≡ faultAt p (listFault s n before r)
+pub list-refused
+    : (s : Tasks) (n before p : ℕ) (r : Release) (q : Refusal) → 1 ≤ s .count → some q ≡ faultAt p (releaseFault s before r) → some q ≡ faultAt p (listFault s n before r)
 list-refused s n before p r q l e =
     let w = fault-of p _ q e in
     ap some (w .1) ∙ faulty p (q .number) _ (list-fault s n before r (q .number) l (w .0))
@@ -101,7 +102,9 @@ module _ (f : List ℕ) (s : TaskSet) (n before at : ℕ) (i : Scanning f s n be
       list-agrees (viewOf s) (sheetOf (tasksIn s)) n before r (same-sheet s in-array)
       ∙ ap (λ k. listFault (sheetOf (tasksIn s)) k before r) (sym length-here)
 
-  pub scan-job-stops : (j : Job) (q : Refusal) → releaseRecord (releaseOf j) ≡ recordOf (drop at f) → some q ≡ faultAt at (listFault (viewOf s) n before (releaseOf j)) → refused q ≡ decode f
+  pub scan-job-stops
+      : (j : Job) (q : Refusal) → releaseRecord (releaseOf j) ≡ recordOf (drop at f) → some q ≡ faultAt at (listFault (viewOf s) n before (releaseOf j))
+      → refused q ≡ decode f
   scan-job-stops j q e a =
       let w = fault-of at _ q a in
       ap refused (w .1)
@@ -125,7 +128,8 @@ module _ (f : List ℕ) (s : TaskSet) (n before at : ℕ) (i : Scanning f s n be
       ∙ sym (drop-drop 1 (s .count) (s .tasks))
       ∙ ap (drop 1) (i .padded ∙ ap (λ k. replicate k noTask) e)
 
-  state-task : (t : Task) → s .count < maxTasks → n ≡ 0 → record { tasks = tasksIn s ++ (t ∷ []); releases = state .releases; before = before } ≡ stateOf f (withTask t) n before
+  state-task
+      : (t : Task) → s .count < maxTasks → n ≡ 0 → record { tasks = tasksIn s ++ (t ∷ []); releases = state .releases; before = before } ≡ stateOf f (withTask t) n before
   state-task t h z =
       ap₂ (λ a b. record { tasks = a; releases = b; before = before }) (sym (tasks-more t h)) (no-releases f _ n z ∙ sym (no-releases f _ n z))
 
@@ -154,7 +158,9 @@ module _ (f : List ℕ) (s : TaskSet) (n before at : ℕ) (i : Scanning f s n be
       releases-more f (17 * s .count) n (releaseOf j)
       (release-here f at (releaseOf j) e ∙ ap (λ k. releaseFrom (drop (k + 1) f)) (i .offset))
 
-  pub scan-job-next : (j : Job) → releaseRecord (releaseOf j) ≡ recordOf (drop at f) → none ≡ faultAt at (listFault (viewOf s) n before (releaseOf j)) → Scanning f s (n + 1) (j .tick) (at + 10)
+  pub scan-job-next
+      : (j : Job) → releaseRecord (releaseOf j) ≡ recordOf (drop at f) → none ≡ faultAt at (listFault (viewOf s) n before (releaseOf j))
+      → Scanning f s (n + 1) (j .tick) (at + 10)
   unfolding sizeOf
   scan-job-next j e a =
       let fine = faultless-of at _ a in
@@ -188,7 +194,8 @@ module _ (f : List ℕ) (s : TaskSet) (n before at : ℕ) (i : Scanning f s n be
   unfolding afterEnd
   scan-end e h g = sym (at-last e h ∙ ap (afterEnd state (at + 1)) (drop-of-length-le f g))
 
-  pub scan-says : (r : Scanned) → r ≡ record { answer = Fine; tasks = s; releases = n } → endRecord ≡ recordOf (drop at f) → 1 ≤ s .count → length f ≤ at + 1 → ScanSays f r
+  pub scan-says
+      : (r : Scanned) → r ≡ record { answer = Fine; tasks = s; releases = n } → endRecord ≡ recordOf (drop at f) → 1 ≤ s .count → length f ≤ at + 1 → ScanSays f r
   unfolding readSheet
   scan-says r q e h g =
       rw q

@@ -50,7 +50,8 @@ module _ (n : ℕ) (task tick cost : List ℕ) where
   unfolding releasesOf
   release-at i h = getD-table _ noRelease n i h
 
-  pub drop-releases : (i : ℕ) → i < n → drop i (releasesOf n task tick cost) ≡ release (getD task i 0) (getD tick i 0) (getD cost i 0) ∷ drop (suc i) (releasesOf n task tick cost)
+  pub drop-releases
+      : (i : ℕ) → i < n → drop i (releasesOf n task tick cost) ≡ release (getD task i 0) (getD tick i 0) (getD cost i 0) ∷ drop (suc i) (releasesOf n task tick cost)
   unfolding releasesOf
   drop-releases i h = drop-table _ noRelease n i h
 
@@ -67,14 +68,18 @@ module _ (s : Tasks) (n : ℕ) (task tick cost : List ℕ) where
   pub checking-none : Checking s n task tick cost 0 0
   checking-none = record { within = omega arith; rest = refl }
 
-  pub checking-fault : (before i : ℕ) (q : Refusal) → Checking s n task tick cost before i → i < n → some q ≡ faultAt i (releaseFault s before (placed i)) → some q ≡ checkReleases s 0 0 (releasesOf n task tick cost)
+  pub checking-fault
+      : (before i : ℕ) (q : Refusal) → Checking s n task tick cost before i → i < n → some q ≡ faultAt i (releaseFault s before (placed i))
+      → some q ≡ checkReleases s 0 0 (releasesOf n task tick cost)
   checking-fault before i q c h e =
       let w = fault-of i _ q e in
       ap some (w .1)
       ∙ releases-fault s before i _ (drop (suc i) (releasesOf n task tick cost)) (q .number) (w .0)
       ∙ sym (c .rest ∙ ap (checkReleases s before i) (drop-releases n task tick cost i h))
 
-  pub checking-next : (before i : ℕ) → Checking s n task tick cost before i → i < n → none ≡ faultAt i (releaseFault s before (placed i)) → Checking s n task tick cost (getD tick i 0) (i + 1)
+  pub checking-next
+      : (before i : ℕ) → Checking s n task tick cost before i → i < n → none ≡ faultAt i (releaseFault s before (placed i))
+      → Checking s n task tick cost (getD tick i 0) (i + 1)
   checking-next before i c h e =
       record {
         within = omega arith;
@@ -88,7 +93,8 @@ module _ (s : Tasks) (n : ℕ) (task tick cost : List ℕ) where
   unfolding checkReleases
   checking-all before i c h =
       let e : i ≡ n = omega (arith, c .within) in
-      sym (c .rest ∙ ap (checkReleases s before i) (ap (λ k. drop k (releasesOf n task tick cost)) (e ∙ sym (length-releases n task tick cost)) ∙ drop-length (releasesOf n task tick cost)))
+      sym (c .rest ∙ ap (checkReleases s before i)
+      (ap (λ k. drop k (releasesOf n task tick cost)) (e ∙ sym (length-releases n task tick cost)) ∙ drop-length (releasesOf n task tick cost)))
 
 -- three columns that are long enough
 pub record Columns (n : ℕ) (task tick cost : List ℕ) : Type 0 where
@@ -112,7 +118,8 @@ pub record Listed (s : Tasks) (n : ℕ) (task tick cost : List ℕ) : Type 0 whe
   pub tick-high : (p : ℕ) → p < n → getD tick p 0 ≤ maxTick
 
 module _ (s : Tasks) (n : ℕ) (task tick cost : List ℕ) where
-  pub listed-by : none ≡ checkTasks s → none ≡ checkCount (some n) → Columns n task tick cost → none ≡ checkReleases s 0 0 (releasesOf n task tick cost) → Listed s n task tick cost
+  pub listed-by
+      : none ≡ checkTasks s → none ≡ checkCount (some n) → Columns n task tick cost → none ≡ checkReleases s 0 0 (releasesOf n task tick cost) → Listed s n task tick cost
   listed-by t m c r =
       record {
         valid = valid-of s (sym t);

@@ -31,7 +31,10 @@ pub task-line
     → PutLine 77 m0 r0 (choiceFields x0 x1 x2 x3 x4 x5 x6) m7 r7
 unfolding choiceFields
 task-line x0 x1 x2 x3 x4 x5 x6 m0 m1 m2 m3 m4 m5 m6 m7 r0 r1 r2 r3 r4 r5 r6 r7 p0 p1 p2 p3 p4 p5 p6 = record {
-  put = then m0 r0 x0 32 m1 r1 _ m7 r7 p0 (then m1 r1 x1 32 m2 r2 _ m7 r7 p1 (then m2 r2 x2 32 m3 r3 _ m7 r7 p2 (then m3 r3 x3 32 m4 r4 _ m7 r7 p3 (then m4 r4 x4 32 m5 r5 _ m7 r7 p4 (then m5 r5 x5 32 m6 r6 _ m7 r7 p5 (p6 .put))))));
+  put =
+      then m0 r0 x0 32 m1 r1 _ m7 r7 p0
+      (then m1 r1 x1 32 m2 r2 _ m7 r7 p1
+      (then m2 r2 x2 32 m3 r3 _ m7 r7 p2 (then m3 r3 x3 32 m4 r4 _ m7 r7 p3 (then m4 r4 x4 32 m5 r5 _ m7 r7 p4 (then m5 r5 x5 32 m6 r6 _ m7 r7 p5 (p6 .put))))));
   small = omega arith;
   long = omega arith;
 }
@@ -48,7 +51,9 @@ pub job-line
     → PutLine 66 m0 r0 (runFields x0 x1 x2 x3 x4 x5) m6 r6
 unfolding runFields
 job-line x0 x1 x2 x3 x4 x5 m0 m1 m2 m3 m4 m5 m6 r0 r1 r2 r3 r4 r5 r6 p0 p1 p2 p3 p4 p5 = record {
-  put = then m0 r0 x0 32 m1 r1 _ m6 r6 p0 (then m1 r1 x1 32 m2 r2 _ m6 r6 p1 (then m2 r2 x2 32 m3 r3 _ m6 r6 p2 (then m3 r3 x3 32 m4 r4 _ m6 r6 p3 (then m4 r4 x4 32 m5 r5 _ m6 r6 p4 (p5 .put)))));
+  put =
+      then m0 r0 x0 32 m1 r1 _ m6 r6 p0
+      (then m1 r1 x1 32 m2 r2 _ m6 r6 p1 (then m2 r2 x2 32 m3 r3 _ m6 r6 p2 (then m3 r3 x3 32 m4 r4 _ m6 r6 p3 (then m4 r4 x4 32 m5 r5 _ m6 r6 p4 (p5 .put)))));
   small = omega arith;
   long = omega arith;
 }

@@ -1,11 +1,9 @@
 -- Jobs that agree at each place of the list have the same run: nothing past the list matters.
 use Prim.Native.Nat.{ℕ, zero, suc, _≤_, _<_}
-use mathlib.Core.Path.{_≡_, refl, sym, ap₂, _∙_}
+use mathlib.Core.Path.{_≡_, refl, sym, _∙_}
 use mathlib.Core.Logic.{_⊎_, inl, inr}
 use mathlib.Core.Option.{Option, some, none}
-use mathlib.Core.List.{[], _∷_, _++_}
 use native.Mathlib.Omega.{arith}
-use Rattle.model.specs.Series.{table}
 use Rattle.model.specs.Run.{Jobs, leftAt, runs, finishOf}
 use Rattle.theory.specs.Windows.{AllOurs, Before}
 use Rattle.theory.proofs.RunLaws.{Picked, runs-some, runs-none, runs-or, left-zero, left-same, left-other}

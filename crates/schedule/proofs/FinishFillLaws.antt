@@ -52,7 +52,9 @@ module _ (n tasks : ℕ) (task cost ready held : List ℕ) (r : Runnable n tasks
         soon = r .finish-high;
       }
 
-  filling : (t wake : ℕ) (head left finish : List ℕ) → Running (jobsOf n task cost ready) tasks t wake head left finish held → Filling n tasks task cost ready held t wake head left finish
+  filling
+      : (t wake : ℕ) (head left finish : List ℕ) → Running (jobsOf n task cost ready) tasks t wake head left finish held
+      → Filling n tasks task cost ready held t wake head left finish
   filling t wake head left finish s = record { can = r; state = s }
 
   -- the state before the first tick
@@ -100,7 +102,8 @@ module _ (n tasks : ℕ) (task cost ready held : List ℕ) (r : Runnable n tasks
     may-yes k e = (inside, omega (arith, leb-true (wakeOf ready n (getD head k 0)) t e, wake-in ready n (getD head k 0) inside))
       where
         inside : getD head k 0 < n
-        inside = le-by (suc (getD head k 0)) n (λ l. omega (arith, leb-true (wakeOf ready n (getD head k 0)) t e, wake-out ready n (getD head k 0) (omega arith), s .time))
+        inside =
+            le-by (suc (getD head k 0)) n (λ l. omega (arith, leb-true (wakeOf ready n (getD head k 0)) t e, wake-out ready n (getD head k 0) (omega arith), s .time))
 
     may-no : (k : ℕ) → leb (wakeOf ready n (getD head k 0)) t ≡ false → May (jobsOf n task cost ready) t head k → ⊥
     may-no k e m = omega (arith, leb-false (wakeOf ready n (getD head k 0)) t e, wake-in ready n (getD head k 0) (m .0))
@@ -205,7 +208,8 @@ module _ (n tasks : ℕ) (task cost ready held : List ℕ) (r : Runnable n tasks
         → Filling n tasks task cost ready held (t + 1) wake (set head i next) (set left p rest) (set finish p (t + 1))
     fill-done i p rest next k e a b d g =
         filling (t + 1) wake (set head i next) (set left p rest) (set finish p (t + 1))
-        (tick-finish (jobsOf n task cost ready) tasks ordered t wake head left finish held s i p (k .task-in) e (rw e at (k .inside)) (rw e at (k .picked)) a rest next b d g)
+        (tick-finish (jobsOf n task cost ready) tasks ordered t wake head left finish held s i p (k .task-in) e (rw e at (k .inside))
+        (rw e at (k .picked)) a rest next b d g)
 
     -- every job is finished: the column
     pub fill-end : wakeAll head ready n tasks ≡ never → finish ≡ table (finishOf (jobsOf n task cost ready)) n ++ drop n held
@@ -216,7 +220,13 @@ module _ (n tasks : ℕ) (task cost ready held : List ℕ) (r : Runnable n tasks
         none-left : (k : ℕ) → k < tasks → n ≤ getD head k 0
         none-left k l =
             le-by n (getD head k 0)
-            (λ a. omega (arith, earliest-le (λ x. wakeOf ready n (getD head x 0)) tasks k l, wake-in ready n (getD head k 0) a, start-soon (jobsOf n task cost ready) tasks ordered (getD head k 0) a))
+            (λ a. omega (
+              arith,
+              earliest-le (λ x. wakeOf ready n (getD head x 0)) tasks k l,
+              wake-in ready n (getD head k 0) a,
+              start-soon
+                  (jobsOf n task cost ready) tasks ordered (getD head k 0) a,
+            ))
 
         each : (p : ℕ) → p < n → getD finish p 0 ≡ finishOf (jobsOf n task cost ready) p
         each p l = s .finish-is p l (all-finished (jobsOf n task cost ready) tasks ordered t head (s .heads) none-left p l)

@@ -85,7 +85,8 @@ module _ (s : Tasks) (kept : List ℕ) (n : ℕ) (task tick cost ready finish : 
   finish-high p h =
       omega (
         arith,
-        finish-bound s (column kept) (releasesOf n task tick cost) (callable .listed .trace) maxTick maxTime (list-high s n task tick shapable cost) small p (inside n task tick cost p h),
+        finish-bound s (column kept) (releasesOf n task tick cost) (callable .listed .trace) maxTick maxTime (list-high s n task tick shapable cost) small p
+            (inside n task tick cost p h),
         length-releases n task tick cost,
         callable .listed .few,
       )

@@ -1,10 +1,10 @@
 -- The history of a task: the ready ticks of its earlier jobs, the latest first. What it says about the jobs that follow.
-use Prim.Native.Nat.{ℕ, suc, _+_, _-_, _<_}
+use Prim.Native.Nat.{ℕ, _+_, _-_}
 use mathlib.Core.Path.{_≡_, refl, sym, ap, _∙_}
 use mathlib.Core.List.{List, [], _∷_, _++_, reverseAux}
 use native.Mathlib.Omega.{arith}
-use lib.ListN.{length, getD, take, drop}
-use lib.Seq.{getD-at, length-take-le, split-at}
+use lib.ListN.{length, getD}
+use lib.Seq.{getD-at}
 use Rattle.model.specs.Gap.{Apart}
 use Rattle.model.specs.Ready.{readyNext, readyFrom, readyTicks}
 use Rattle.shaper.proofs.ReadyLaws.{ready-length, ready-apart, ready-only}
@@ -42,13 +42,6 @@ module _ (P K : ℕ) where
   ready-here a x b =
       ap (λ (l : List ℕ). getD l (length a) 0) (ready-append a (x ∷ b))
       ∙ getD-at (readyTicks P K a) (readyNext P K (historyOf P K a) x) _ 0 (length a) (ready-length P K a)
-
-  -- the same by place
-  pub ready-at : (a : List ℕ) (n : ℕ) → n < length a → getD (readyTicks P K a) n 0 ≡ readyNext P K (historyOf P K (take n a)) (getD a n 0)
-  ready-at a n l =
-      ap (λ (i : List ℕ). getD (readyTicks P K i) n 0) (split-at a n 0 l)
-      ∙ ap (λ (i : ℕ). getD (readyTicks P K (take n a ++ getD a n 0 ∷ drop (suc n) a)) i 0) (sym (length-take-le n a (omega arith)))
-      ∙ ready-here (take n a) (getD a n 0) (drop (suc n) a)
 
   -- releases that are legal for a jitter K are not moved by the shaper that keeps K ..
   pub legal-ready : (a : List ℕ) → Apart P K a → readyTicks P K a ≡ a

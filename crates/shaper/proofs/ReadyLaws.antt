@@ -45,12 +45,6 @@ module _ (P K : ℕ) where
   unfolding readyNext
   next-apart h a k l g = omega (arith, after-ge h 1 (k - 1) (omega arith), gap-mono P K k (1 + (k - 1)) (omega arith))
 
-  -- and it is the least such tick
-  pub next-least
-      : (h : List ℕ) (a t : ℕ) → a ≤ t → ((k : ℕ) → 1 ≤ k → k ≤ length h → getD h (k - 1) 0 + gap P K k ≤ t) → readyNext P K h a ≤ t
-  unfolding readyNext
-  next-least h a t l b = omega (arith, after-le h 1 t (λ j g. rw (one-more j) at (b (1 + j) (omega arith) (omega arith))))
-
   -- after earlier jobs h: as many ready ticks as releases
   pub from-length : (h a : List ℕ) → length (readyFrom P K h a) ≡ length a
   unfolding readyFrom

@@ -93,11 +93,6 @@ module _ (P K : ℕ) where
   unfolding readyNext
   next-le h a b l g = omega (arith, after-due P K h 1, latest-due P h 1)
 
-  -- the state's second number passes the latest ready tick by at most K and one period
-  pub due-latest : (h : List ℕ) (a : ℕ) → due P (readyNext P K h a ∷ h) 1 ≤ readyNext P K h a + K + P
-  unfolding readyNext
-  due-latest h a = omega (arith, due-next P h (readyNext P K h a), after-due P K h 1)
-
   -- each release raises the state's second number by at most one period past the largest release
   pub due-history
       : (h a : List ℕ) (b : ℕ) → due P h 1 ≤ b → ((m : ℕ) → m < length a → getD a m 0 ≤ b) → due P (historyFrom P K h a) 1 ≤ b + length a * P

@@ -72,7 +72,9 @@ pub put-nothing : (l : List ℕ) (i : ℕ) → Put l i [] l i
 put-nothing l i = record { holds = refl; next = sym (add-zero i) }
 
 -- one byte more of a byte string
-pub put-next : (l : List ℕ) (at : ℕ) (s m : List ℕ) (i : ℕ) → Put l at (take i s) m (at + i) → i < length s → Put l at (take (i + 1) s) (set m (at + i) (getD s i 0)) (at + (i + 1))
+pub put-next
+    : (l : List ℕ) (at : ℕ) (s m : List ℕ) (i : ℕ) → Put l at (take i s) m (at + i) → i < length s
+    → Put l at (take (i + 1) s) (set m (at + i) (getD s i 0)) (at + (i + 1))
 put-next l at s m i p h =
     rw (add-one, take-suc s i 0 h, add-suc)
     (put-append l at (take i s) m (at + i) (getD s i 0 ∷ []) (set m (at + i) (getD s i 0)) (suc (at + i)) p
@@ -87,7 +89,9 @@ pub put-digit : (l : List ℕ) (at d n : ℕ) (m : List ℕ) (r : ℕ) → n < 1
 put-digit l at d n m r h e p = rw (decimal-one n h, ← e) p
 
 -- a number of several digits: those before the last, and the last
-pub put-digits : (l : List ℕ) (at n : ℕ) (m : List ℕ) (r d : ℕ) (k : List ℕ) (t : ℕ) → 10 ≤ n → Put l at (decimal (n / 10)) m r → d ≡ 48 + n % 10 → Put m r (d ∷ []) k t → Put l at (decimal n) k t
+pub put-digits
+    : (l : List ℕ) (at n : ℕ) (m : List ℕ) (r d : ℕ) (k : List ℕ) (t : ℕ) → 10 ≤ n → Put l at (decimal (n / 10)) m r → d ≡ 48 + n % 10 → Put m r (d ∷ []) k t
+    → Put l at (decimal n) k t
 put-digits l at n m r d k t h p e q = rw (decimal-more n h, ← e) (put-append l at (decimal (n / 10)) m r (d ∷ []) k t p q)
 
 pub decimal-some : (n : ℕ) → n < 10 → length (decimal n) ≡ 1

@@ -186,5 +186,6 @@ latest j u (suc r) = go (eq-zero-or-pos (back j u (suc r))) (latest j u r)
         old x a h (inr e) = omega (arith, rw e at h)
 
 -- where another such tick follows the last one up to the start of a job of the set, it is after that start, and the job is finished there
-pub latest-done : (j : Jobs) (u : ℕ → Bool) (p : ℕ) → p < j .count → u p ≡ true → (k : Latest j u (j .start p)) (t : ℕ) → Quiet j u (k .tick) t → leftAt j (k .tick + t) p ≡ 0
+pub latest-done
+    : (j : Jobs) (u : ℕ → Bool) (p : ℕ) → p < j .count → u p ≡ true → (k : Latest j u (j .start p)) (t : ℕ) → Quiet j u (k .tick) t → leftAt j (k .tick + t) p ≡ 0
 latest-done j u p h e k t (r, a, b, z) = left-later j r (k .tick + t) p b (finished j u r p z h e (le-by (suc (j .start p)) r (λ l. k .last r a (omega arith) z)))

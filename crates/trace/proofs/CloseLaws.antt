@@ -87,7 +87,8 @@ module _ (s : Tasks) (n : ℕ) (task tick : List ℕ) where
   unfolding firstClose
   first-of cost = ap (λ (x : ℕ). first (tooClose s (releasesOf n task tick cost)) x 0) (length-releases n task tick cost)
 
-  pub tracing-all : (m : List Shaper) (p : ℕ) → Tracing s n task tick m p → n ≤ p → (cost : List ℕ) → answered none ≡ answered (firstClose s (releasesOf n task tick cost))
+  pub tracing-all
+      : (m : List Shaper) (p : ℕ) → Tracing s n task tick m p → n ≤ p → (cost : List ℕ) → answered none ≡ answered (firstClose s (releasesOf n task tick cost))
   tracing-all m p f h cost = ap answered (sym (first-of cost ∙ sought-all _ n p (f .sought cost) h))
 
   module _ (w : Shapable s n task tick) (m : List Shaper) (p : ℕ) (f : Tracing s n task tick m p) (h : p < n) (r : Shaped) (e : Step task tick m p r) where
@@ -102,13 +103,17 @@ module _ (s : Tasks) (n : ℕ) (task tick : List ℕ) where
         ap answered
         (sym
         (first-of cost
-        ∙ sought-here _ n p (f .sought cost) h (close-yes s _ p _ _ (inside n task tick cost p h) (task-is n task tick cost p h) (tick-is n task tick cost p h) (f .still cost) (rw (ready-is cost) at g))))
+        ∙ sought-here _ n p (f .sought cost) h
+        (close-yes s _ p _ _ (inside n task tick cost p h) (task-is n task tick cost p h) (tick-is n task tick cost p h) (f .still cost) (rw (ready-is cost) at g))))
 
     pub tracing-next : r .ready ≤ getD tick p 0 → Tracing s n task tick (set m (getD task p 0) (r .state)) (p + 1)
     tracing-next g =
         record {
           walking = walk-next s (s .jitter) n task tick w m p (f .walking) h r e;
-          still = λ cost. rw add-one (still-next s _ p _ _ (inside n task tick cost p h) (task-is n task tick cost p h) (tick-is n task tick cost p h) (f .still cost) (rw (ready-is cost) at g));
+          still =
+              λ cost. rw add-one (still-next s _ p _ _ (inside n task tick cost p h) (task-is n task tick cost p h) (tick-is n task tick cost p h) (f .still cost)
+              (rw (ready-is cost) at g));
           sought = λ cost.
-              sought-next _ n p (f .sought cost) h (close-no s _ p _ _ (inside n task tick cost p h) (task-is n task tick cost p h) (tick-is n task tick cost p h) (f .still cost) (rw (ready-is cost) at g));
+              sought-next _ n p (f .sought cost) h
+              (close-no s _ p _ _ (inside n task tick cost p h) (task-is n task tick cost p h) (tick-is n task tick cost p h) (f .still cost) (rw (ready-is cost) at g));
         }

@@ -93,7 +93,8 @@ module _ (s : Tasks) (k : ℕ → ℕ) (n : ℕ) (task tick : List ℕ) where
     pub walk-small : (d : Shaper) (x : ℕ) → x ≡ a → Small (getD m i d) x
     walk-small d x e =
         rw e
-        (step-small s k (l []) m p i a (v .standing []) (inside n task tick [] p h) (task-is n task tick [] p h) (tick-is n task tick [] p h) (w .few-tasks) (w .known p h) d
+        (step-small s k (l []) m p i a (v .standing []) (inside n task tick [] p h) (task-is n task tick [] p h) (tick-is n task tick [] p h) (w .few-tasks)
+        (w .known p h) d
         (w .period-high i (w .known p h)) (list-few s n task tick w []) (list-high s n task tick w []))
 
     module _ (g : Shaped) (f : Step task tick m p g) where
@@ -104,18 +105,21 @@ module _ (s : Tasks) (k : ℕ → ℕ) (n : ℕ) (task tick : List ℕ) where
         -- the step's ready tick is that of the list
         pub walk-ready : g .ready ≡ readyAt s k (l cost) p
         walk-ready =
-            step-ready s k (l cost) m p i a (v .standing cost) (inside n task tick cost p h) (task-is n task tick cost p h) (tick-is n task tick cost p h) (w .few-tasks) (w .known p h) (f .none)
+            step-ready s k (l cost) m p i a (v .standing cost) (inside n task tick cost p h) (task-is n task tick cost p h) (tick-is n task tick cost p h) (w .few-tasks)
+            (w .known p h) (f .none)
             g shapes
 
         -- and that of the task's history
         pub walk-history : g .ready ≡ readyNext (s .period i) (k i) (historyAt s k (l cost) p i) a
         walk-history =
-            step-next s k (l cost) m p i a (v .standing cost) (inside n task tick cost p h) (task-is n task tick cost p h) (tick-is n task tick cost p h) (w .few-tasks) (w .known p h) (f .none)
+            step-next s k (l cost) m p i a (v .standing cost) (inside n task tick cost p h) (task-is n task tick cost p h) (tick-is n task tick cost p h) (w .few-tasks)
+            (w .known p h) (f .none)
             g shapes
 
         stands : StandingAt s k (l cost) (set m i (g .state)) (suc p)
         stands =
-            standing-step s k (l cost) m p i a (v .standing cost) (inside n task tick cost p h) (task-is n task tick cost p h) (tick-is n task tick cost p h) (w .few-tasks) (w .known p h) (f .none)
+            standing-step s k (l cost) m p i a (v .standing cost) (inside n task tick cost p h) (task-is n task tick cost p h) (tick-is n task tick cost p h)
+            (w .few-tasks) (w .known p h) (f .none)
             g shapes
 
       -- its ready tick is within 32 bits

@@ -1,6 +1,6 @@
 -- Legal releases by positions, and the ticks of a trace.
 use Prim.Native.Nat.{ℕ, zero, suc, _+_, _-_, _≤_, _<_}
-use mathlib.Core.Path.{_≡_, sym, ap, _∙_}
+use mathlib.Core.Path.{_≡_}
 use mathlib.Core.List.{List}
 use mathlib.Core.Logic.{_⊎_, ⊎-elim}
 use native.Mathlib.Omega.{arith}
@@ -10,7 +10,7 @@ use Rattle.model.specs.Tasks.{Tasks, Release, releaseAt}
 use Rattle.model.specs.Gap.{gap, own, Legal}
 use Rattle.model.specs.Ready.{place}
 use Rattle.model.specs.Claims.{Trace}
-use Rattle.trace.proofs.PositionLaws.{place-le, place-back, own-at, place-inside, Held, held}
+use Rattle.trace.proofs.PositionLaws.{place-le, own-at, place-inside}
 
 -- any release of task i lies at least d_J(k) ticks after the one k places before it
 abbrev pub LegalAt : Tasks → List Release → ℕ → Type 0
@@ -28,21 +28,6 @@ module _ (s : Tasks) (l : List Release) (i : ℕ) where
       let d : getD (own i l) (place l m) 0 + gap (s .period i) (s .jitter i) (place l p - place l m) ≤ getD (own i l) (place l p) 0 =
       rw b at (h (place l m) (place l p - place l m) (omega arith)) in
       rw (own-at l i m (omega arith) em, own-at l i p g ep) at d
-
-  -- and releases that keep the gaps by positions are legal
-  pub legal-of : LegalAt s l i → Legal s l i
-  legal-of h m k g = go (held l i m (omega arith)) (held l i (m + k) g)
-    where
-      go : Held l i m → Held l i (m + k) → getD (own i l) m 0 + gap (s .period i) (s .jitter i) k ≤ getD (own i l) (m + k) 0
-      go a b =
-          let e : place l (b .at) - place l (a .at) ≡ k = omega arith in
-          let f : a .at ≤ b .at = place-back l i (a .at) (b .at) (a .inside) (b .inside) (a .of-task) (b .of-task) (omega arith) in
-          let c : releaseAt l (a .at) .tick + gap (s .period i) (s .jitter i) k ≤ releaseAt l (b .at) .tick =
-          rw e at (h (a .at) (b .at) f (b .inside) (a .of-task) (b .of-task)) in
-          let u : getD (own i l) m 0 ≡ releaseAt l (a .at) .tick = ap (λ (x : ℕ). getD (own i l) x 0) (sym (a .is)) ∙ own-at l i (a .at) (a .inside) (a .of-task) in
-          let v : getD (own i l) (m + k) 0 ≡ releaseAt l (b .at) .tick =
-          ap (λ (x : ℕ). getD (own i l) x 0) (sym (b .is)) ∙ own-at l i (b .at) (b .inside) (b .of-task) in
-          rw (u, v) c
 
 -- the ticks of a trace never fall
 pub trace-rising : (s : Tasks) (l : List Release) → Trace s l → (m p : ℕ) → m ≤ p → p < length l → releaseAt l m .tick ≤ releaseAt l p .tick

@@ -61,7 +61,8 @@ pub record LongEnough (c : ℕ) (kept : List ℕ) (n : ℕ) (task tick cost : Li
   pub columns : Columns n task tick cost
   pub slots-long : n ≤ m
 
-pub long-enough : (c : ℕ) (kept : List ℕ) (n : ℕ) (task tick cost : List ℕ) (m : ℕ) → none ≡ checkSlots (slotsLent c kept n task tick cost m) → LongEnough c kept n task tick cost m
+pub long-enough
+    : (c : ℕ) (kept : List ℕ) (n : ℕ) (task tick cost : List ℕ) (m : ℕ) → none ≡ checkSlots (slotsLent c kept n task tick cost m) → LongEnough c kept n task tick cost m
 long-enough c kept n task tick cost m e =
     let a = slot-of _ _ e in
     let b = slot-of _ _ (a .1) in
@@ -74,7 +75,9 @@ long-enough c kept n task tick cost m e =
 slots-two : (n m k : ℕ) → checkSlots (record { needed = n; slots = m } ∷ record { needed = n; slots = k } ∷ []) ≡ checkSlots (record { needed = n; slots = min m k } ∷ [])
 slots-two n m k = go (ltb (min m k) n) refl (ltb m n) refl
   where
-    go : (b : Bool) → ltb (min m k) n ≡ b → (d : Bool) → ltb m n ≡ d → checkSlots (record { needed = n; slots = m } ∷ record { needed = n; slots = k } ∷ []) ≡ checkSlots (record { needed = n; slots = min m k } ∷ [])
+    go
+        : (b : Bool) → ltb (min m k) n ≡ b → (d : Bool) → ltb m n ≡ d
+        → checkSlots (record { needed = n; slots = m } ∷ record { needed = n; slots = k } ∷ []) ≡ checkSlots (record { needed = n; slots = min m k } ∷ [])
     go true h true g = sym (slots-short _ _ (ltb-true _ _ g)) ∙ slots-short _ _ (ltb-true _ _ h)
     go true h false g =
         slots-next _ _ (ltb-false _ _ g) ∙ sym (slots-short _ [] (omega (arith, ltb-true (min m k) n h, ltb-false m n g))) ∙ slots-short _ _ (ltb-true _ _ h)
@@ -96,7 +99,8 @@ pub run-checks
 unfolding refusalOf
 run-checks s kept n task tick cost ready finish =
     rw
-    (slots-cons (lends (s .count) kept) _ _ (slots-cons (lends n task) _ _ (slots-cons (lends n tick) _ _ (slots-cons (lends n cost) _ _ (sym (slots-two n (length ready) (length finish)))))))
+    (slots-cons (lends (s .count) kept) _ _
+    (slots-cons (lends n task) _ _ (slots-cons (lends n tick) _ _ (slots-cons (lends n cost) _ _ (sym (slots-two n (length ready) (length finish)))))))
 
 -- what a call that passes its checks says
 pub record Callable (s : Tasks) (kept : List ℕ) (n : ℕ) (task tick cost : List ℕ) (m : ℕ) : Type 0 where
@@ -105,7 +109,8 @@ pub record Callable (s : Tasks) (kept : List ℕ) (n : ℕ) (task tick cost : Li
   pub slots-long : n ≤ m
   pub within : (i : ℕ) → i < s .count → column kept i ≤ s .jitter i
 
-pub callable-of : (s : Tasks) (kept : List ℕ) (n : ℕ) (task tick cost : List ℕ) (m : ℕ) → none ≡ refusalOf (callInputs s kept n task tick cost m) → Callable s kept n task tick cost m
+pub callable-of
+    : (s : Tasks) (kept : List ℕ) (n : ℕ) (task tick cost : List ℕ) (m : ℕ) → none ≡ refusalOf (callInputs s kept n task tick cost m) → Callable s kept n task tick cost m
 callable-of s kept n task tick cost m e =
     let a = accepted-of _ e in
     let f = long-enough (s .count) kept n task tick cost m (a .lent) in

@@ -7,8 +7,8 @@ use lib.ListN.{length, getD}
 use Rattle.model.specs.Tasks.{Tasks, Release, releaseAt}
 use Rattle.model.specs.Gap.{gap, own}
 use Rattle.model.specs.Ready.{readyTicks, place, readyAt}
-use Rattle.shaper.proofs.ReadyLaws.{ready-not-before, ready-apart-to, ready-least, ready-closed, Attained}
-use Rattle.trace.proofs.PositionLaws.{place-le, place-back, place-back-lt, own-at, place-inside, Held, held}
+use Rattle.shaper.proofs.ReadyLaws.{ready-not-before, ready-apart-to, ready-closed, Attained}
+use Rattle.trace.proofs.PositionLaws.{place-le, place-back, own-at, place-inside, Held, held}
 
 -- the release at m, of the same task and not after p, from which the ready tick of p lies exactly the gap
 pub record Since (s : Tasks) (k : ℕ → ℕ) (l : List Release) (i p : ℕ) : Type 0 where
@@ -42,22 +42,6 @@ module _ (s : Tasks) (k : ℕ → ℕ) (l : List Release) (i : ℕ) where
   -- so the ready ticks of a task never fall
   pub ready-rising : (m p : ℕ) → m ≤ p → p < length l → releaseAt l m .task ≡ i → releaseAt l p .task ≡ i → readyAt s k l m ≤ readyAt s k l p
   ready-rising m p le h em ep = omega (arith, ready-gap m p le h em ep)
-
-  -- it is the least such tick
-  pub ready-at-least
-      : (p t : ℕ) → p < length l → releaseAt l p .task ≡ i → releaseAt l p .tick ≤ t
-      → ((m : ℕ) → m < p → releaseAt l m .task ≡ i → readyAt s k l m + gap (s .period i) (k i) (place l p - place l m) ≤ t)
-      → readyAt s k l p ≤ t
-  ready-at-least p t h e a f =
-      rw (ready-own p e)
-      (ready-least (s .period i) (k i) (own i l) (place l p) t (place-inside l i p h e) (rw (own-at l i p h e) a)
-      (λ m g. go m g (held l i m (omega (arith, place-inside l i p h e)))))
-    where
-      go : (m : ℕ) → m < place l p → Held l i m → getD (readyTicks (s .period i) (k i) (own i l)) m 0 + gap (s .period i) (k i) (place l p - m) ≤ t
-      go m g d =
-          let b : readyAt s k l (d .at) + gap (s .period i) (k i) (place l p - place l (d .at)) ≤ t =
-          f (d .at) (place-back-lt l i (d .at) p (d .inside) (d .of-task) e (omega arith)) (d .of-task) in
-          rw (ready-own (d .at) (d .of-task), d .is) at b
 
   -- closed form: it lies exactly the gap after some release of the task, its own or an earlier one
   pub ready-at-closed : (p : ℕ) → p < length l → releaseAt l p .task ≡ i → Since s k l i p

@@ -68,5 +68,6 @@ pub past-stop : (s : Tasks) (k : ℕ → ℕ) (i : ℕ) → Periodic s i → (a 
 unfolding boundOf gap
 past-stop s k i p a b v w t f l g h =
     rw (bound-is (s .period i) (s .jitter i) (k i) b w, bound-is (s .period i) (s .jitter i) (k i) (suc a + b) t)
-    (not-below (w + (s .jitter i - (b * s .period i + k i))) (b * s .period i - s .jitter i) (t + (s .jitter i - ((suc a + b) * s .period i + k i))) ((suc a + b) * s .period i - s .jitter i)
+    (not-below (w + (s .jitter i - (b * s .period i + k i))) (b * s .period i - s .jitter i) (t + (s .jitter i - ((suc a + b) * s .period i + k i)))
+    ((suc a + b) * s .period i - s .jitter i)
     (shorter (s .period i) (s .jitter i) (k i) a b v w t (f .low) l (window-sub s k i p a b v w t f g h)))

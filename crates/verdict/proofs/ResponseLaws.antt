@@ -83,7 +83,8 @@ module _ (P J K q w : ℕ) (m : Met P J K q w) where
       → z ≡ maxZ (toZ w64 (ofZ w64 (toZ w64 (ofZ w64 x) -ℤ toZ w64 K))) (toZ w64 (ofZ w64 y))
       → toZ w64 w +ℤ toZ w64 (ofZ w64 z) ≡ pos (responseOf P J K q w)
   unfolding bound
-  response-sum x y z hx hy hz ex ey ez = ap₂ _+ℤ_ (plain w (omega arith)) (back z hz ∙ ez ∙ ap₂ maxZ less (back y hy ∙ ey ∙ ap (minZ (pos 0)) (back x hx ∙ ex))) ∙ response-is
+  response-sum x y z hx hy hz ex ey ez =
+      ap₂ _+ℤ_ (plain w (omega arith)) (back z hz ∙ ez ∙ ap₂ maxZ less (back y hy ∙ ey ∙ ap (minZ (pos 0)) (back x hx ∙ ex))) ∙ response-is
     where
       less : toZ w64 (ofZ w64 (toZ w64 (ofZ w64 x) -ℤ toZ w64 K)) ≡ offset P J q -ℤ pos K
       less =

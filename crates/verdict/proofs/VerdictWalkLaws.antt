@@ -88,7 +88,9 @@ module _ (s : Tasks) (k : ℕ → ℕ) (i : ℕ) where
     walk-on b w e f l h g =
         record {
           q-high = omega (arith, window-over s k i q t e found);
-          sought = sought-next (stops s k i) (suc horizonTick) q (w .sought) (omega arith) (rw (stops, found, late-no h, isLast, lt-leb t (gap (s .period i) (k i) (suc q)) (rw add-one at g)));
+          sought =
+              sought-next (stops s k i) (suc horizonTick) q (w .sought) (omega arith)
+              (rw (stops, found, late-no h, isLast, lt-leb t (gap (s .period i) (k i) (suc q)) (rw add-one at g)));
           behind = λ x a c. rw add-one (omega (arith, f .least x a (omega arith), demand-next s k i q x));
           best = rw add-one (best-next (boundAt s k i) q b r (w .best) l at-is);
         }

@@ -126,7 +126,8 @@ module _ (s : Tasks) (k : ℕ → ℕ) (i base first last w : ℕ) where
     scenario-ready j p hj h e =
         let g : j ≤ i = rw e at (scenario-task p h) in
         let n : place l p < many j = omega (arith, place-inside l j p h e, scenario-many j g) in
-        ready-own s k l j p e ∙ rw (scenario-own j g) (gap-times-ready (s .period j) (spentOf s k i j) (above i base first j) (many j) (k j) (place l p) (spent-low j hj) n)
+        ready-own s k l j p e ∙ rw (scenario-own j g)
+        (gap-times-ready (s .period j) (spentOf s k i j) (above i base first j) (many j) (k j) (place l p) (spent-low j hj) n)
 
   -- the ticks of the tasks above are before base + w, the own ones at most last periods after the first
   pub scenario-ticks

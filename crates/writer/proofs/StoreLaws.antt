@@ -54,7 +54,9 @@ stored-all l vs h =
     let e : 0 + length vs ≡ length vs = omega arith in
     sets-eq vs l 0 (omega arith) ∙ ap (λ k. vs ++ drop k l) e
 
-pub put-four : (l : List ℕ) (at n a b c d : ℕ) → a ≡ n % 256 → b ≡ n / 256 % 256 → c ≡ n / 256 / 256 % 256 → d ≡ n / 256 / 256 / 256 % 256 → set (set (set (set l at a) (at + 1) b) (at + 2) c) (at + 3) d ≡ stored l at (bytesOf 4 n)
+pub put-four
+    : (l : List ℕ) (at n a b c d : ℕ) → a ≡ n % 256 → b ≡ n / 256 % 256 → c ≡ n / 256 / 256 % 256 → d ≡ n / 256 / 256 / 256 % 256
+    → set (set (set (set l at a) (at + 1) b) (at + 2) c) (at + 3) d ≡ stored l at (bytesOf 4 n)
 unfolding bytesOf stored
 put-four l at n a b c d p q r s =
     let x : at + 2 ≡ suc (suc at) = omega arith in
@@ -62,23 +64,41 @@ put-four l at n a b c d p q r s =
     rw (p, q, r, s, add-one, x, y)
 
 -- the stores of a task record
-pub put-task-bytes : (l l₁ l₂ l₃ l₄ : List ℕ) (at : ℕ) (t : Task) → l₁ ≡ stored (set l at 1) (at + 1) (bytesOf 4 (t .period)) → l₂ ≡ stored l₁ (at + 5) (bytesOf 4 (t .jitter)) → l₃ ≡ stored l₂ (at + 9) (bytesOf 4 (t .cost)) → l₄ ≡ stored l₃ (at + 13) (bytesOf 4 (t .deadline)) → l₄ ≡ stored l at (taskBytes t)
+pub put-task-bytes
+    : (l l₁ l₂ l₃ l₄ : List ℕ) (at : ℕ) (t : Task) → l₁ ≡ stored (set l at 1) (at + 1) (bytesOf 4 (t .period)) → l₂ ≡ stored l₁ (at + 5) (bytesOf 4 (t .jitter))
+    → l₃ ≡ stored l₂ (at + 9) (bytesOf 4 (t .cost)) → l₄ ≡ stored l₃ (at + 13) (bytesOf 4 (t .deadline)) → l₄ ≡ stored l at (taskBytes t)
 unfolding taskBytes
 put-task-bytes l l₁ l₂ l₃ l₄ at t e₁ e₂ e₃ e₄ =
     let n : (k : ℕ) → length (bytesOf 4 k) ≡ 4 = length-bytes 4 in
     let a₁ = e₁ ∙ ap (λ x. stored x (at + 1) (bytesOf 4 (t .period))) (stored-one l at 1) ∙ stored-at l (1 ∷ []) (bytesOf 4 (t .period)) at (at + 1) refl in
-    let a₂ = e₂ ∙ ap (λ x. stored x (at + 5) (bytesOf 4 (t .jitter))) a₁ ∙ stored-at l (1 ∷ bytesOf 4 (t .period)) (bytesOf 4 (t .jitter)) at (at + 5) (omega (arith, n (t .period))) in
-    let a₃ = e₃ ∙ ap (λ x. stored x (at + 9) (bytesOf 4 (t .cost))) a₂ ∙ stored-at l (1 ∷ (bytesOf 4 (t .period) ++ bytesOf 4 (t .jitter))) (bytesOf 4 (t .cost)) at (at + 9) (omega (arith, n (t .period), n (t .jitter), length-append (bytesOf 4 (t .period)) (bytesOf 4 (t .jitter)))) in
-    let a₄ = e₄ ∙ ap (λ x. stored x (at + 13) (bytesOf 4 (t .deadline))) a₃ ∙ stored-at l (1 ∷ (bytesOf 4 (t .period) ++ bytesOf 4 (t .jitter) ++ bytesOf 4 (t .cost))) (bytesOf 4 (t .deadline)) at (at + 13) (omega (arith, n (t .period), n (t .jitter), n (t .cost), length-append (bytesOf 4 (t .period)) (bytesOf 4 (t .jitter)), length-append (bytesOf 4 (t .period) ++ bytesOf 4 (t .jitter)) (bytesOf 4 (t .cost)))) in
+    let a₂ = e₂ ∙ ap (λ x. stored x (at + 5) (bytesOf 4 (t .jitter))) a₁ ∙ stored-at l (1 ∷ bytesOf 4 (t .period)) (bytesOf 4 (t .jitter)) at (at + 5)
+    (omega (arith, n (t .period))) in
+    let a₃ = e₃ ∙ ap (λ x. stored x (at + 9) (bytesOf 4 (t .cost))) a₂ ∙ stored-at l (1 ∷ (bytesOf 4 (t .period) ++ bytesOf 4 (t .jitter))) (bytesOf 4 (t .cost)) at
+    (at + 9) (omega (arith, n (t .period), n (t .jitter), length-append (bytesOf 4 (t .period)) (bytesOf 4 (t .jitter)))) in
+    let a₄ = e₄ ∙ ap (λ x. stored x (at + 13) (bytesOf 4 (t .deadline))) a₃ ∙ stored-at l (1 ∷ (bytesOf 4 (t .period) ++ bytesOf 4 (t .jitter) ++ bytesOf 4 (t .cost)))
+    (bytesOf 4 (t .deadline)) at (at + 13)
+    (omega (
+      arith,
+      n (t .period),
+      n (t .jitter),
+      n (t .cost),
+      length-append (bytesOf 4 (t .period)) (bytesOf 4 (t .jitter)),
+      length-append
+          (bytesOf 4 (t .period) ++ bytesOf 4 (t .jitter)) (bytesOf 4 (t .cost)),
+    )) in
     a₄ ∙ ap (λ x. stored l at (1 ∷ x)) (simp append-assoc)
 
 -- and of a release record
-pub put-release-bytes : (l l₁ l₂ : List ℕ) (at task tick cost b : ℕ) → b ≡ task % 256 → l₁ ≡ stored (set (set l at 2) (at + 1) b) (at + 2) (bytesOf 4 tick) → l₂ ≡ stored l₁ (at + 6) (bytesOf 4 cost) → l₂ ≡ stored l at (releaseBytes (release task tick cost))
+pub put-release-bytes
+    : (l l₁ l₂ : List ℕ) (at task tick cost b : ℕ) → b ≡ task % 256 → l₁ ≡ stored (set (set l at 2) (at + 1) b) (at + 2) (bytesOf 4 tick)
+    → l₂ ≡ stored l₁ (at + 6) (bytesOf 4 cost) → l₂ ≡ stored l at (releaseBytes (release task tick cost))
 unfolding releaseBytes bytesOf
 put-release-bytes l l₁ l₂ at task tick cost b p e₁ e₂ =
-    let a₀ : set (set l at 2) (at + 1) b ≡ stored l at (2 ∷ (task % 256) ∷ []) = ap₂ (λ x v. set x (at + 1) v) (stored-one l at 2) p ∙ stored-one (stored l at (2 ∷ [])) (at + 1) (task % 256) ∙ stored-at l (2 ∷ []) ((task % 256) ∷ []) at (at + 1) refl in
+    let a₀ : set (set l at 2) (at + 1) b ≡ stored l at (2 ∷ (task % 256) ∷ []) = ap₂ (λ x v. set x (at + 1) v) (stored-one l at 2) p ∙ stored-one (stored l at (2 ∷ []))
+    (at + 1) (task % 256) ∙ stored-at l (2 ∷ []) ((task % 256) ∷ []) at (at + 1) refl in
     let a₁ = e₁ ∙ ap (λ x. stored x (at + 2) (bytesOf 4 tick)) a₀ ∙ stored-at l (2 ∷ (task % 256) ∷ []) (bytesOf 4 tick) at (at + 2) refl in
-    e₂ ∙ ap (λ x. stored x (at + 6) (bytesOf 4 cost)) a₁ ∙ stored-at l (2 ∷ (task % 256) ∷ bytesOf 4 tick) (bytesOf 4 cost) at (at + 6) (omega (arith, length-bytes 4 tick))
+    e₂ ∙ ap (λ x. stored x (at + 6) (bytesOf 4 cost)) a₁ ∙ stored-at l (2 ∷ (task % 256) ∷ bytesOf 4 tick) (bytesOf 4 cost) at (at + 6)
+    (omega (arith, length-bytes 4 tick))
 
 -- the tasks of a set, of which the first i are written
 pub record TasksPut (s : TaskSet) (held : List ℕ) (count : ℕ) (now : List ℕ) (at i : ℕ) : Type 0 where
@@ -101,12 +121,15 @@ module _ (s : TaskSet) (held : List ℕ) where
     long-tasks : length (tasksIn s) ≡ s .count
     long-tasks = length-tasks s (p .in-array)
 
-    pub tasks-next : (now′ : List ℕ) → i < count → now′ ≡ stored now at (taskBytes (getD (s .tasks) i noTask)) → length now′ ≡ length now → TasksPut s held count now′ (at + 17) (i + 1)
+    pub tasks-next
+        : (now′ : List ℕ) → i < count → now′ ≡ stored now at (taskBytes (getD (s .tasks) i noTask)) → length now′ ≡ length now
+        → TasksPut s held count now′ (at + 17) (i + 1)
     unfolding tasksIn
     tasks-next now′ h e g =
         let k : i < s .count = omega (arith, p .same) in
         let c : length (take i (tasksIn s)) ≡ i = length-take-le i (tasksIn s) (omega (arith, long-tasks)) in
-        let t : take (suc i) (tasksIn s) ≡ take i (tasksIn s) ++ (getD (s .tasks) i noTask ∷ []) = take-suc (tasksIn s) i noTask (omega (arith, long-tasks)) ∙ ap (λ x. take i (tasksIn s) ++ (x ∷ [])) (getD-take (s .count) (s .tasks) i noTask k) in
+        let t : take (suc i) (tasksIn s) ≡ take i (tasksIn s) ++ (getD (s .tasks) i noTask ∷ []) = take-suc (tasksIn s) i noTask (omega (arith, long-tasks)) ∙ ap
+        (λ x. take i (tasksIn s) ++ (x ∷ [])) (getD-take (s .count) (s .tasks) i noTask k) in
         record {
           same = p .same;
           within = omega arith;
@@ -118,7 +141,8 @@ module _ (s : TaskSet) (held : List ℕ) where
           front =
               rw add-one
               (e ∙ ap (λ x. stored x at (taskBytes (getD (s .tasks) i noTask))) (p .front)
-              ∙ stored-at held (taskPart (take i (tasksIn s))) (taskBytes (getD (s .tasks) i noTask)) 0 at (omega (arith, p .offset, length-task-part (take i (tasksIn s))))
+              ∙ stored-at held (taskPart (take i (tasksIn s))) (taskBytes (getD (s .tasks) i noTask)) 0 at
+              (omega (arith, p .offset, length-task-part (take i (tasksIn s))))
               ∙ ap (stored held 0) (sym (ap taskPart t ∙ task-part-more (take i (tasksIn s)) (getD (s .tasks) i noTask))));
         }
 
@@ -146,11 +170,14 @@ module _ (held : List ℕ) (from n : ℕ) (task tick cost : List ℕ) where
   list = releasesOf n task tick cost
 
   module _ (now : List ℕ) (at i : ℕ) (p : ReleasesPut held from n task tick cost now at i) where
-    pub releases-next : (now′ : List ℕ) → i < n → now′ ≡ stored now at (releaseBytes (release (getD task i 0) (getD tick i 0) (getD cost i 0))) → length now′ ≡ length now → ReleasesPut held from n task tick cost now′ (at + 10) (i + 1)
+    pub releases-next
+        : (now′ : List ℕ) → i < n → now′ ≡ stored now at (releaseBytes (release (getD task i 0) (getD tick i 0) (getD cost i 0))) → length now′ ≡ length now
+        → ReleasesPut held from n task tick cost now′ (at + 10) (i + 1)
     releases-next now′ h e g =
         let r : Release = release (getD task i 0) (getD tick i 0) (getD cost i 0) in
         let c : length (take i list) ≡ i = length-take-le i list (omega (arith, length-releases n task tick cost)) in
-        let t : take (suc i) list ≡ take i list ++ (release (getD task i 0) (getD tick i 0) (getD cost i 0) ∷ []) = take-suc list i noRelease (omega (arith, length-releases n task tick cost)) ∙ ap (λ x. take i list ++ (x ∷ [])) (release-at n task tick cost i h) in
+        let t : take (suc i) list ≡ take i list ++ (release (getD task i 0) (getD tick i 0) (getD cost i 0) ∷ []) = take-suc list i noRelease
+        (omega (arith, length-releases n task tick cost)) ∙ ap (λ x. take i list ++ (x ∷ [])) (release-at n task tick cost i h) in
         record {
           within = omega arith;
           offset = omega (arith, p .offset);
@@ -162,7 +189,8 @@ module _ (held : List ℕ) (from n : ℕ) (task tick cost : List ℕ) where
           front =
               rw add-one
               (e ∙ ap (λ x. stored x at (releaseBytes (release (getD task i 0) (getD tick i 0) (getD cost i 0)))) (p .front)
-              ∙ stored-at held (releasePart (take i list)) (releaseBytes (release (getD task i 0) (getD tick i 0) (getD cost i 0))) from at (omega (arith, p .offset, length-release-part (take i list)))
+              ∙ stored-at held (releasePart (take i list)) (releaseBytes (release (getD task i 0) (getD tick i 0) (getD cost i 0))) from at
+              (omega (arith, p .offset, length-release-part (take i list)))
               ∙ ap (stored held from) (sym (ap releasePart t ∙ release-part-more (take i list) (release (getD task i 0) (getD tick i 0) (getD cost i 0)))));
         }
 

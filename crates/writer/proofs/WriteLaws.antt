@@ -42,7 +42,8 @@ pub record WriteFits (s : TaskSet) (n : ℕ) (task tick cost : List ℕ) (room :
   pub columns : Columns n task tick cost
   pub bytes : 17 * s .count + 10 * n < room
 
-pub write-fits : (s : TaskSet) (n : ℕ) (task tick cost : List ℕ) (room : ℕ) → none ≡ refusalOf (writeInputs (viewOf s) n task tick cost room) → WriteFits s n task tick cost room
+pub write-fits
+    : (s : TaskSet) (n : ℕ) (task tick cost : List ℕ) (room : ℕ) → none ≡ refusalOf (writeInputs (viewOf s) n task tick cost room) → WriteFits s n task tick cost room
 unfolding bytesNeeded
 write-fits s n task tick cost room e =
     let a = accepted-of _ e in
@@ -69,10 +70,14 @@ module _ (s : TaskSet) (n : ℕ) (task tick cost out : List ℕ) where
     long : length (encode (fileOf s n task tick cost)) ≡ 17 * s .count + 10 * n + 1
     long = length-encode (fileOf s n task tick cost) ∙ ap₂ (λ a b. 17 * a + 10 * b + 1) (length-tasks s h) (length-releases n task tick cost)
 
-    filled : (o₁ o₂ : List ℕ) → o₁ ≡ stored out 0 (taskPart (tasksIn s)) → o₂ ≡ stored o₁ (17 * s .count) (releasePart (releasesOf n task tick cost)) → 17 * s .count + 10 * n < length out → set o₂ (17 * s .count + 10 * n) 3 ≡ encode (fileOf s n task tick cost) ++ drop (length (encode (fileOf s n task tick cost))) out
+    filled
+        : (o₁ o₂ : List ℕ) → o₁ ≡ stored out 0 (taskPart (tasksIn s)) → o₂ ≡ stored o₁ (17 * s .count) (releasePart (releasesOf n task tick cost))
+        → 17 * s .count + 10 * n < length out
+        → set o₂ (17 * s .count + 10 * n) 3 ≡ encode (fileOf s n task tick cost) ++ drop (length (encode (fileOf s n task tick cost))) out
     filled o₁ o₂ e₁ e₂ g =
         let t : length (taskPart (tasksIn s)) ≡ 17 * s .count = length-task-part (tasksIn s) ∙ ap (λ k. 17 * k) (length-tasks s h) in
-        let r : length (releasePart (releasesOf n task tick cost)) ≡ 10 * n = length-release-part (releasesOf n task tick cost) ∙ ap (λ k. 10 * k) (length-releases n task tick cost) in
+        let r : length (releasePart (releasesOf n task tick cost)) ≡ 10 * n = length-release-part (releasesOf n task tick cost) ∙ ap (λ k. 10 * k)
+        (length-releases n task tick cost) in
         stored-one o₂ (17 * s .count + 10 * n) 3
         ∙ ap (λ x. stored x (17 * s .count + 10 * n) (3 ∷ []))
         (e₂ ∙ ap (λ x. stored x (17 * s .count) (releasePart (releasesOf n task tick cost))) e₁
@@ -85,7 +90,10 @@ module _ (s : TaskSet) (n : ℕ) (task tick cost out : List ℕ) where
         ∙ stored-all out (encode (fileOf s n task tick cost)) (omega (arith, long))
 
     -- the whole file is written
-    pub write-done : (o₁ o₂ : List ℕ) → none ≡ refusalOf inputs → o₁ ≡ stored out 0 (taskPart (tasksIn s)) → o₂ ≡ stored o₁ (17 * s .count) (releasePart (releasesOf n task tick cost)) → 17 * s .count + 10 * n < length out → WriteSays s n task tick cost out (Written (17 * s .count + 10 * n + 1)) (set o₂ (17 * s .count + 10 * n) 3)
+    pub write-done
+        : (o₁ o₂ : List ℕ) → none ≡ refusalOf inputs → o₁ ≡ stored out 0 (taskPart (tasksIn s))
+        → o₂ ≡ stored o₁ (17 * s .count) (releasePart (releasesOf n task tick cost)) → 17 * s .count + 10 * n < length out
+        → WriteSays s n task tick cost out (Written (17 * s .count + 10 * n + 1)) (set o₂ (17 * s .count + 10 * n) 3)
     write-done o₁ o₂ e e₁ e₂ g =
         record {
           answer = answers inputs (17 * s .count + 10 * n + 1) e ∙ ap (answerOf inputs) (sym long);

@@ -54,7 +54,8 @@ set c =
     (r .read .ensures .sheet) (r .read .ensures .task-column) (r .read .ensures .tick-column) (r .read .ensures .cost-column) .sheet
 
 choices : (c : tie.After-enum-told)
-    → chosenText (viewOf (c .before .before .before .before .before .before .read .result .tasks)) (choice (viewOf (c .before .before .before .before .before .before .read .result .tasks)))
+    → chosenText (viewOf (c .before .before .before .before .before .before .read .result .tasks))
+    (choice (viewOf (c .before .before .before .before .before .before .read .result .tasks)))
     ≡ chooseText (bytes (c .before .before .before .before .before .before))
 choices c =
     let r : tie.After-read = c .before .before .before .before .before .before in
@@ -104,7 +105,8 @@ same-length-2 c = search needs
 
 returns-2 : tie.Need-returns-2
 returns-2 c =
-    choose-printed _ _ _ _ _ _ (omega (arith, room (c .before .before .before .before .before .before .before .before .before .before .before .before .before .before .before)))
+    choose-printed _ _ _ _ _ _
+    (omega (arith, room (c .before .before .before .before .before .before .before .before .before .before .before .before .before .before .before)))
     (rw (choices (c .before .before .before .before)) at (c .before .before .put-chosen .ensures))
 
 pub choose-text-spec : {M : Type 1} → statement M

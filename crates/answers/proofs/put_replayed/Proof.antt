@@ -77,7 +77,8 @@ returns : tie.Need-returns
 returns c =
     let s : tie.Start = start (made (c .before .before .before .before .before)) in
     wider 64 67648 _ _ _ _ _ (omega arith)
-    (rw (unfit (c .before .before .before .before .before) .list-text (s .args .n) (now (s .args .task)) (now (s .args .tick)) (now (s .args .cost))) at (c .before .before .put-refusal .ensures))
+    (rw (unfit (c .before .before .before .before .before) .list-text (s .args .n) (now (s .args .task)) (now (s .args .tick)) (now (s .args .cost))) at
+    (c .before .before .put-refusal .ensures))
 
 same-length-2 : tie.Need-same-length-2
 same-length-2 c = search needs
@@ -87,7 +88,8 @@ returns-2 c =
     let r : tie.After-choose = c .before .before .before .before .before .before .before .before .before in
     let s : tie.Start = start r in
     rw
-    (keeping (viewOf (s .args .s)) zeros zeros (s .pre .0 .sheet) (few r) (few r) _ _ (r .choose .last .1 .1 .0) (c .before .before .before .before .before .enum-told .given .1)
+    (keeping (viewOf (s .args .s)) zeros zeros (s .pre .0 .sheet) (few r) (few r) _ _ (r .choose .last .1 .1 .0)
+    (c .before .before .before .before .before .enum-told .given .1)
     (r .choose .ensures .0) (zeros-rest 32 (length (keptColumn (choice (viewOf (s .args .s)))))) (r .choose .ensures .1 .0)
     .list-text (s .args .n) (now (s .args .task)) (now (s .args .tick)) (now (s .args .cost)))
     at (c .before .before .put-ran .ensures)

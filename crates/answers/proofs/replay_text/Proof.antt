@@ -109,7 +109,8 @@ slice-aggregate-put-replayed-3 : tie.Need-slice-aggregate-put-replayed-3
 slice-aggregate-put-replayed-3 c = search needs
 
 put-replayed-requires : tie.Need-put-replayed-requires
-put-replayed-requires c κs = (list (c .before .before .before .before .before), start (c .before .before .before .before .before .before .before .before .before .before .before) .pre .1)
+put-replayed-requires c κs =
+    (list (c .before .before .before .before .before), start (c .before .before .before .before .before .before .before .before .before .before .before) .pre .1)
 
 same-length : tie.Need-same-length
 same-length c = search needs
@@ -124,7 +125,12 @@ same-length-2 c = search needs
 
 returns-2 : tie.Need-returns-2
 returns-2 c =
-    replay-printed _ _ _ _ _ _ (omega (arith, room (c .before .before .before .before .before .before .before .before .before .before .before .before .before .before .before .before .before .before .before)))
+    replay-printed _ _ _ _ _ _
+    (omega (
+      arith,
+      room (c .before .before .before .before .before .before .before .before .before .before .before .before .before .before .before .before .before .before
+          .before),
+    ))
     (rw (ran (c .before .before .before .before .before .before .before .before)) at (c .before .before .put-replayed .ensures))
 
 pub replay-text-spec : {M : Type 1} → statement M

@@ -12,7 +12,8 @@ use Rattle.cases.proofs.numbers.Statement.{statement}
 use Rattle.cases.proofs.numbers.Tie as tie
 
 abbrev Inv-loop : tie.InvT-loop
-Inv-loop s out₀ n i₀ out i = (i ≤ n) × (4 * n ≤ length s) × (i ≤ length out) × (length out ≡ length out₀) × Filled (λ k. numberAt s (4 * k)) 0 i out × (drop i out ≡ drop i out₀)
+Inv-loop s out₀ n i₀ out i =
+    (i ≤ n) × (4 * n ≤ length s) × (i ≤ length out) × (length out ≡ length out₀) × Filled (λ k. numberAt s (4 * k)) 0 i out × (drop i out ≡ drop i out₀)
 
 abbrev μ-loop : tie.MeasureT-loop
 μ-loop s out₀ n i₀ out i = n - i

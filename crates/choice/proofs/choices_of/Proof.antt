@@ -44,7 +44,8 @@ enum-told c = search needs
 
 returns : tie.Need-returns Inv-loop μ-loop
 returns c =
-    choosing-unfit _ _ _ _ _ _ (c .before .before .before .before .before .before .before .before .loop .inv) (c .before .before .before .before .before .before .before .loop-test .taken)
+    choosing-unfit _ _ _ _ _ _ (c .before .before .before .before .before .before .before .before .loop .inv)
+    (c .before .before .before .before .before .before .before .loop-test .taken)
     (rw (c .enum-told .given .1) at (c .before .before .least-keep .ensures))
 
 mul-keep : tie.Need-mul-keep Inv-loop μ-loop
@@ -67,7 +68,8 @@ loop-less c = omega arith
 
 loop-again : tie.Need-loop-again Inv-loop μ-loop
 loop-again c =
-    choosing-next _ _ _ _ _ _ (c .before .before .before .before .before .before .before .before .before .loop .inv) (c .before .before .before .before .before .before .before .before .loop-test .taken) _ _
+    choosing-next _ _ _ _ _ _ (c .before .before .before .before .before .before .before .before .before .loop .inv)
+    (c .before .before .before .before .before .before .before .before .loop-test .taken) _ _
     (rw (c .before .least .given .1) at (c .before .before .before .least-keep .ensures))
 
 returns-2 : tie.Need-returns-2 Inv-loop μ-loop

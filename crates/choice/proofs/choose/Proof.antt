@@ -68,7 +68,9 @@ returns-5 : tie.Need-returns-5
 returns-5 c =
     let good = fine (c .before .before .before .before .before .before .before .before .before .before .before .before .before .before .before .before) in
     let are = c .before .before .before .before .before .before .before .before .before .before .before .before .before .choices-of .ensures in
-    answers _ _ _ good (omega arith) (omega arith) _ _ _ are (c .before .before .before .before .before .before .before .before .before .before .before .before .if3 .left) (valid-of _ (sym good) .few-tasks) (c .before .before .before .before .before .before .before .put .ensures) (c .before .before .put2 .ensures)
+    answers _ _ _ good (omega arith) (omega arith) _ _ _ are
+    (c .before .before .before .before .before .before .before .before .before .before .before .before .if3 .left) (valid-of _ (sym good) .few-tasks)
+    (c .before .before .before .before .before .before .before .put .ensures) (c .before .before .put2 .ensures)
 
 pub choose-spec : {M : Type 1} → statement M
 choose-spec =

@@ -22,15 +22,19 @@ start c = c .before .before .before .before .before
 is-window
     : (c : tie.After-known-told Inv-loop μ-loop)
     → (let s = start (c .before .before .before .before) in
-    some (c .before .found .given .0 .0) ≡ windowAt (s .args .loads .now) (s .args .periods .now) (s .args .keeps .now) (s .args .i) (c .before .before .before .before .loop .q))
+    some (c .before .found .given .0 .0) ≡ windowAt (s .args .loads .now) (s .args .periods .now) (s .args .keeps .now) (s .args .i)
+    (c .before .before .before .before .loop .q))
 is-window c = ap windowIn (sym (c .before .found .given .1)) ∙ c .before .before .before .window-from .ensures
 
 -- what the step leaves
 stepping
     : (c : tie.After-step-at Inv-loop μ-loop)
     → (let s = start (c .before .before .before .before .before) in
-    Stepping (s .args .loads .now) (s .args .periods .now) (s .args .keeps .now) (s .args .i) (s .args .jitter) (s .args .deadline) (c .before .before .before .before .before .loop .q) (c .before .before .found .given .0 .0) (c .step-at .result))
-stepping c = walking-step _ _ _ _ _ _ (c .before .before .before .before .before .loop .inv .may) _ _ _ (c .before .before .before .before .before .loop .inv) _ (is-window (c .before)) _ (c .step-at .ensures)
+    Stepping (s .args .loads .now) (s .args .periods .now) (s .args .keeps .now) (s .args .i) (s .args .jitter) (s .args .deadline)
+    (c .before .before .before .before .before .loop .q) (c .before .before .found .given .0 .0) (c .step-at .result))
+stepping c =
+    walking-step _ _ _ _ _ _ (c .before .before .before .before .before .loop .inv .may) _ _ _ (c .before .before .before .before .before .loop .inv) _
+    (is-window (c .before)) _ (c .step-at .ensures)
 
 mul-period : tie.Need-mul-period Inv-loop μ-loop
 mul-period c = omega arith

@@ -85,7 +85,8 @@ cast-t21 c = search needs
 
 returns-2 : tie.Need-returns-2
 returns-2 c =
-    step-keep _ _ _ _ _ _ (omega arith) _ _ _ (next-is (c .before .before .before .before)) (kept (c .before .before .before)) (omega arith) (omega (arith, c .before .before .gap .ensures))
+    step-keep _ _ _ _ _ _ (omega arith) _ _ _ (next-is (c .before .before .before .before)) (kept (c .before .before .before)) (omega arith)
+    (omega (arith, c .before .before .gap .ensures))
 
 cast-t18 : tie.Need-cast-t18
 cast-t18 c = search needs

@@ -33,7 +33,11 @@ shared-slice-read-term-3 : tie.Need-shared-slice-read-term-3 Inv-loop μ-loop
 shared-slice-read-term-3 c = omega arith
 
 term-requires : tie.Need-term-requires Inv-loop μ-loop
-term-requires c κs = (c .before .before .before .before .before .before .before .before .pre .0 .small _ (c .before .before .before .loop-test .taken), c .before .before .before .before .before .before .before .before .pre .1)
+term-requires c κs = (
+  c .before .before .before .before .before .before .before .before .pre .0 .small _
+      (c .before .before .before .loop-test .taken),
+  c .before .before .before .before .before .before .before .before .pre .1,
+)
 
 add-sum : tie.Need-add-sum Inv-loop μ-loop
 add-sum c = omega arith

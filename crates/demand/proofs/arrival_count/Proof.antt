@@ -21,11 +21,18 @@ enum-known-checked c = search needs
 enum-told : tie.Need-enum-told
 enum-told c = search needs
 
-fine : (c : tie.After-enum-told) → none ≡ refusalOf (taskInputs (viewOf (c .before .before .before .before .args .t1)) (c .before .before .before .before .args .task) (c .before .before .before .before .args .kept .now))
+fine
+    : (c : tie.After-enum-told)
+    → none ≡ refusalOf (taskInputs (viewOf (c .before .before .before .before .args .t1)) (c .before .before .before .before .args .task)
+    (c .before .before .before .before .args .kept .now))
 fine c = sym (ap refusalIn (c .enum-told .given .1)) ∙ c .before .before .check-call .ensures
 
-passed : (c : tie.After-enum-told) → Passed (viewOf (c .before .before .before .before .args .t1)) (c .before .before .before .before .args .task) (c .before .before .before .before .args .kept .now)
-passed c = passed-of (viewOf (c .before .before .before .before .args .t1)) (c .before .before .before .before .args .task) (c .before .before .before .before .args .kept .now) (fine c)
+passed
+    : (c : tie.After-enum-told)
+    → Passed (viewOf (c .before .before .before .before .args .t1)) (c .before .before .before .before .args .task) (c .before .before .before .before .args .kept .now)
+passed c =
+    passed-of (viewOf (c .before .before .before .before .args .t1)) (c .before .before .before .before .args .task) (c .before .before .before .before .args .kept .now)
+    (fine c)
 
 mul-own : tie.Need-mul-own
 mul-own c = omega (arith, passed c)
@@ -44,11 +51,16 @@ arrivals-requires c κs = passed (c .before .before) .valid .in-range _ (passed 
 
 returns : tie.Need-returns
 unfolding arrivalCall
-returns c = refuses (taskInputs (viewOf (c .before .before .before .before .before .args .t1)) (c .before .before .before .before .before .args .task) (c .before .before .before .before .before .args .kept .now)) _ _ (sym (ap refusalIn (c .before .checked .given .1)) ∙ c .before .before .before .check-call .ensures)
+returns c =
+    refuses (taskInputs (viewOf (c .before .before .before .before .before .args .t1)) (c .before .before .before .before .before .args .task)
+    (c .before .before .before .before .before .args .kept .now)) _ _ (sym (ap refusalIn (c .before .checked .given .1)) ∙ c .before .before .before .check-call .ensures)
 
 returns-2 : tie.Need-returns-2
 unfolding arrivalCall
-returns-2 c = ap answered (c .arrivals .ensures) ∙ answers (taskInputs (viewOf (c .before .before .before .before .before .before .before .args .t1)) (c .before .before .before .before .before .before .before .args .task) (c .before .before .before .before .before .before .before .args .kept .now)) _ (fine (c .before .before .before))
+returns-2 c =
+    ap answered (c .arrivals .ensures) ∙ answers
+    (taskInputs (viewOf (c .before .before .before .before .before .before .before .args .t1)) (c .before .before .before .before .before .before .before .args .task)
+    (c .before .before .before .before .before .before .before .args .kept .now)) _ (fine (c .before .before .before))
 
 pub arrival-count-spec : {M : Type 1} → statement M
 arrival-count-spec =

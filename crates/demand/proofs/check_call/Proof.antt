@@ -35,7 +35,9 @@ check-kept-requires : tie.Need-check-kept-requires
 check-kept-requires c κs = (valid-of _ (sym (fine (c .before .before))) .few-tasks, c .if2 .left)
 
 returns-4 : tie.Need-returns-4
-returns-4 c = c .check-kept .ensures ∙ call-kept _ _ (c .before .before .before .before .before .before .before .args .kept .now) (fine (c .before .before .before)) (c .before .before .if1 .left) (c .before .if2 .left)
+returns-4 c =
+    c .check-kept .ensures ∙ call-kept _ _ (c .before .before .before .before .before .before .before .args .kept .now) (fine (c .before .before .before))
+    (c .before .before .if1 .left) (c .before .if2 .left)
 
 pub check-call-spec : {M : Type 1} → statement M
 check-call-spec =

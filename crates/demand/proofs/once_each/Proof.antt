@@ -24,7 +24,13 @@ wide-requires : tie.Need-wide-requires Inv-loop μ-loop
 wide-requires c κs = tt
 
 load-small : (c : tie.After-wide Inv-loop μ-loop) → c .wide .result ≤ 1000000
-load-small c = omega (arith, c .wide .ensures, c .before .before .before .before .before .before .before .pre .small (c .before .before .before .loop .j) (c .before .before .loop-test .taken) .load-high)
+load-small c =
+    omega (
+      arith,
+      c .wide .ensures,
+      c .before .before .before .before .before .before .before .pre .small (c .before .before .before .loop .j)
+          (c .before .before .loop-test .taken) .load-high,
+    )
 
 add-sum : tie.Need-add-sum Inv-loop μ-loop
 add-sum c = omega (arith, load-small c)

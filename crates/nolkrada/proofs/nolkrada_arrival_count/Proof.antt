@@ -28,7 +28,8 @@ put-one-requires c κs = search needs
 returns : tie.Need-returns
 returns c =
     ends-refused _ _ _ _ _ _ _
-    (sym (ap arrivalIn (c .before .before .got .given .1)) ∙ (rw (c .before .before .before .before .before .sheet-from .ensures) at (c .before .before .before .before .arrival-count .ensures)))
+    (sym (ap arrivalIn (c .before .before .got .given .1)) ∙
+    (rw (c .before .before .before .before .before .sheet-from .ensures) at (c .before .before .before .before .arrival-count .ensures)))
     (c .slots-code .ensures)
 
 same-length : tie.Need-same-length
@@ -37,7 +38,9 @@ same-length c = search needs
 returns-2 : tie.Need-returns-2
 returns-2 c =
     ends-answered _ oneWord _ (c .before .before .before .before .before .before .before .before .before .before .before .before .args .answer .now) _ _ _
-    (sym (ap arrivalIn (c .before .before .before .before .before .got2 .given .1)) ∙ (rw (c .before .before .before .before .before .before .before .before .sheet-from .ensures) at (c .before .before .before .before .before .before .before .arrival-count .ensures)))
+    (sym (ap arrivalIn (c .before .before .before .before .before .got2 .given .1)) ∙
+    (rw (c .before .before .before .before .before .before .before .before .sheet-from .ensures) at
+    (c .before .before .before .before .before .before .before .arrival-count .ensures)))
     (c .before .before .put-one .ensures)
 
 pub nolkrada-arrival-count-spec : {M : Type 1} → statement M

@@ -21,7 +21,14 @@ same-length-2 : tie.Need-same-length-2
 same-length-2 c = search needs
 
 returns : tie.Need-returns
-returns c = (c .code-of .ensures ∙ ap codeOf (rw (c .before .before .before .before .before .before .before .before .sheet-from .ensures) at (c .before .before .before .before .before .choose .ensures .0)), ((rw (c .before .before .before .before .before .before .before .before .sheet-from .ensures) at (c .before .before .before .before .before .choose .ensures .1 .0)), (rw (c .before .before .before .before .before .before .before .before .sheet-from .ensures) at (c .before .before .before .before .before .choose .ensures .1 .1))))
+returns c = (
+  c .code-of .ensures ∙ ap codeOf
+      (rw (c .before .before .before .before .before .before .before .before .sheet-from .ensures) at (c .before .before .before .before .before .choose .ensures .0)),
+  (
+    (rw (c .before .before .before .before .before .before .before .before .sheet-from .ensures) at (c .before .before .before .before .before .choose .ensures .1 .0)),
+    (rw (c .before .before .before .before .before .before .before .before .sheet-from .ensures) at (c .before .before .before .before .before .choose .ensures .1 .1)),
+  ),
+)
 
 pub nolkrada-choice-spec : {M : Type 1} → statement M
 nolkrada-choice-spec =

@@ -54,7 +54,8 @@ returns-3 c =
     read-refused _ _ _ _ _ _ _ _ _ _ _ _
     (c .before .before .before .before .before .before .before .before .before .before .before .before .before .before .before .if2 .left)
     (c .before .before .before .before .before .before .before .before .before .before .before .before .before .before .before .before .if1 .left)
-    (sym (ap outcomeIn (c .before .before .outcome .given .1)) ∙ c .before .before .before .before .before .before .before .before .before .before .before .read .ensures .outcome)
+    (sym (ap outcomeIn (c .before .before .outcome .given .1))
+    ∙ c .before .before .before .before .before .before .before .before .before .before .before .read .ensures .outcome)
     (c .refusal-code .ensures)
     (c .before .before .before .before .before .before .before .before .before .before .before .read .ensures .task-column)
     (c .before .before .before .before .before .before .before .before .before .before .before .read .ensures .tick-column)
@@ -78,15 +79,23 @@ same-length-8 c = search needs
 returns-4 : tie.Need-returns-4
 returns-4 c =
     read-answered _ _ _ _ _ _ _ _ _ _ _ _ _ _
-    (c .before .before .before .before .before .before .before .before .before .before .before .before .before .before .before .before .before .before .before .before .before .before .if2 .left)
-    (c .before .before .before .before .before .before .before .before .before .before .before .before .before .before .before .before .before .before .before .before .before .before .before .if1 .left)
-    (sym (ap outcomeIn (c .before .before .before .before .before .before .before .before .before .outcome2 .given .1)) ∙ c .before .before .before .before .before .before .before .before .before .before .before .before .before .before .before .before .before .before .read .ensures .outcome)
-    (c .before .before .before .before .before .before .before .before .before .before .before .before .before .before .before .before .before .before .read .ensures .sheet)
+    (c .before .before .before .before .before .before .before .before .before .before .before .before .before .before .before .before .before .before .before .before
+    .before .before .if2 .left)
+    (c .before .before .before .before .before .before .before .before .before .before .before .before .before .before .before .before .before .before .before .before
+    .before .before .before .if1 .left)
+    (sym (ap outcomeIn (c .before .before .before .before .before .before .before .before .before .outcome2 .given .1))
+    ∙ c .before .before .before .before .before .before .before .before .before .before .before .before .before .before .before .before .before .before .read .ensures
+    .outcome)
+    (c .before .before .before .before .before .before .before .before .before .before .before .before .before .before .before .before .before .before .read .ensures
+    .sheet)
     (c .before .before .before .before .before .before .put-sheet .ensures)
     (c .before .before .put-two .ensures)
-    (c .before .before .before .before .before .before .before .before .before .before .before .before .before .before .before .before .before .before .read .ensures .task-column)
-    (c .before .before .before .before .before .before .before .before .before .before .before .before .before .before .before .before .before .before .read .ensures .tick-column)
-    (c .before .before .before .before .before .before .before .before .before .before .before .before .before .before .before .before .before .before .read .ensures .cost-column)
+    (c .before .before .before .before .before .before .before .before .before .before .before .before .before .before .before .before .before .before .read .ensures
+    .task-column)
+    (c .before .before .before .before .before .before .before .before .before .before .before .before .before .before .before .before .before .before .read .ensures
+    .tick-column)
+    (c .before .before .before .before .before .before .before .before .before .before .before .before .before .before .before .before .before .before .read .ensures
+    .cost-column)
 
 pub nolkrada-read-spec : {M : Type 1} → statement M
 nolkrada-read-spec =

@@ -18,7 +18,10 @@ same-length : tie.Need-same-length
 same-length c = search needs
 
 returns : tie.Need-returns
-returns c = (c .code-of .ensures ∙ ap codeOf (rw (c .before .before .before .before .before .sheet-from .ensures) at (c .before .before .before .ready-ticks .ensures .0)), (rw (c .before .before .before .before .before .sheet-from .ensures) at (c .before .before .before .ready-ticks .ensures .1)))
+returns c = (
+  c .code-of .ensures ∙ ap codeOf (rw (c .before .before .before .before .before .sheet-from .ensures) at (c .before .before .before .ready-ticks .ensures .0)),
+  (rw (c .before .before .before .before .before .sheet-from .ensures) at (c .before .before .before .ready-ticks .ensures .1)),
+)
 
 pub nolkrada-ready-spec : {M : Type 1} → statement M
 nolkrada-ready-spec =

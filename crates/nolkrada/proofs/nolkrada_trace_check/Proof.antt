@@ -35,7 +35,8 @@ put-two-requires-2 c κs = search needs
 returns : tie.Need-returns
 returns c =
     ends-refused _ _ _ _ _ _ _
-    (sym (ap traceIn (c .before .before .got .given .1)) ∙ (rw (c .before .before .before .before .before .sheet-from .ensures) at (c .before .before .before .before .check-trace .ensures)))
+    (sym (ap traceIn (c .before .before .got .given .1)) ∙
+    (rw (c .before .before .before .before .before .sheet-from .ensures) at (c .before .before .before .before .check-trace .ensures)))
     (c .slots-code .ensures)
 
 same-length : tie.Need-same-length
@@ -45,7 +46,8 @@ returns-2 : tie.Need-returns-2
 unfolding traceWords
 returns-2 c =
     ends-answered _ traceWords _ (c .before .before .before .before .before .before .before .before .before .before .before .before .before .args .answer .now) _ _ _
-    (sym (ap traceIn (c .before .before .before .before .enum-told .given .1)) ∙ (rw (c .before .before .before .before .before .before .before .sheet-from .ensures) at (c .before .before .before .before .before .before .check-trace .ensures)))
+    (sym (ap traceIn (c .before .before .before .before .enum-told .given .1)) ∙
+    (rw (c .before .before .before .before .before .before .before .sheet-from .ensures) at (c .before .before .before .before .before .before .check-trace .ensures)))
     (c .before .before .put-two .ensures)
 
 same-length-2 : tie.Need-same-length-2
@@ -54,8 +56,11 @@ same-length-2 c = search needs
 returns-3 : tie.Need-returns-3
 unfolding traceWords
 returns-3 c =
-    ends-answered _ traceWords _ (c .before .before .before .before .before .before .before .before .before .before .before .before .before .before .args .answer .now) _ _ _
-    (sym (ap traceIn (c .before .before .before .before .before .got2 .given .1)) ∙ (rw (c .before .before .before .before .before .before .before .before .sheet-from .ensures) at (c .before .before .before .before .before .before .before .check-trace .ensures)))
+    ends-answered _ traceWords _
+    (c .before .before .before .before .before .before .before .before .before .before .before .before .before .before .args .answer .now) _ _ _
+    (sym (ap traceIn (c .before .before .before .before .before .got2 .given .1)) ∙
+    (rw (c .before .before .before .before .before .before .before .before .sheet-from .ensures) at
+    (c .before .before .before .before .before .before .before .check-trace .ensures)))
     (c .before .before .put-two2 .ensures)
 
 pub nolkrada-trace-check-spec : {M : Type 1} → statement M

@@ -56,7 +56,8 @@ put-three-requires-3 c κs = search needs
 returns : tie.Need-returns
 returns c =
     ends-refused _ _ _ _ _ _ _
-    (sym (ap verdictIn (c .before .before .got .given .1)) ∙ (rw (c .before .before .before .before .before .sheet-from .ensures) at (c .before .before .before .before .verdict .ensures)))
+    (sym (ap verdictIn (c .before .before .got .given .1)) ∙
+    (rw (c .before .before .before .before .before .sheet-from .ensures) at (c .before .before .before .before .verdict .ensures)))
     (c .slots-code .ensures)
 
 same-length : tie.Need-same-length
@@ -66,7 +67,9 @@ returns-2 : tie.Need-returns-2
 unfolding verdictWords
 returns-2 c =
     ends-answered _ verdictWords _ (c .before .before .before .before .before .before .before .before .before .before .before .before .args .answer .now) _ _ _
-    (sym (ap verdictIn (c .before .before .before .before .before .got2 .given .1)) ∙ (rw (c .before .before .before .before .before .before .before .before .sheet-from .ensures) at (c .before .before .before .before .before .before .before .verdict .ensures)))
+    (sym (ap verdictIn (c .before .before .before .before .before .got2 .given .1)) ∙
+    (rw (c .before .before .before .before .before .before .before .before .sheet-from .ensures) at
+    (c .before .before .before .before .before .before .before .verdict .ensures)))
     (c .before .before .put-three .ensures)
 
 same-length-2 : tie.Need-same-length-2
@@ -76,7 +79,9 @@ returns-3 : tie.Need-returns-3
 unfolding verdictWords
 returns-3 c =
     ends-answered _ verdictWords _ (c .before .before .before .before .before .before .before .before .before .before .before .before .args .answer .now) _ _ _
-    (sym (ap verdictIn (c .before .before .before .before .before .got3 .given .1)) ∙ (rw (c .before .before .before .before .before .before .before .before .sheet-from .ensures) at (c .before .before .before .before .before .before .before .verdict .ensures)))
+    (sym (ap verdictIn (c .before .before .before .before .before .got3 .given .1)) ∙
+    (rw (c .before .before .before .before .before .before .before .before .sheet-from .ensures) at
+    (c .before .before .before .before .before .before .before .verdict .ensures)))
     (c .before .before .put-three2 .ensures)
 
 same-length-3 : tie.Need-same-length-3
@@ -86,7 +91,9 @@ returns-4 : tie.Need-returns-4
 unfolding verdictWords
 returns-4 c =
     ends-answered _ verdictWords _ (c .before .before .before .before .before .before .before .before .before .before .before .before .args .answer .now) _ _ _
-    (sym (ap verdictIn (c .before .before .before .before .before .got4 .given .1)) ∙ (rw (c .before .before .before .before .before .before .before .before .sheet-from .ensures) at (c .before .before .before .before .before .before .before .verdict .ensures)))
+    (sym (ap verdictIn (c .before .before .before .before .before .got4 .given .1)) ∙
+    (rw (c .before .before .before .before .before .before .before .before .sheet-from .ensures) at
+    (c .before .before .before .before .before .before .before .verdict .ensures)))
     (c .before .before .put-three3 .ensures)
 
 pub nolkrada-verdict-spec : {M : Type 1} → statement M

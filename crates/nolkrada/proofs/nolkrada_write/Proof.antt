@@ -22,7 +22,8 @@ slots-code-requires c κs = search needs
 returns : tie.Need-returns
 returns c =
     write-stopped _ _ _ _ _ _ _ _ _ _ _
-    (sym (ap refusalIn (c .before .before .checked .given .1)) ∙ (rw (c .before .before .before .before .before .before .sheet-from .ensures) at (c .before .before .before .before .check-write .ensures)))
+    (sym (ap refusalIn (c .before .before .checked .given .1)) ∙
+    (rw (c .before .before .before .before .before .before .sheet-from .ensures) at (c .before .before .before .before .check-write .ensures)))
     (c .slots-code .ensures)
 
 enum-told : tie.Need-enum-told
@@ -35,7 +36,8 @@ returns-2 : tie.Need-returns-2
 returns-2 c =
     write-no-words _ _ _ _ _ _ _ _ _
     (c .before .before .before .before .if1 .taken)
-    (sym (ap refusalIn (c .before .enum-told .given .1)) ∙ (rw (c .before .before .before .before .before .sheet-from .ensures) at (c .before .before .before .check-write .ensures)))
+    (sym (ap refusalIn (c .before .enum-told .given .1)) ∙
+    (rw (c .before .before .before .before .before .sheet-from .ensures) at (c .before .before .before .check-write .ensures)))
     (c .refusal-code .ensures)
 
 write-requires : tie.Need-write-requires
@@ -60,9 +62,12 @@ returns-3 : tie.Need-returns-3
 returns-3 c =
     write-refused _ _ _ _ _ _ _ _ _ _ _ _
     (c .before .before .before .before .before .before .before .before .if1 .left)
-    (sym (ap answerIn (c .before .before .got .given .1)) ∙ (rw (c .before .before .before .before .before .before .before .before .before .sheet-from .ensures) at (c .before .before .before .before .before .before .write .ensures .answer)))
+    (sym (ap answerIn (c .before .before .got .given .1)) ∙
+    (rw (c .before .before .before .before .before .before .before .before .before .sheet-from .ensures) at
+    (c .before .before .before .before .before .before .write .ensures .answer)))
     (c .refusal-code2 .ensures)
-    (rw (c .before .before .before .before .before .before .before .before .before .sheet-from .ensures) at (c .before .before .before .before .before .before .write .ensures .bytes))
+    (rw (c .before .before .before .before .before .before .before .before .before .sheet-from .ensures) at
+    (c .before .before .before .before .before .before .write .ensures .bytes))
 
 same-length-2 : tie.Need-same-length-2
 same-length-2 c = search needs
@@ -74,8 +79,11 @@ returns-4 : tie.Need-returns-4
 returns-4 c =
     write-written _ _ _ _ _ _ _ _ _ _ _ _
     (c .before .before .before .before .before .before .before .before .before .before .before .if1 .left)
-    (sym (ap answerIn (c .before .before .before .before .before .got2 .given .1)) ∙ (rw (c .before .before .before .before .before .before .before .before .before .before .before .before .sheet-from .ensures) at (c .before .before .before .before .before .before .before .before .before .write .ensures .answer)))
-    (rw (c .before .before .before .before .before .before .before .before .before .before .before .before .sheet-from .ensures) at (c .before .before .before .before .before .before .before .before .before .write .ensures .bytes))
+    (sym (ap answerIn (c .before .before .before .before .before .got2 .given .1)) ∙
+    (rw (c .before .before .before .before .before .before .before .before .before .before .before .before .sheet-from .ensures) at
+    (c .before .before .before .before .before .before .before .before .before .write .ensures .answer)))
+    (rw (c .before .before .before .before .before .before .before .before .before .before .before .before .sheet-from .ensures) at
+    (c .before .before .before .before .before .before .before .before .before .write .ensures .bytes))
     (c .before .before .put-one .ensures)
 
 pub nolkrada-write-spec : {M : Type 1} → statement M

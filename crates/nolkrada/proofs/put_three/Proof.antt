@@ -26,7 +26,9 @@ same-length : tie.Need-same-length
 same-length c = search needs
 
 returns-2 : tie.Need-returns-2
-returns-2 c = put-words _ (c .before .before .args .a ∷ c .before .before .args .b ∷ c .before .before .args .c ∷ []) (c .before .before .args .answer .now) _ (c .if1 .left) (three-set (c .before .before .args .answer .now) _ _ _ (c .if1 .left))
+returns-2 c =
+    put-words _ (c .before .before .args .a ∷ c .before .before .args .b ∷ c .before .before .args .c ∷ []) (c .before .before .args .answer .now) _ (c .if1 .left)
+    (three-set (c .before .before .args .answer .now) _ _ _ (c .if1 .left))
 
 pub put-three-spec : {M : Type 1} → statement M
 put-three-spec =

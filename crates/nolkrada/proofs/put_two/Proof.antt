@@ -21,7 +21,9 @@ same-length : tie.Need-same-length
 same-length c = search needs
 
 returns-2 : tie.Need-returns-2
-returns-2 c = put-words _ (c .before .before .args .a ∷ c .before .before .args .b ∷ []) (c .before .before .args .answer .now) _ (c .if1 .left) (two-set (c .before .before .args .answer .now) _ _ (c .if1 .left))
+returns-2 c =
+    put-words _ (c .before .before .args .a ∷ c .before .before .args .b ∷ []) (c .before .before .args .answer .now) _ (c .if1 .left)
+    (two-set (c .before .before .args .answer .now) _ _ (c .if1 .left))
 
 pub put-two-spec : {M : Type 1} → statement M
 put-two-spec =

@@ -60,8 +60,10 @@ returns-4 : tie.Need-returns-4
 unfolding codeOf
 returns-4 c =
     code-slots _ _ _ _ _ _ _ _ _
-    (sym (ap outcomeIn (c .before .before .before .before .before .before .found2 .given .1)) ∙ c .before .before .before .before .before .before .before .before .releases-in .ensures)
-    (slots-short _ _ (c .before .if4 .taken) ∙ sym (slots-next _ _ (c .before .before .if3 .left)) ∙ sym (slots-next _ _ (c .before .before .before .if2 .left)) ∙ sym (slots-next _ _ (c .before .before .before .before .if1 .left)))
+    (sym (ap outcomeIn (c .before .before .before .before .before .before .found2 .given .1))
+    ∙ c .before .before .before .before .before .before .before .before .releases-in .ensures)
+    (slots-short _ _ (c .before .if4 .taken) ∙ sym (slots-next _ _ (c .before .before .if3 .left)) ∙ sym (slots-next _ _ (c .before .before .before .if2 .left)) ∙ sym
+    (slots-next _ _ (c .before .before .before .before .if1 .left)))
     (c .refusal-code5 .ensures)
 
 refusal-code-requires-6 : tie.Need-refusal-code-requires-6
@@ -71,8 +73,10 @@ returns-5 : tie.Need-returns-5
 unfolding codeOf
 returns-5 c =
     code-slots _ _ _ _ _ _ _ _ _
-    (sym (ap outcomeIn (c .before .before .before .before .before .before .before .found2 .given .1)) ∙ c .before .before .before .before .before .before .before .before .before .releases-in .ensures)
-    (slots-short _ _ (c .before .if5 .taken) ∙ sym (slots-next _ _ (c .before .before .if4 .left)) ∙ sym (slots-next _ _ (c .before .before .before .if3 .left)) ∙ sym (slots-next _ _ (c .before .before .before .before .if2 .left)) ∙ sym (slots-next _ _ (c .before .before .before .before .before .if1 .left)))
+    (sym (ap outcomeIn (c .before .before .before .before .before .before .before .found2 .given .1))
+    ∙ c .before .before .before .before .before .before .before .before .before .releases-in .ensures)
+    (slots-short _ _ (c .before .if5 .taken) ∙ sym (slots-next _ _ (c .before .before .if4 .left)) ∙ sym (slots-next _ _ (c .before .before .before .if3 .left)) ∙ sym
+    (slots-next _ _ (c .before .before .before .before .if2 .left)) ∙ sym (slots-next _ _ (c .before .before .before .before .before .if1 .left)))
     (c .refusal-code6 .ensures)
 
 returns-6 : tie.Need-returns-6
@@ -85,8 +89,10 @@ returns-7 : tie.Need-returns-7
 unfolding codeOf
 returns-7 c =
     code-slots _ _ _ _ _ _ _ _ _
-    (sym (ap outcomeIn (c .before .before .before .before .before .before .found2 .given .1)) ∙ c .before .before .before .before .before .before .before .before .releases-in .ensures)
-    (slots-none ∙ sym (slots-next _ _ (c .if5 .left)) ∙ sym (slots-next _ _ (c .before .if4 .left)) ∙ sym (slots-next _ _ (c .before .before .if3 .left)) ∙ sym (slots-next _ _ (c .before .before .before .if2 .left)) ∙ sym (slots-next _ _ (c .before .before .before .before .if1 .left)))
+    (sym (ap outcomeIn (c .before .before .before .before .before .before .found2 .given .1))
+    ∙ c .before .before .before .before .before .before .before .before .releases-in .ensures)
+    (slots-none ∙ sym (slots-next _ _ (c .if5 .left)) ∙ sym (slots-next _ _ (c .before .if4 .left)) ∙ sym (slots-next _ _ (c .before .before .if3 .left)) ∙ sym
+    (slots-next _ _ (c .before .before .before .if2 .left)) ∙ sym (slots-next _ _ (c .before .before .before .before .if1 .left)))
     refl
 
 pub read-code-spec : {M : Type 1} → statement M

@@ -23,16 +23,22 @@ enum-known-outcome : tie.Need-enum-known-outcome
 enum-known-outcome c = search needs
 
 returns : tie.Need-returns
-returns c = count-few _ _ _ _ _ _ (c .if1 .taken) (sym (ap outcomeIn (c .before .before .outcome .given .1)) ∙ c .before .before .before .before .before .before .before .read .ensures .outcome)
+returns c =
+    count-few _ _ _ _ _ _ (c .if1 .taken)
+    (sym (ap outcomeIn (c .before .before .outcome .given .1)) ∙ c .before .before .before .before .before .before .before .read .ensures .outcome)
 
 enum-told : tie.Need-enum-told
 enum-told c = search needs
 
 returns-2 : tie.Need-returns-2
-returns-2 c = count-refused _ _ _ _ _ _ (λ e. omega arith) (sym (ap outcomeIn (c .before .before .outcome .given .1)) ∙ c .before .before .before .before .before .before .before .read .ensures .outcome)
+returns-2 c =
+    count-refused _ _ _ _ _ _ (λ e. omega arith)
+    (sym (ap outcomeIn (c .before .before .outcome .given .1)) ∙ c .before .before .before .before .before .before .before .read .ensures .outcome)
 
 returns-3 : tie.Need-returns-3
-returns-3 c = ap outcomeIn (c .enum-told .given .1) ∙ count-read _ _ _ _ _ (sym (ap outcomeIn (c .enum-told .given .1)) ∙ c .before .before .before .before .before .read .ensures .outcome)
+returns-3 c =
+    ap outcomeIn (c .enum-told .given .1) ∙ count-read _ _ _ _ _
+    (sym (ap outcomeIn (c .enum-told .given .1)) ∙ c .before .before .before .before .before .read .ensures .outcome)
 
 pub releases-in-spec : {M : Type 1} → statement M
 releases-in-spec =

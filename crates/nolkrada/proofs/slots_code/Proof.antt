@@ -25,7 +25,8 @@ returns-2 : tie.Need-returns-2
 unfolding codeOf
 returns-2 c =
     c .refusal-code2 .ensures
-    ∙ sym (ap (λ (q : Refusal). codeOf (some q)) (few-before _ _ _ (c .before .before .before .if1 .left) (sym (c .before .before .after-slots .ensures) ∙ c .before .if2 .taken)))
+    ∙ sym (ap (λ (q : Refusal). codeOf (some q))
+    (few-before _ _ _ (c .before .before .before .if1 .left) (sym (c .before .before .after-slots .ensures) ∙ c .before .if2 .taken)))
 
 refusal-code-requires-3 : tie.Need-refusal-code-requires-3
 refusal-code-requires-3 c κs = search needs
@@ -34,7 +35,8 @@ returns-3 : tie.Need-returns-3
 unfolding codeOf
 returns-3 c =
     c .refusal-code3 .ensures
-    ∙ sym (ap (λ (q : Refusal). codeOf (some q)) (kept-before _ _ _ (c .before .before .before .if1 .left) (sym (c .before .before .after-slots .ensures) ∙ c .before .if2 .left)))
+    ∙ sym (ap (λ (q : Refusal). codeOf (some q))
+    (kept-before _ _ _ (c .before .before .before .if1 .left) (sym (c .before .before .after-slots .ensures) ∙ c .before .if2 .left)))
 
 pub slots-code-spec : {M : Type 1} → statement M
 slots-code-spec =

@@ -19,17 +19,20 @@ enum-told-2 c = search needs
 
 returns : tie.Need-returns
 returns c = λ s h e.
-    rw (c .enum-told2 .given .1) (list-refused _ _ _ _ _ _ (omega arith) (sym (ap refusalIn (c .enum-told2 .given .1)) ∙ c .before .before .check-release .ensures s _ h e))
+    rw (c .enum-told2 .given .1)
+    (list-refused _ _ _ _ _ _ (omega arith) (sym (ap refusalIn (c .enum-told2 .given .1)) ∙ c .before .before .check-release .ensures s _ h e))
 
 returns-2 : tie.Need-returns-2
 returns-2 c = λ s h e.
     faulty _ 10 _
-    (list-over _ _ _ _ (omega arith) (faultless-of _ _ (sym (ap refusalIn (c .before .enum-told .given .1)) ∙ c .before .before .before .check-release .ensures s _ h e)) (omega arith))
+    (list-over _ _ _ _ (omega arith) (faultless-of _ _ (sym (ap refusalIn (c .before .enum-told .given .1)) ∙ c .before .before .before .check-release .ensures s _ h e))
+    (omega arith))
 
 returns-3 : tie.Need-returns-3
 returns-3 c = λ s h e.
     faultless _ _
-    (list-fine _ _ _ _ (omega arith) (faultless-of _ _ (sym (ap refusalIn (c .before .enum-told .given .1)) ∙ c .before .before .before .check-release .ensures s _ h e)) (omega arith))
+    (list-fine _ _ _ _ (omega arith) (faultless-of _ _ (sym (ap refusalIn (c .before .enum-told .given .1)) ∙ c .before .before .before .check-release .ensures s _ h e))
+    (omega arith))
 
 pub check-job-spec : {M : Type 1} → statement M
 check-job-spec =

@@ -20,7 +20,8 @@ abbrev passed : tie.After-enum-told2 → tie.After-enum-told
 passed c = c .before .before .before .before .before .before
 
 -- the columns passed their check
-columns-fine : (c : tie.After-enum-told2) → let s = scanned (passed c) in let a = start s .args in none ≡ checkSlots (slots (a .f .now) (a .task .now) (a .tick .now) (a .cost .now) (s .scan .result .releases))
+columns-fine : (c : tie.After-enum-told2) → let s =
+    scanned (passed c) in let a = start s .args in none ≡ checkSlots (slots (a .f .now) (a .task .now) (a .tick .now) (a .cost .now) (s .scan .result .releases))
 columns-fine c = sym (ap refusalIn (c .enum-told2 .given .1)) ∙ c .before .before .check-columns .ensures
 
 scan-requires : tie.Need-scan-requires

@@ -26,11 +26,13 @@ task-at-requires c κs = search needs
 
 returns-3 : tie.Need-returns-3
 returns-3 c =
-    at-task (c .before .before .before .before .before .before .args .f .now) (c .before .before .before .before .before .before .args .at) _ (omega arith) (omega arith) (omega arith) (c .task-at .ensures)
+    at-task (c .before .before .before .before .before .before .args .f .now) (c .before .before .before .before .before .before .args .at) _ (omega arith) (omega arith)
+    (omega arith) (c .task-at .ensures)
 
 returns-4 : tie.Need-returns-4
 returns-4 c =
-    at-release-cut (c .before .before .before .before .before .before .args .f .now) (c .before .before .before .before .before .before .args .at) (omega arith) (omega arith) (omega arith)
+    at-release-cut (c .before .before .before .before .before .before .args .f .now) (c .before .before .before .before .before .before .args .at) (omega arith)
+    (omega arith) (omega arith)
 
 add-job-at : tie.Need-add-job-at
 add-job-at c = search needs
@@ -40,7 +42,8 @@ job-at-requires c κs = search needs
 
 returns-5 : tie.Need-returns-5
 returns-5 c =
-    at-release (c .before .before .before .before .before .before .before .args .f .now) (c .before .before .before .before .before .before .before .args .at) _ (omega arith) (omega arith) (omega arith) (c .job-at .ensures)
+    at-release (c .before .before .before .before .before .before .before .args .f .now) (c .before .before .before .before .before .before .before .args .at) _
+    (omega arith) (omega arith) (omega arith) (c .job-at .ensures)
 
 returns-6 : tie.Need-returns-6
 returns-6 c =
@@ -48,7 +51,8 @@ returns-6 c =
 
 returns-7 : tie.Need-returns-7
 returns-7 c =
-    at-unknown (c .before .before .before .before .before .before .args .f .now) (c .before .before .before .before .before .before .args .at) (omega arith) (λ e. omega arith) (λ e. omega arith) (λ e. omega arith)
+    at-unknown (c .before .before .before .before .before .before .args .f .now) (c .before .before .before .before .before .before .args .at) (omega arith)
+    (λ e. omega arith) (λ e. omega arith) (λ e. omega arith)
 
 pub record-at-spec : {M : Type 1} → statement M
 record-at-spec =

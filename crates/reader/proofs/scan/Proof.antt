@@ -21,7 +21,9 @@ abbrev μ-loop : tie.MeasureT-loop
 μ-loop f tasks₀ releases₀ before₀ at₀ tasks releases before at = length f - at
 
 -- the record that was found stands here in the file
-there : (c : tie.After-record-at Inv-loop μ-loop) (q : Found) → c .record-at .result ≡ q → recordIn q ≡ recordOf (drop (c .before .loop .at) (c .before .before .before .before .args .f .now))
+there
+    : (c : tie.After-record-at Inv-loop μ-loop) (q : Found) → c .record-at .result ≡ q
+    → recordIn q ≡ recordOf (drop (c .before .loop .at) (c .before .before .before .before .args .f .now))
 there c q e = sym (ap recordIn e) ∙ c .record-at .ensures
 
 -- a task record that passes its check is taken

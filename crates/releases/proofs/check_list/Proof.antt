@@ -21,7 +21,8 @@ columnsAt c = lends (c .args .count) (c .args .task .now) ∷ lends (c .args .co
 count-fine : (c : tie.After-enum-told3) → none ≡ checkCount (some (c .before .before .before .before .before .before .before .before .before .args .count))
 count-fine c = sym (ap refusalIn (c .enum-told3 .given .1)) ∙ c .before .before .check-count .ensures
 
-columns-fine : (c : tie.After-enum-told5) → none ≡ checkSlots (columnsAt (c .before .before .before .before .before .before .before .before .before .before .before .before))
+columns-fine
+    : (c : tie.After-enum-told5) → none ≡ checkSlots (columnsAt (c .before .before .before .before .before .before .before .before .before .before .before .before))
 columns-fine c = sym (ap refusalIn (c .enum-told5 .given .1)) ∙ c .before .before .check-columns .ensures
 
 check-requires : tie.Need-check-requires

@@ -35,7 +35,8 @@ cast-at c = omega (arith, c .shared-slice-known5 .given (c .before .before .befo
 
 returns : tie.Need-returns Inv-loop μ-loop
 returns c =
-    checking-fault _ _ _ _ _ _ _ _ (c .before .before .before .before .loop .inv) (c .before .before .before .loop-test .taken) (faulty _ 7 _ (fault-task _ _ _ (omega arith)))
+    checking-fault _ _ _ _ _ _ _ _ (c .before .before .before .before .loop .inv) (c .before .before .before .loop-test .taken)
+    (faulty _ 7 _ (fault-task _ _ _ (omega arith)))
 
 mul-t : tie.Need-mul-t Inv-loop μ-loop
 mul-t c = search needs
@@ -60,7 +61,9 @@ enum-told-2 c = search needs
 
 returns-2 : tie.Need-returns-2 Inv-loop μ-loop
 returns-2 c =
-    rw (c .enum-told2 .given .1) (checking-fault _ _ _ _ _ _ _ _ (c .before .before .before .before .before .before .before .before .before .loop .inv) (c .before .before .before .before .before .before .before .before .loop-test .taken)
+    rw (c .enum-told2 .given .1)
+    (checking-fault _ _ _ _ _ _ _ _ (c .before .before .before .before .before .before .before .before .before .loop .inv)
+    (c .before .before .before .before .before .before .before .before .loop-test .taken)
     (sym (ap refusalIn (c .enum-told2 .given .1)) ∙ c .before .before .check-release .ensures _ _ (omega arith) refl))
 
 add-i : tie.Need-add-i Inv-loop μ-loop
@@ -71,7 +74,8 @@ loop-less c = omega arith
 
 loop-again : tie.Need-loop-again Inv-loop μ-loop
 loop-again c =
-    checking-next _ _ _ _ _ _ _ (c .before .before .before .before .before .before .before .before .before .loop .inv) (c .before .before .before .before .before .before .before .before .loop-test .taken)
+    checking-next _ _ _ _ _ _ _ (c .before .before .before .before .before .before .before .before .before .loop .inv)
+    (c .before .before .before .before .before .before .before .before .loop-test .taken)
     (sym (ap refusalIn (c .enum-told .given .1)) ∙ c .before .before .check-release .ensures _ _ (omega arith) refl)
 
 returns-3 : tie.Need-returns-3 Inv-loop μ-loop

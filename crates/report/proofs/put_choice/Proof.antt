@@ -24,7 +24,8 @@ same-length c = search needs
 
 returns : tie.Need-returns
 returns c =
-    choice-page _ _ _ _ _ _ _ _ _ _ (c .before .before .before .before .before .before .before .before .before .before .before .put-bytes .ensures) (c .before .before .before .before .before .before .before .put-tasks .ensures) (c .before .before .put-bytes2 .ensures)
+    choice-page _ _ _ _ _ _ _ _ _ _ (c .before .before .before .before .before .before .before .before .before .before .before .put-bytes .ensures)
+    (c .before .before .before .before .before .before .before .put-tasks .ensures) (c .before .before .put-bytes2 .ensures)
 
 pub put-choice-spec : {M : Type 1} → statement M
 put-choice-spec =

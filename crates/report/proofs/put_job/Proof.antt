@@ -28,8 +28,10 @@ same-length c = search needs
 returns : tie.Need-returns
 returns c =
     job-line _ _ _ _ _ _ _ _ _ _ _ _ _ _ _ _ _ _ _ _
-    (c .before .before .before .before .before .before .before .before .before .before .before .before .before .before .before .before .before .before .before .before .before .before .put-field .ensures)
-    (c .before .before .before .before .before .before .before .before .before .before .before .before .before .before .before .before .before .before .put-field2 .ensures)
+    (c .before .before .before .before .before .before .before .before .before .before .before .before .before .before .before .before .before .before .before .before
+    .before .before .put-field .ensures)
+    (c .before .before .before .before .before .before .before .before .before .before .before .before .before .before .before .before .before .before .put-field2
+    .ensures)
     (c .before .before .before .before .before .before .before .before .before .before .before .before .before .before .put-field3 .ensures)
     (c .before .before .before .before .before .before .before .before .before .before .put-field4 .ensures)
     (c .before .before .before .before .before .before .put-field5 .ensures)

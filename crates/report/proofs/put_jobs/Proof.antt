@@ -75,7 +75,8 @@ unfolding runLine
 loop-again c = (
   omega arith,
   omega arith,
-  lines-next _ _ _ _ _ _ _ _ _ (c .before .before .before .before .before .before .before .before .before .before .before .before .loop .inv .2) (rw (c .before .before .before .response .ensures) at (c .before .before .put-job .ensures)),
+  lines-next _ _ _ _ _ _ _ _ _ (c .before .before .before .before .before .before .before .before .before .before .before .before .loop .inv .2)
+      (rw (c .before .before .before .response .ensures) at (c .before .before .put-job .ensures)),
 )
 
 same-length : tie.Need-same-length Inv-loop μ-loop

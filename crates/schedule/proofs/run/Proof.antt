@@ -66,7 +66,8 @@ same-length-2 c = search needs
 returns-2 : tie.Need-returns-2
 returns-2 c =
     let e = fine (c .before .before .before .before .before .before .before .before .before) in
-    let w = c .before .before .before .before .before .before .before .fill-ready .ensures (start (c .before .before .before .before .before .before .before .before .before .before .before) .args .cost .now) in
+    let w = c .before .before .before .before .before .before .before .fill-ready .ensures
+    (start (c .before .before .before .before .before .before .before .before .before .before .before) .args .cost .now) in
     (e .clear, (ready-written _ _ _ _ _ _ _ _ _ (e .clear) w, finish-written _ _ _ _ _ _ _ _ e _ _ w (c .before .before .fill-finish .ensures)))
 
 pub run-spec : {M : Type 1} → statement M

@@ -25,13 +25,20 @@ count-fine c = sym (ap refusalIn (c .enum-told3 .given .1)) ∙ c .before .befor
 abbrev lentAt : tie.Start → List Lent
 lentAt c = slotsLent (c .args .s .count) (c .args .kept .now) (c .args .count) (c .args .task .now) (c .args .tick .now) (c .args .cost .now) (c .args .slots)
 
-slots-fine : (c : tie.After-enum-told5) → none ≡ checkSlots (lentAt (c .before .before .before .before .before .before .before .before .before .before .before .before .before))
+slots-fine
+    : (c : tie.After-enum-told5) → none ≡ checkSlots (lentAt (c .before .before .before .before .before .before .before .before .before .before .before .before .before))
 slots-fine c = sym (ap refusalIn (c .enum-told5 .given .1)) ∙ c .before .before .check-slots .ensures
 
-kept-fine : (c : tie.After-enum-told7) → none ≡ checkKept (viewOf (c .before .before .before .before .before .before .before .before .before .before .before .before .before .before .before .before .args .s)) (some (column (c .before .before .before .before .before .before .before .before .before .before .before .before .before .before .before .before .args .kept .now)))
+kept-fine
+    : (c : tie.After-enum-told7)
+    → none ≡ checkKept (viewOf
+    (c .before .before .before .before .before .before .before .before .before .before .before .before .before .before .before .before .args .s))
+    (some (column (c .before .before .before .before .before .before .before .before .before .before .before .before .before .before .before .before .args .kept .now)))
 kept-fine c = sym (ap refusalIn (c .enum-told7 .given .1)) ∙ c .before .before .check-kept .ensures
 
-long : (c : tie.Start) → none ≡ checkSlots (lentAt c) → LongEnough (c .args .s .count) (c .args .kept .now) (c .args .count) (c .args .task .now) (c .args .tick .now) (c .args .cost .now) (c .args .slots)
+long
+    : (c : tie.Start) → none ≡ checkSlots (lentAt c)
+    → LongEnough (c .args .s .count) (c .args .kept .now) (c .args .count) (c .args .task .now) (c .args .tick .now) (c .args .cost .now) (c .args .slots)
 long c e = long-enough _ _ _ _ _ _ _ e
 
 few-tasks : (c : tie.After-enum-told) → c .before .before .before .before .before .before .before .args .s .count ≤ maxTasks
@@ -60,7 +67,8 @@ enum-told-4 c = search needs
 
 returns-2 : tie.Need-returns-2
 returns-2 c =
-    rw (c .enum-told4 .given .1) (refused-count _ _ (sheet-fine (c .before .before .before)) (no-single _) (sym (ap refusalIn (c .enum-told4 .given .1)) ∙ c .before .before .check-count .ensures))
+    rw (c .enum-told4 .given .1)
+    (refused-count _ _ (sheet-fine (c .before .before .before)) (no-single _) (sym (ap refusalIn (c .enum-told4 .given .1)) ∙ c .before .before .check-count .ensures))
 
 check-slots-requires : tie.Need-check-slots-requires
 check-slots-requires c κs = search needs
@@ -73,11 +81,16 @@ enum-told-6 c = search needs
 
 returns-3 : tie.Need-returns-3
 returns-3 c =
-    rw (c .enum-told6 .given .1) (refused-slots _ _ (sheet-fine (c .before .before .before .before .before .before)) (no-single _) (count-fine (c .before .before .before))
+    rw (c .enum-told6 .given .1)
+    (refused-slots _ _ (sheet-fine (c .before .before .before .before .before .before)) (no-single _) (count-fine (c .before .before .before))
     (sym (ap refusalIn (c .enum-told6 .given .1)) ∙ c .before .before .check-slots .ensures))
 
 check-kept-requires : tie.Need-check-kept-requires
-check-kept-requires c κs = (few-tasks (c .before .before .before .before .before .before), long (c .before .before .before .before .before .before .before .before .before .before .before .before .before) (slots-fine c) .kept-long)
+check-kept-requires c κs = (
+  few-tasks (c .before .before .before .before .before .before),
+  long
+      (c .before .before .before .before .before .before .before .before .before .before .before .before .before) (slots-fine c) .kept-long,
+)
 
 enum-told-7 : tie.Need-enum-told-7
 enum-told-7 c = search needs
@@ -87,17 +100,22 @@ enum-told-8 c = search needs
 
 returns-4 : tie.Need-returns-4
 returns-4 c =
-    rw (c .enum-told8 .given .1) (refused-kept _ _ (sheet-fine (c .before .before .before .before .before .before .before .before .before)) (no-single _) (count-fine (c .before .before .before .before .before .before)) (slots-fine (c .before .before .before))
+    rw (c .enum-told8 .given .1)
+    (refused-kept _ _ (sheet-fine (c .before .before .before .before .before .before .before .before .before)) (no-single _)
+    (count-fine (c .before .before .before .before .before .before)) (slots-fine (c .before .before .before))
     (sym (ap refusalIn (c .enum-told8 .given .1)) ∙ c .before .before .check-kept .ensures))
 
 check-releases-requires : tie.Need-check-releases-requires
 check-releases-requires c κs =
-    let l = long (c .before .before .before .before .before .before .before .before .before .before .before .before .before .before .before .before) (slots-fine (c .before .before .before)) .columns in (few-tasks (c .before .before .before .before .before .before .before .before .before), l .task-long, l .tick-long, l .cost-long)
+    let l = long (c .before .before .before .before .before .before .before .before .before .before .before .before .before .before .before .before)
+    (slots-fine (c .before .before .before)) .columns in
+    (few-tasks (c .before .before .before .before .before .before .before .before .before), l .task-long, l .tick-long, l .cost-long)
 
 returns-5 : tie.Need-returns-5
 returns-5 c =
     c .check-releases .ensures
-    ∙ releases-decide _ (sheet-fine (c .before .before .before .before .before .before .before .before .before .before)) (no-single _) (count-fine (c .before .before .before .before .before .before .before)) (slots-fine (c .before .before .before .before)) (kept-fine (c .before)) no-unfit
+    ∙ releases-decide _ (sheet-fine (c .before .before .before .before .before .before .before .before .before .before)) (no-single _)
+    (count-fine (c .before .before .before .before .before .before .before)) (slots-fine (c .before .before .before .before)) (kept-fine (c .before)) no-unfit
 
 pub check-call-spec : {M : Type 1} → statement M
 check-call-spec =

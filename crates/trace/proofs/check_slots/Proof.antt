@@ -7,7 +7,9 @@ use Rattle.trace.proofs.check_slots.Statement.{statement}
 use Rattle.trace.proofs.check_slots.Tie as tie
 
 returns : tie.Need-returns
-returns c = let a = c .before .before .before .before .before .args in lent-kept (a .tasks) (a .kept .now) (a .count) (a .task .now) (a .tick .now) (a .cost .now) (a .slots) (c .if1 .taken)
+returns c =
+    let a = c .before .before .before .before .before .args in lent-kept (a .tasks) (a .kept .now) (a .count) (a .task .now) (a .tick .now) (a .cost .now) (a .slots)
+    (c .if1 .taken)
 
 check-columns-requires : tie.Need-check-columns-requires
 check-columns-requires c κs = search needs
@@ -28,13 +30,15 @@ returns-3 : tie.Need-returns-3
 returns-3 c =
     let a = c .before .before .before .before .before .before .before .before .before .args in
     lent-short (a .tasks) (a .kept .now) (a .count) (a .task .now) (a .tick .now) (a .cost .now) (a .slots)
-    (c .before .before .before .before .if1 .left) (sym (ap refusalIn (c .before .enum-told .given .1)) ∙ c .before .before .before .check-columns .ensures) (c .if2 .taken)
+    (c .before .before .before .before .if1 .left) (sym (ap refusalIn (c .before .enum-told .given .1)) ∙ c .before .before .before .check-columns .ensures)
+    (c .if2 .taken)
 
 returns-4 : tie.Need-returns-4
 returns-4 c =
     let a = c .before .before .before .before .before .before .before .before .before .args in
     lent-fine (a .tasks) (a .kept .now) (a .count) (a .task .now) (a .tick .now) (a .cost .now) (a .slots)
-    (c .before .before .before .before .if1 .left) (sym (ap refusalIn (c .before .enum-told .given .1)) ∙ c .before .before .before .check-columns .ensures) (c .if2 .left)
+    (c .before .before .before .before .if1 .left) (sym (ap refusalIn (c .before .enum-told .given .1)) ∙ c .before .before .before .check-columns .ensures)
+    (c .if2 .left)
 
 pub check-slots-spec : {M : Type 1} → statement M
 check-slots-spec =

@@ -10,7 +10,8 @@ use borrow.Author.Needs.{needs}
 use Rattle.trace.proofs.check_trace.Statement.{statement}
 use Rattle.trace.proofs.check_trace.Tie as tie
 
-list-fine : (c : tie.After-enum-told) → let a = c .before .before .before .before .before .before .args in none ≡ refusalOf (listInputs (viewOf (a .s)) (a .count) (a .task .now) (a .tick .now) (a .cost .now))
+list-fine : (c : tie.After-enum-told) → let a =
+    c .before .before .before .before .before .before .args in none ≡ refusalOf (listInputs (viewOf (a .s)) (a .count) (a .task .now) (a .tick .now) (a .cost .now))
 list-fine c = sym (ap refusalIn (c .enum-told .given .1)) ∙ c .before .before .check-list .ensures
 
 check-list-requires : tie.Need-check-list-requires

@@ -17,7 +17,9 @@ use Rattle.trace.proofs.fill_ready.Tie as tie
 
 -- for every sheet that the shapers were made for, since the loop does not look at the sheet
 abbrev Inv-loop : tie.InvT-loop
-Inv-loop kept count task tick ready₀ all₀ p₀ ready all p = (s : Tasks) → Shapable s count task tick → Standing (s .period) (column kept) (λ i. []) (s .count) (all₀ .of) → Filling s (column kept) count task tick ready₀ (all .of) ready p
+Inv-loop kept count task tick ready₀ all₀ p₀ ready all p =
+    (s : Tasks) → Shapable s count task tick → Standing (s .period) (column kept) (λ i. []) (s .count) (all₀ .of) → Filling s (column kept) count task tick ready₀
+    (all .of) ready p
 
 abbrev μ-loop : tie.MeasureT-loop
 μ-loop kept count task tick ready₀ all₀ p₀ ready all p = count - p
@@ -75,7 +77,9 @@ wide-requires : tie.Need-wide-requires Inv-loop μ-loop
 wide-requires c κs = search needs
 
 shape-requires : tie.Need-shape-requires Inv-loop μ-loop
-shape-requires c κs = walk-small _ _ _ _ _ (start (c .before .before .before .before .before) .pre .0) _ _ (filled (c .before .before .before .before .before) .walking) (c .before .before .before .before .loop-test .taken) _ _ (c .wide .ensures)
+shape-requires c κs =
+    walk-small _ _ _ _ _ (start (c .before .before .before .before .before) .pre .0) _ _ (filled (c .before .before .before .before .before) .walking)
+    (c .before .before .before .before .loop-test .taken) _ _ (c .wide .ensures)
 
 mul-after : tie.Need-mul-after Inv-loop μ-loop
 mul-after c = omega (arith, placed (c .before .before .before .before .before .before))
@@ -84,7 +88,10 @@ element-set-from-after : tie.Need-element-set-from-after Inv-loop μ-loop
 element-set-from-after c = omega (arith, placed (c .before .before .before .before .before .before))
 
 cast-ready : tie.Need-cast-ready Inv-loop μ-loop
-cast-ready c = let high = walk-fits _ _ _ _ _ (start (c .before .before .before .before .before .before .before .before) .pre .0) _ _ (filled (c .before .before .before .before .before .before .before .before) .walking) (c .before .before .before .before .before .before .before .loop-test .taken) _ (stepped (c .before .before)) in omega arith
+cast-ready c =
+    let high = walk-fits _ _ _ _ _ (start (c .before .before .before .before .before .before .before .before) .pre .0) _ _
+    (filled (c .before .before .before .before .before .before .before .before) .walking) (c .before .before .before .before .before .before .before .loop-test .taken) _
+    (stepped (c .before .before)) in omega arith
 
 mul-ready : tie.Need-mul-ready Inv-loop μ-loop
 mul-ready c = omega arith
@@ -99,7 +106,10 @@ loop-less : tie.Need-loop-less Inv-loop μ-loop
 loop-less c = omega arith
 
 loop-again : tie.Need-loop-again Inv-loop μ-loop
-loop-again c = λ s w st. filling-next s _ _ _ _ _ w (start (c .before .before .before .before .before .before .before .before) .pre .2) _ _ _ (c .before .before .before .before .before .before .before .before .loop .inv s w st) (c .before .before .before .before .before .before .before .loop-test .taken) _ (stepped (c .before .before))
+loop-again c =
+    λ s w st. filling-next s _ _ _ _ _ w (start (c .before .before .before .before .before .before .before .before) .pre .2) _ _ _
+    (c .before .before .before .before .before .before .before .before .loop .inv s w st) (c .before .before .before .before .before .before .before .loop-test .taken) _
+    (stepped (c .before .before))
 
 same-length : tie.Need-same-length Inv-loop μ-loop
 same-length c = omega (arith, filled (c .before) .long)

@@ -16,7 +16,8 @@ use Rattle.trace.proofs.first_close.Tie as tie
 
 -- for every sheet that the shapers were made for, since the loop does not look at the sheet
 abbrev Inv-loop : tie.InvT-loop
-Inv-loop count task tick all₀ p₀ all p = (s : Tasks) → Shapable s count task tick → Standing (s .period) (s .jitter) (λ i. []) (s .count) (all₀ .of) → Tracing s count task tick (all .of) p
+Inv-loop count task tick all₀ p₀ all p =
+    (s : Tasks) → Shapable s count task tick → Standing (s .period) (s .jitter) (λ i. []) (s .count) (all₀ .of) → Tracing s count task tick (all .of) p
 
 abbrev μ-loop : tie.MeasureT-loop
 μ-loop count task tick all₀ p₀ all p = count - p
@@ -73,10 +74,15 @@ element-copy-out-state : tie.Need-element-copy-out-state Inv-loop μ-loop
 element-copy-out-state c = omega (arith, placed (c .before .before .before))
 
 shape-requires : tie.Need-shape-requires Inv-loop μ-loop
-shape-requires c κs = walk-small _ _ _ _ _ (start (c .before .before .before .before .before) .pre) _ _ (traced (c .before .before .before .before .before) .walking) (c .before .before .before .before .loop-test .taken) _ _ (c .before .wide .ensures)
+shape-requires c κs =
+    walk-small _ _ _ _ _ (start (c .before .before .before .before .before) .pre) _ _ (traced (c .before .before .before .before .before) .walking)
+    (c .before .before .before .before .loop-test .taken) _ _ (c .before .wide .ensures)
 
 returns : tie.Need-returns Inv-loop μ-loop
-returns c = tracing-close _ _ _ _ (start (c .before .before .before .before .before .before .before .before) .pre) _ _ (traced (c .before .before .before .before .before .before .before .before)) (c .before .before .before .before .before .before .before .loop-test .taken) _ (stepped (c .before .before)) (omega (arith, c .if1 .taken, c .before .before .before .before .wide .ensures))
+returns c =
+    tracing-close _ _ _ _ (start (c .before .before .before .before .before .before .before .before) .pre) _ _
+    (traced (c .before .before .before .before .before .before .before .before)) (c .before .before .before .before .before .before .before .loop-test .taken) _
+    (stepped (c .before .before)) (omega (arith, c .if1 .taken, c .before .before .before .before .wide .ensures))
 
 mul-advanced : tie.Need-mul-advanced Inv-loop μ-loop
 mul-advanced c = omega (arith, placed (c .before .before .before .before .before .before .before .before))
@@ -91,7 +97,10 @@ loop-less : tie.Need-loop-less Inv-loop μ-loop
 loop-less c = omega arith
 
 loop-again : tie.Need-loop-again Inv-loop μ-loop
-loop-again c = λ s w st. tracing-next s _ _ _ w _ _ (c .before .before .before .before .before .before .before .before .before .loop .inv s w st) (c .before .before .before .before .before .before .before .before .loop-test .taken) _ (stepped (c .before .before .before)) (omega (arith, c .before .if1 .left, c .before .before .before .before .before .wide .ensures))
+loop-again c =
+    λ s w st. tracing-next s _ _ _ w _ _ (c .before .before .before .before .before .before .before .before .before .loop .inv s w st)
+    (c .before .before .before .before .before .before .before .before .loop-test .taken) _ (stepped (c .before .before .before))
+    (omega (arith, c .before .if1 .left, c .before .before .before .before .before .wide .ensures))
 
 returns-2 : tie.Need-returns-2 Inv-loop μ-loop
 returns-2 c = tracing-all _ _ _ _ _ _ (traced (c .before)) (c .loop-test .left)

@@ -40,7 +40,11 @@ same-length : tie.Need-same-length
 same-length c = search needs
 
 returns-2 : tie.Need-returns-2
-returns-2 c = (call-fine (c .before .before .before .before), ready-written _ _ _ _ _ _ _ _ _ (call-fine (c .before .before .before .before)) (c .before .before .fill-ready .ensures _))
+returns-2 c = (
+  call-fine (c .before .before .before .before),
+  ready-written _ _ _ _ _ _ _ _ _ (call-fine (c .before .before .before .before))
+      (c .before .before .fill-ready .ensures _),
+)
 
 pub ready-ticks-spec : {M : Type 1} → statement M
 ready-ticks-spec =

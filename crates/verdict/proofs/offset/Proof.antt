@@ -23,7 +23,9 @@ cast-result-3 c = search needs
 mul-result : tie.Need-mul-result
 mul-result c = product-fits _ (c .args .jitter) _ (c .pre .0) (omega arith) (c .pre .1)
 
-is-offset : (c : tie.Start) → toZ w64 (c .args .jitter) -ℤ toZ w64 (ofZ w64 (toZ w64 (c .args .q) *ℤ toZ w64 (c .args .period))) ≡ model.offset (c .args .period) (c .args .jitter) (c .args .q)
+is-offset
+    : (c : tie.Start)
+    → toZ w64 (c .args .jitter) -ℤ toZ w64 (ofZ w64 (toZ w64 (c .args .q) *ℤ toZ w64 (c .args .period))) ≡ model.offset (c .args .period) (c .args .jitter) (c .args .q)
 is-offset c = offset-sum _ _ _ (c .pre .0) (omega arith) (c .pre .1)
 
 sub-result : tie.Need-sub-result

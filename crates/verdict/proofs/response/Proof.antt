@@ -20,7 +20,10 @@ cast-larger c = search needs
 sub-larger : tie.Need-sub-larger
 sub-larger c =
     rw (back _ (c .offset .ok), c .offset .ensures, plain (c .before .args .keep) (omega arith))
-    (record { sfits = offset-less-mag (c .before .args .period) (c .before .args .jitter) (c .before .args .q) (c .before .pre .period-high) (omega arith) (c .before .pre .q-high) (c .before .args .keep) (omega arith) })
+    (record {
+      sfits = offset-less-mag (c .before .args .period) (c .before .args .jitter) (c .before .args .q) (c .before .pre .period-high) (omega arith)
+          (c .before .pre .q-high) (c .before .args .keep) (omega arith);
+    })
 
 smaller-requires : tie.Need-smaller-requires
 smaller-requires c κs = search needs
@@ -33,7 +36,8 @@ cast-result c = search needs
 
 summed : (c : tie.After-larger)
     → toZ w64 (c .before .before .before .args .w) +ℤ toZ w64 (ofZ w64 (c .larger .result))
-    ≡ pos (responseOf (c .before .before .before .args .period) (c .before .before .before .args .jitter) (c .before .before .before .args .keep) (c .before .before .before .args .q) (c .before .before .before .args .w))
+    ≡ pos (responseOf (c .before .before .before .args .period) (c .before .before .before .args .jitter) (c .before .before .before .args .keep)
+    (c .before .before .before .args .q) (c .before .before .before .args .w))
 summed c =
     response-sum _ _ _ _ _ (c .before .before .before .pre) _ _ _ (c .before .before .offset .ok) (c .before .smaller .ok) (c .larger .ok)
     (c .before .before .offset .ensures)
@@ -45,7 +49,8 @@ add-result c = rw (summed c) (record { sfits = omega (arith, response-high _ _ _
 
 whole : (c : tie.After-larger)
     → toZ w64 (ofZ w64 (toZ w64 (c .before .before .before .args .w) +ℤ toZ w64 (ofZ w64 (c .larger .result))))
-    ≡ pos (responseOf (c .before .before .before .args .period) (c .before .before .before .args .jitter) (c .before .before .before .args .keep) (c .before .before .before .args .q) (c .before .before .before .args .w))
+    ≡ pos (responseOf (c .before .before .before .args .period) (c .before .before .before .args .jitter) (c .before .before .before .args .keep)
+    (c .before .before .before .args .q) (c .before .before .before .args .w))
 whole c = toZ-ofZ w64 _ (add-result c) ∙ summed c
 
 cast-result-2 : tie.Need-cast-result-2

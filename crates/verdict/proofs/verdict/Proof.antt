@@ -22,11 +22,18 @@ enum-known-checked c = search needs
 enum-told : tie.Need-enum-told
 enum-told c = search needs
 
-fine : (c : tie.After-enum-told) → none ≡ refusalOf (taskInputs (viewOf (c .before .before .before .before .args .t1)) (c .before .before .before .before .args .task) (c .before .before .before .before .args .kept .now))
+fine
+    : (c : tie.After-enum-told)
+    → none ≡ refusalOf (taskInputs (viewOf (c .before .before .before .before .args .t1)) (c .before .before .before .before .args .task)
+    (c .before .before .before .before .args .kept .now))
 fine c = sym (ap refusalIn (c .enum-told .given .1)) ∙ c .before .before .check-call .ensures
 
-passed : (c : tie.After-enum-told) → Passed (viewOf (c .before .before .before .before .args .t1)) (c .before .before .before .before .args .task) (c .before .before .before .before .args .kept .now)
-passed c = passed-of (viewOf (c .before .before .before .before .args .t1)) (c .before .before .before .before .args .task) (c .before .before .before .before .args .kept .now) (fine c)
+passed
+    : (c : tie.After-enum-told)
+    → Passed (viewOf (c .before .before .before .before .args .t1)) (c .before .before .before .before .args .task) (c .before .before .before .before .args .kept .now)
+passed c =
+    passed-of (viewOf (c .before .before .before .before .args .t1)) (c .before .before .before .before .args .task) (c .before .before .before .before .args .kept .now)
+    (fine c)
 
 columns-of-requires : tie.Need-columns-of-requires
 columns-of-requires c κs = passed c .valid .few-tasks
@@ -48,14 +55,20 @@ walk-requires c κs = walkable _ _ _ _ _ (passed (c .before .before .before .bef
 
 returns : tie.Need-returns
 unfolding verdictCall
-returns c = refuses (taskInputs (viewOf (c .before .before .before .before .before .args .t1)) (c .before .before .before .before .before .args .task) (c .before .before .before .before .before .args .kept .now)) _ _ (sym (ap refusalIn (c .before .checked .given .1)) ∙ c .before .before .before .check-call .ensures)
+returns c =
+    refuses (taskInputs (viewOf (c .before .before .before .before .before .args .t1)) (c .before .before .before .before .before .args .task)
+    (c .before .before .before .before .before .args .kept .now)) _ _ (sym (ap refusalIn (c .before .checked .given .1)) ∙ c .before .before .before .check-call .ensures)
 
 returns-2 : tie.Need-returns-2
 unfolding verdictCall
 returns-2 c =
     c .walk .ensures
-    ∙ ap answered (judged _ _ _ _ _ (passed (c .before .before .before .before .before .before .before)) (c .before .before .before .before .before .before .columns-of .ensures))
-    ∙ answers (taskInputs (viewOf (c .before .before .before .before .before .before .before .before .before .before .before .args .t1)) (c .before .before .before .before .before .before .before .before .before .before .before .args .task) (c .before .before .before .before .before .before .before .before .before .before .before .args .kept .now)) _ (fine (c .before .before .before .before .before .before .before))
+    ∙ ap answered (judged _ _ _ _ _ (passed (c .before .before .before .before .before .before .before))
+    (c .before .before .before .before .before .before .columns-of .ensures))
+    ∙ answers (taskInputs (viewOf (c .before .before .before .before .before .before .before .before .before .before .before .args .t1))
+    (c .before .before .before .before .before .before .before .before .before .before .before .args .task)
+    (c .before .before .before .before .before .before .before .before .before .before .before .args .kept .now)) _
+    (fine (c .before .before .before .before .before .before .before))
 
 pub verdict-spec : {M : Type 1} → statement M
 verdict-spec =

@@ -28,16 +28,23 @@ sheet-fine c = sym (ap refusalIn (c .enum-told .given .1)) ∙ c .before .before
 count-fine : (c : tie.After-enum-told3) → none ≡ checkCount (some (c .before .before .before .before .before .before .before .before .before .args .count))
 count-fine c = sym (ap refusalIn (c .enum-told3 .given .1)) ∙ c .before .before .check-count .ensures
 
-columns-fine : (c : tie.After-enum-told5) → none ≡ checkSlots (columnsAt (c .before .before .before .before .before .before .before .before .before .before .before .before))
+columns-fine
+    : (c : tie.After-enum-told5) → none ≡ checkSlots (columnsAt (c .before .before .before .before .before .before .before .before .before .before .before .before))
 columns-fine c = sym (ap refusalIn (c .enum-told5 .given .1)) ∙ c .before .before .check-columns .ensures
 
 few-tasks : (c : tie.After-struct-known) → c .before .before .before .before .before .before .before .before .before .before .before .before .before .args .s .count ≤ 32
 few-tasks c = valid-of _ (sym (sheet-fine (c .before .before .before .before .before .before .before))) .few-tasks
 
-few-releases : (c : tie.After-struct-known) → c .before .before .before .before .before .before .before .before .before .before .before .before .before .args .count ≤ 1024
+few-releases
+    : (c : tie.After-struct-known) → c .before .before .before .before .before .before .before .before .before .before .before .before .before .args .count ≤ 1024
 few-releases c = count-of _ (count-fine (c .before .before .before .before))
 
-columns-long : (c : tie.After-struct-known) → Columns (c .before .before .before .before .before .before .before .before .before .before .before .before .before .args .count) (c .before .before .before .before .before .before .before .before .before .before .before .before .before .args .task .now) (c .before .before .before .before .before .before .before .before .before .before .before .before .before .args .tick .now) (c .before .before .before .before .before .before .before .before .before .before .before .before .before .args .cost .now)
+columns-long
+    : (c : tie.After-struct-known)
+    → Columns (c .before .before .before .before .before .before .before .before .before .before .before .before .before .args .count)
+    (c .before .before .before .before .before .before .before .before .before .before .before .before .before .args .task .now)
+    (c .before .before .before .before .before .before .before .before .before .before .before .before .before .args .tick .now)
+    (c .before .before .before .before .before .before .before .before .before .before .before .before .before .args .cost .now)
 columns-long c = columns-of _ _ _ _ (columns-fine (c .before))
 
 check-requires : tie.Need-check-requires
@@ -96,9 +103,13 @@ add-t14 c = omega (arith, few-tasks (c .before), few-releases (c .before))
 
 returns-4 : tie.Need-returns-4
 returns-4 c =
-    refused-slots _ _ (sheet-fine (c .before .before .before .before .before .before .before .before)) (no-single _) (count-fine (c .before .before .before .before .before))
-    (bytes-short (c .before .before .before .before .before .before .before .before .before .before .before .before .before .before .args .s .count) (c .before .before .before .before .before .before .before .before .before .before .before .before .before .before .args .count) (c .before .before .before .before .before .before .before .before .before .before .before .before .before .before .args .room) (omega arith)
-    ∙ sym (slots-rest (columnsAt (c .before .before .before .before .before .before .before .before .before .before .before .before .before .before)) (bytesAt (c .before .before .before .before .before .before .before .before .before .before .before .before .before .before)) (columns-fine (c .before .before))))
+    refused-slots _ _ (sheet-fine (c .before .before .before .before .before .before .before .before)) (no-single _)
+    (count-fine (c .before .before .before .before .before))
+    (bytes-short (c .before .before .before .before .before .before .before .before .before .before .before .before .before .before .args .s .count)
+    (c .before .before .before .before .before .before .before .before .before .before .before .before .before .before .args .count)
+    (c .before .before .before .before .before .before .before .before .before .before .before .before .before .before .args .room) (omega arith)
+    ∙ sym (slots-rest (columnsAt (c .before .before .before .before .before .before .before .before .before .before .before .before .before .before))
+    (bytesAt (c .before .before .before .before .before .before .before .before .before .before .before .before .before .before)) (columns-fine (c .before .before))))
 
 check-releases-requires : tie.Need-check-releases-requires
 check-releases-requires c κs = (few-tasks (c .before), columns-long (c .before) .task-long, columns-long (c .before) .tick-long, columns-long (c .before) .cost-long)
@@ -106,9 +117,14 @@ check-releases-requires c κs = (few-tasks (c .before), columns-long (c .before)
 returns-5 : tie.Need-returns-5
 returns-5 c =
     c .check-releases .ensures
-    ∙ releases-decide _ (sheet-fine (c .before .before .before .before .before .before .before .before .before)) (no-single _) (count-fine (c .before .before .before .before .before .before))
-    (bytes-long (c .before .before .before .before .before .before .before .before .before .before .before .before .before .before .before .args .s .count) (c .before .before .before .before .before .before .before .before .before .before .before .before .before .before .before .args .count) (c .before .before .before .before .before .before .before .before .before .before .before .before .before .before .before .args .room) (omega arith)
-    ∙ sym (slots-rest (columnsAt (c .before .before .before .before .before .before .before .before .before .before .before .before .before .before .before)) (bytesAt (c .before .before .before .before .before .before .before .before .before .before .before .before .before .before .before)) (columns-fine (c .before .before .before))))
+    ∙ releases-decide _ (sheet-fine (c .before .before .before .before .before .before .before .before .before)) (no-single _)
+    (count-fine (c .before .before .before .before .before .before))
+    (bytes-long (c .before .before .before .before .before .before .before .before .before .before .before .before .before .before .before .args .s .count)
+    (c .before .before .before .before .before .before .before .before .before .before .before .before .before .before .before .args .count)
+    (c .before .before .before .before .before .before .before .before .before .before .before .before .before .before .before .args .room) (omega arith)
+    ∙ sym (slots-rest (columnsAt (c .before .before .before .before .before .before .before .before .before .before .before .before .before .before .before))
+    (bytesAt (c .before .before .before .before .before .before .before .before .before .before .before .before .before .before .before))
+    (columns-fine (c .before .before .before))))
     (no-kept _) no-unfit
 
 pub check-write-spec : {M : Type 1} → statement M

@@ -31,15 +31,37 @@ add-put-number-2 c = search needs
 
 put-number-requires-2 : tie.Need-put-number-requires-2
 put-number-requires-2 c κs =
-    omega (arith, stored-long _ _ _ _ (c .before .before .before .put-number .ensures), length-set (c .before .before .before .before .before .before .before .args .out .now) (c .before .before .before .before .before .before .before .args .at) 2, length-set (set (c .before .before .before .before .before .before .before .args .out .now) (c .before .before .before .before .before .before .before .args .at) 2) (c .before .before .before .before .before .before .before .args .at + 1) (c .before .before .before .before .before .low .result))
+    omega (
+      arith,
+      stored-long _ _ _ _ (c .before .before .before .put-number .ensures),
+      length-set
+          (c .before .before .before .before .before .before .before .args .out .now) (c .before .before .before .before .before .before .before .args .at) 2,
+      length-set
+          (set (c .before .before .before .before .before .before .before .args .out .now) (c .before .before .before .before .before .before .before .args .at) 2)
+          (c .before .before .before .before .before .before .before .args .at + 1) (c .before .before .before .before .before .low .result),
+    )
 
 same-length : tie.Need-same-length
 same-length c =
-    omega (arith, stored-long _ _ _ _ (c .before .before .put-number2 .ensures), stored-long _ _ _ _ (c .before .before .before .before .before .before .put-number .ensures), length-set (c .before .before .before .before .before .before .before .before .before .before .args .out .now) (c .before .before .before .before .before .before .before .before .before .before .args .at) 2, length-set (set (c .before .before .before .before .before .before .before .before .before .before .args .out .now) (c .before .before .before .before .before .before .before .before .before .before .args .at) 2) (c .before .before .before .before .before .before .before .before .before .before .args .at + 1) (c .before .before .before .before .before .before .before .before .low .result))
+    omega (
+      arith,
+      stored-long _ _ _ _ (c .before .before .put-number2 .ensures),
+      stored-long _ _ _ _
+          (c .before .before .before .before .before .before .put-number .ensures),
+      length-set
+          (c .before .before .before .before .before .before .before .before .before .before .args .out .now)
+          (c .before .before .before .before .before .before .before .before .before .before .args .at) 2,
+      length-set
+          (set (c .before .before .before .before .before .before .before .before .before .before .args .out .now)
+          (c .before .before .before .before .before .before .before .before .before .before .args .at) 2)
+          (c .before .before .before .before .before .before .before .before .before .before .args .at + 1)
+          (c .before .before .before .before .before .before .before .before .low .result),
+    )
 
 returns : tie.Need-returns
 returns c =
-    put-release-bytes _ _ _ _ _ _ _ _ (c .before .before .before .before .before .before .before .before .low .ensures) (c .before .before .before .before .before .before .put-number .ensures) (c .before .before .put-number2 .ensures)
+    put-release-bytes _ _ _ _ _ _ _ _ (c .before .before .before .before .before .before .before .before .low .ensures)
+    (c .before .before .before .before .before .before .put-number .ensures) (c .before .before .put-number2 .ensures)
 
 pub put-release-spec : {M : Type 1} → statement M
 put-release-spec =

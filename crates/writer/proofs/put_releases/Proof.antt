@@ -15,7 +15,8 @@ abbrev μ-loop : tie.MeasureT-loop
 
 loop-holds : tie.Need-loop-holds Inv-loop μ-loop
 loop-holds c =
-    releases-none _ _ _ _ _ _ (c .before .before .before .before .pre .0) (c .before .before .before .before .pre .1) (c .before .before .before .before .pre .2) (c .before .before .before .before .pre .3)
+    releases-none _ _ _ _ _ _ (c .before .before .before .before .pre .0) (c .before .before .before .before .pre .1) (c .before .before .before .before .pre .2)
+    (c .before .before .before .before .pre .3)
 
 mul-put-release : tie.Need-mul-put-release Inv-loop μ-loop
 mul-put-release c =
@@ -59,7 +60,9 @@ loop-less c =
 
 loop-again : tie.Need-loop-again Inv-loop μ-loop
 loop-again c =
-    releases-next _ _ _ _ _ _ _ _ _ (c .before .before .before .before .before .before .before .before .loop .inv) _ (c .before .before .before .before .before .before .before .loop-test .taken) (c .before .before .put-release .ensures) (stored-long _ _ _ _ (c .before .before .put-release .ensures))
+    releases-next _ _ _ _ _ _ _ _ _ (c .before .before .before .before .before .before .before .before .loop .inv) _
+    (c .before .before .before .before .before .before .before .loop-test .taken) (c .before .before .put-release .ensures)
+    (stored-long _ _ _ _ (c .before .before .put-release .ensures))
 
 same-length : tie.Need-same-length Inv-loop μ-loop
 same-length c =

@@ -43,7 +43,8 @@ loop-less c =
 
 loop-again : tie.Need-loop-again Inv-loop μ-loop
 loop-again c =
-    tasks-next _ _ _ _ _ _ (c .before .before .before .before .before .before .loop .inv) _ (c .before .before .before .before .before .loop-test .taken) (c .before .before .put-task .ensures) (stored-long _ _ _ _ (c .before .before .put-task .ensures))
+    tasks-next _ _ _ _ _ _ (c .before .before .before .before .before .before .loop .inv) _ (c .before .before .before .before .before .loop-test .taken)
+    (c .before .before .put-task .ensures) (stored-long _ _ _ _ (c .before .before .put-task .ensures))
 
 same-length : tie.Need-same-length Inv-loop μ-loop
 same-length c =
