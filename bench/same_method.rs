@@ -1,5 +1,5 @@
 //! The calls in plain Rust with the methods of the library: the rising search for W(q), one walk over q for the choice, a
-//! shaper of two numbers for each task, a run tick by tick with one queue for each task, a reader and a writer in one pass.
+//! shaper of two numbers for each task, a run tick by tick with one queue for each task, a reader in two passes, a writer in one.
 //! Each makes the checks of its call. Used as the measure of the archive's speed.
 
 use crate::reference::{number_at, record_at, task_at, Refusal, Task, HORIZON, MAX_RELEASES, MAX_TASKS, MAX_TICK, MAX_TIME};
@@ -218,6 +218,29 @@ pub fn ready(tasks: &[Task], kept: &[u32], n: usize, list: Columns, ready: &mut 
     Ok(())
 }
 
+/// The first release that the shapers with the full jitters would move, if any.
+pub fn trace_check(tasks: &[Task], n: usize, list: Columns) -> Result<Option<usize>, Refusal> {
+    check_sheet(tasks)?;
+    if n > MAX_RELEASES {
+        return refuse(10, MAX_RELEASES);
+    }
+    for column in [list.task, list.tick, list.cost] {
+        check_slots(column.len(), n)?;
+    }
+    check_list(tasks, n, list)?;
+    let (mut last, mut next) = ([0u64; 32], [0u64; 32]);
+    for p in 0..n {
+        let i = list.task[p] as usize;
+        let at = list.tick[p] as u64;
+        if at < last[i].max(next[i].saturating_sub(tasks[i].j as u64)) {
+            return Ok(Some(p));
+        }
+        last[i] = at;
+        next[i] = next[i].max(at) + tasks[i].p as u64;
+    }
+    Ok(None)
+}
+
 fn next_of(task: &[u32], n: usize, i: u32, from: usize) -> usize {
     (from..n).find(|&p| task[p] == i).unwrap_or(n)
 }
@@ -288,63 +311,78 @@ pub fn write(tasks: &[Task], n: usize, list: Columns, out: &mut [u8]) -> Result<
     Ok(size)
 }
 
-/// Reads a file: the sheet and three columns; the counts of tasks and releases.
-pub fn read(
-    file: &[u8], sheet: &mut [Task; 32], task: &mut [u32], tick: &mut [u32], cost: &mut [u32],
-) -> Result<(usize, usize), Refusal> {
-    let mut tasks = [Task { p: 0, j: 0, e: 0, d: 0 }; 32];
-    let mut list = [(0u32, 0u32, 0u32); MAX_RELEASES];
-    let (mut count, mut n, mut at, mut before) = (0, 0, 0, 0);
+/// What a first pass over a file finds: its tasks, how many they are, and the number of its releases.
+struct Scanned {
+    tasks: [Task; 32],
+    count: usize,
+    releases: usize,
+}
+
+/// Checks a whole file, record by record.
+fn scan(file: &[u8]) -> Result<Scanned, Refusal> {
+    let mut s = Scanned { tasks: [Task { p: 0, j: 0, e: 0, d: 0 }; 32], count: 0, releases: 0 };
+    let (mut at, mut before) = (0, 0);
     loop {
         let (kind, size) = record_at(file, at)?;
         match kind {
             1 => {
                 let t = task_at(file, at + 1);
-                if n > 0 {
+                if s.releases > 0 {
                     return refuse(3, at);
                 }
-                if count == MAX_TASKS {
+                if s.count == MAX_TASKS {
                     return refuse(4, at);
                 }
                 if !in_range(&t) {
                     return refuse(6, at);
                 }
-                tasks[count] = t;
-                count += 1;
+                s.tasks[s.count] = t;
+                s.count += 1;
             }
             2 => {
-                if count == 0 {
+                if s.count == 0 {
                     return refuse(5, at);
                 }
-                let r = (file[at + 1] as u32, number_at(file, at + 2), number_at(file, at + 6));
-                if let Some(number) = check_release(&tasks[..count], before, r.0, r.1, r.2) {
+                let (task, tick, cost) = release_at(file, at + 1);
+                if let Some(number) = check_release(&s.tasks[..s.count], before, task, tick, cost) {
                     return refuse(number, at);
                 }
-                if n == MAX_RELEASES {
+                if s.releases == MAX_RELEASES {
                     return refuse(10, at);
                 }
-                list[n] = r;
-                before = r.1;
-                n += 1;
+                before = tick;
+                s.releases += 1;
             }
             _ => {
-                if count == 0 {
+                if s.count == 0 {
                     return refuse(5, at);
                 }
                 if file.len() > at + 1 {
                     return refuse(11, at + 1);
                 }
-                break;
+                return Ok(s);
             }
         }
         at += size;
     }
+}
+
+fn release_at(file: &[u8], at: usize) -> (u32, u32, u32) {
+    (file[at] as u32, number_at(file, at + 1), number_at(file, at + 5))
+}
+
+/// Reads a file: the sheet and three columns; the counts of tasks and releases. A second pass decodes the releases.
+pub fn read(
+    file: &[u8], sheet: &mut [Task; 32], task: &mut [u32], tick: &mut [u32], cost: &mut [u32],
+) -> Result<(usize, usize), Refusal> {
+    let s = scan(file)?;
+    let n = s.releases;
     for slots in [task.len(), tick.len(), cost.len()] {
         check_slots(slots, n)?;
     }
-    *sheet = tasks;
+    *sheet = s.tasks;
     for p in 0..n {
-        (task[p], tick[p], cost[p]) = list[p];
+        (task[p], tick[p], cost[p]) = release_at(file, 17 * s.count + 10 * p + 1);
     }
-    Ok((count, n))
+    Ok((s.count, n))
 }

@@ -39,7 +39,9 @@ fn put_ran(
     out: &mut [u8],
 ) -> usize
     requires { ⌜ Kept (viewOf s) (now kept) × Listed (viewOf s) n (now task) (now tick) (now cost) × (67648 ≤ length (now out)) ⌝ }
-    ensures { λ r. ⌜ PutLine 67648 (now (out .entry)) 0 (keptText (viewOf s) (now (kept .entry)) n (now (task .entry)) (now (tick .entry)) (now (cost .entry))) (now (out .exit)) r ⌝ }
+    ensures { λ r. ⌜
+        PutLine 67648 (now (out .entry)) 0 (keptText (viewOf s) (now (kept .entry)) n (now (task .entry)) (now (tick .entry)) (now (cost .entry))) (now (out .exit)) r
+        ⌝ }
 {
     let mut ready: [u32; 1024] = [0; 1024];
     let mut finish: [u32; 1024] = [0; 1024];
@@ -60,7 +62,9 @@ fn put_replayed(
     out: &mut [u8],
 ) -> usize
     requires { ⌜ Listed (viewOf s) n (now task) (now tick) (now cost) × (67648 ≤ length (now out)) ⌝ }
-    ensures { λ r. ⌜ PutLine 67648 (now (out .entry)) 0 (listText (viewOf s) n (now (task .entry)) (now (tick .entry)) (now (cost .entry)) (choice (viewOf s))) (now (out .exit)) r ⌝ }
+    ensures { λ r. ⌜
+        PutLine 67648 (now (out .entry)) 0 (listText (viewOf s) n (now (task .entry)) (now (tick .entry)) (now (cost .entry)) (choice (viewOf s))) (now (out .exit)) r
+        ⌝ }
 {
     let mut kept: [u32; 32] = [0; 32];
     let mut worst: [u32; 32] = [0; 32];

@@ -175,8 +175,14 @@ fn put(column: &[u32], n: usize, out: &mut [u32])
 // A refusal, 15 at the first task that fits at no K included, leaves both columns.
 pub fn choose(s: TaskSet, kept: &mut [u32], worst: &mut [u32]) -> Checked
     ensures { λ r. ⌜ refusalIn r ≡ refusalOf (choiceInputs (viewOf s) (now (kept .entry)) (now (worst .entry))) ⌝ }
-    ensures { λ _. ⌜ now (kept .exit) ≡ columnAfter (refusalOf (choiceInputs (viewOf s) (now (kept .entry)) (now (worst .entry)))) (keptColumn (choice (viewOf s))) (now (kept .entry)) ⌝ }
-    ensures { λ _. ⌜ now (worst .exit) ≡ columnAfter (refusalOf (choiceInputs (viewOf s) (now (kept .entry)) (now (worst .entry)))) (worstColumn (choice (viewOf s))) (now (worst .entry)) ⌝ }
+    ensures { λ _. ⌜
+        now (kept .exit)
+        ≡ columnAfter (refusalOf (choiceInputs (viewOf s) (now (kept .entry)) (now (worst .entry)))) (keptColumn (choice (viewOf s))) (now (kept .entry))
+        ⌝ }
+    ensures { λ _. ⌜
+        now (worst .exit)
+        ≡ columnAfter (refusalOf (choiceInputs (viewOf s) (now (kept .entry)) (now (worst .entry)))) (worstColumn (choice (viewOf s))) (now (worst .entry))
+        ⌝ }
 {
     let whole = taskset::check(s);
     let Checked::Fine = whole else {

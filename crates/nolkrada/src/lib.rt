@@ -250,8 +250,16 @@ pub extern "C" fn nolkrada_choice(
     worst: &mut [u32],
 ) -> u64
     ensures code { λ r. ⌜ r ≡ codeOf (refusalOf (choiceInputs (viewOf (sheetFrom (now (sheet .entry)) count)) (now (kept .entry)) (now (worst .entry)))) ⌝ }
-    ensures keeps { λ _. ⌜ now (kept .exit) ≡ columnAfter (refusalOf (choiceInputs (viewOf (sheetFrom (now (sheet .entry)) count)) (now (kept .entry)) (now (worst .entry)))) (keptColumn (choice (viewOf (sheetFrom (now (sheet .entry)) count)))) (now (kept .entry)) ⌝ }
-    ensures worsts { λ _. ⌜ now (worst .exit) ≡ columnAfter (refusalOf (choiceInputs (viewOf (sheetFrom (now (sheet .entry)) count)) (now (kept .entry)) (now (worst .entry)))) (worstColumn (choice (viewOf (sheetFrom (now (sheet .entry)) count)))) (now (worst .entry)) ⌝ }
+    ensures keeps { λ _. ⌜
+        now (kept .exit)
+        ≡ columnAfter (refusalOf (choiceInputs (viewOf (sheetFrom (now (sheet .entry)) count)) (now (kept .entry)) (now (worst .entry))))
+        (keptColumn (choice (viewOf (sheetFrom (now (sheet .entry)) count)))) (now (kept .entry))
+        ⌝ }
+    ensures worsts { λ _. ⌜
+        now (worst .exit)
+        ≡ columnAfter (refusalOf (choiceInputs (viewOf (sheetFrom (now (sheet .entry)) count)) (now (kept .entry)) (now (worst .entry))))
+        (worstColumn (choice (viewOf (sheetFrom (now (sheet .entry)) count)))) (now (worst .entry))
+        ⌝ }
 {
     let s = sheet_from(sheet, count);
     let checked = choice::choose(s, kept, worst);
@@ -295,8 +303,19 @@ pub extern "C" fn nolkrada_ready(
     cost: &[u32],
     ready: &mut [u32],
 ) -> u64
-    ensures code { λ r. ⌜ r ≡ codeOf (refusalOf (readyInputs (viewOf (sheetFrom (now (sheet .entry)) count)) (now (kept .entry)) n (now (task .entry)) (now (tick .entry)) (now (cost .entry)) (now (ready .entry)))) ⌝ }
-    ensures ticks { λ _. ⌜ now (ready .exit) ≡ columnAfter (refusalOf (readyInputs (viewOf (sheetFrom (now (sheet .entry)) count)) (now (kept .entry)) n (now (task .entry)) (now (tick .entry)) (now (cost .entry)) (now (ready .entry)))) (readyList (viewOf (sheetFrom (now (sheet .entry)) count)) (column (now (kept .entry))) (releasesOf n (now (task .entry)) (now (tick .entry)) (now (cost .entry)))) (now (ready .entry)) ⌝ }
+    ensures code { λ r. ⌜
+        r
+        ≡ codeOf (refusalOf (readyInputs (viewOf (sheetFrom (now (sheet .entry)) count)) (now (kept .entry)) n (now (task .entry)) (now (tick .entry)) (now (cost .entry))
+        (now (ready .entry))))
+        ⌝ }
+    ensures ticks { λ _. ⌜
+        now (ready .exit)
+        ≡ columnAfter (refusalOf
+        (readyInputs (viewOf (sheetFrom (now (sheet .entry)) count)) (now (kept .entry)) n (now (task .entry)) (now (tick .entry)) (now (cost .entry))
+        (now (ready .entry))))
+        (readyList (viewOf (sheetFrom (now (sheet .entry)) count)) (column (now (kept .entry)))
+        (releasesOf n (now (task .entry)) (now (tick .entry)) (now (cost .entry)))) (now (ready .entry))
+        ⌝ }
 {
     let s = sheet_from(sheet, count);
     let checked = trace::ready_ticks(s, kept, n as usize, task, tick, cost, ready);
@@ -316,9 +335,27 @@ pub extern "C" fn nolkrada_run(
     ready: &mut [u32],
     finish: &mut [u32],
 ) -> u64
-    ensures code { λ r. ⌜ r ≡ codeOf (refusalOf (runInputs (viewOf (sheetFrom (now (sheet .entry)) count)) (now (kept .entry)) n (now (task .entry)) (now (tick .entry)) (now (cost .entry)) (now (ready .entry)) (now (finish .entry)))) ⌝ }
-    ensures ticks { λ _. ⌜ now (ready .exit) ≡ columnAfter (refusalOf (runInputs (viewOf (sheetFrom (now (sheet .entry)) count)) (now (kept .entry)) n (now (task .entry)) (now (tick .entry)) (now (cost .entry)) (now (ready .entry)) (now (finish .entry)))) (readyList (viewOf (sheetFrom (now (sheet .entry)) count)) (column (now (kept .entry))) (releasesOf n (now (task .entry)) (now (tick .entry)) (now (cost .entry)))) (now (ready .entry)) ⌝ }
-    ensures ends { λ _. ⌜ now (finish .exit) ≡ columnAfter (refusalOf (runInputs (viewOf (sheetFrom (now (sheet .entry)) count)) (now (kept .entry)) n (now (task .entry)) (now (tick .entry)) (now (cost .entry)) (now (ready .entry)) (now (finish .entry)))) (finishList (viewOf (sheetFrom (now (sheet .entry)) count)) (column (now (kept .entry))) (releasesOf n (now (task .entry)) (now (tick .entry)) (now (cost .entry)))) (now (finish .entry)) ⌝ }
+    ensures code { λ r. ⌜
+        r
+        ≡ codeOf (refusalOf (runInputs (viewOf (sheetFrom (now (sheet .entry)) count)) (now (kept .entry)) n (now (task .entry)) (now (tick .entry)) (now (cost .entry))
+        (now (ready .entry)) (now (finish .entry))))
+        ⌝ }
+    ensures ticks { λ _. ⌜
+        now (ready .exit)
+        ≡ columnAfter (refusalOf
+        (runInputs (viewOf (sheetFrom (now (sheet .entry)) count)) (now (kept .entry)) n (now (task .entry)) (now (tick .entry)) (now (cost .entry)) (now (ready .entry))
+        (now (finish .entry))))
+        (readyList (viewOf (sheetFrom (now (sheet .entry)) count)) (column (now (kept .entry)))
+        (releasesOf n (now (task .entry)) (now (tick .entry)) (now (cost .entry)))) (now (ready .entry))
+        ⌝ }
+    ensures ends { λ _. ⌜
+        now (finish .exit)
+        ≡ columnAfter (refusalOf
+        (runInputs (viewOf (sheetFrom (now (sheet .entry)) count)) (now (kept .entry)) n (now (task .entry)) (now (tick .entry)) (now (cost .entry)) (now (ready .entry))
+        (now (finish .entry))))
+        (finishList (viewOf (sheetFrom (now (sheet .entry)) count)) (column (now (kept .entry)))
+        (releasesOf n (now (task .entry)) (now (tick .entry)) (now (cost .entry)))) (now (finish .entry))
+        ⌝ }
 {
     let s = sheet_from(sheet, count);
     let checked = schedule::run(s, kept, n as usize, task, tick, cost, ready, finish);
@@ -404,7 +441,11 @@ pub extern "C" fn nolkrada_read(
     cost: &mut [u32],
     answer: &mut [u64],
 ) -> u64
-    ensures { λ r. ⌜ ReadEnds (readAnswer (now (file .entry)) (now (sheet .entry)) (now (task .entry)) (now (tick .entry)) (now (cost .entry)) (now (answer .entry))) (now (sheet .entry)) (now (task .entry)) (now (tick .entry)) (now (cost .entry)) (now (answer .entry)) r (now (sheet .exit)) (now (task .exit)) (now (tick .exit)) (now (cost .exit)) (now (answer .exit)) ⌝ }
+    ensures { λ r. ⌜
+        ReadEnds (readAnswer (now (file .entry)) (now (sheet .entry)) (now (task .entry)) (now (tick .entry)) (now (cost .entry)) (now (answer .entry)))
+        (now (sheet .entry)) (now (task .entry)) (now (tick .entry)) (now (cost .entry)) (now (answer .entry)) r (now (sheet .exit)) (now (task .exit)) (now (tick .exit))
+        (now (cost .exit)) (now (answer .exit))
+        ⌝ }
 {
     if sheet.len() < 128 {
         return read_code(
@@ -450,7 +491,10 @@ pub extern "C" fn nolkrada_write(
     out: &mut [u8],
     answer: &mut [u64],
 ) -> u64
-    ensures { λ r. ⌜ WriteEnds (writeAnswer (now (sheet .entry)) count n (now (task .entry)) (now (tick .entry)) (now (cost .entry)) (now (out .entry)) (now (answer .entry))) (now (out .entry)) (now (answer .entry)) r (now (out .exit)) (now (answer .exit)) ⌝ }
+    ensures { λ r. ⌜
+        WriteEnds (writeAnswer (now (sheet .entry)) count n (now (task .entry)) (now (tick .entry)) (now (cost .entry)) (now (out .entry)) (now (answer .entry)))
+        (now (out .entry)) (now (answer .entry)) r (now (out .exit)) (now (answer .exit))
+        ⌝ }
 {
     let s = sheet_from(sheet, count);
     if answer.len() < 1 {

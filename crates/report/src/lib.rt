@@ -99,8 +99,17 @@ fn put_jobs(
     ready: &[u32],
     finish: &[u32],
 ) -> usize
-    requires { ⌜ (from + 67584 ≤ length (now out)) × (n ≤ 1024) × (n ≤ length (now task)) × (n ≤ length (now tick)) × (n ≤ length (now ready)) × (n ≤ length (now finish)) ⌝ }
-    ensures { λ r. ⌜ PutLine 67584 (now (out .entry)) from (lines (runLine (now (task .entry)) (now (tick .entry)) (now (ready .entry)) (now (finish .entry))) n) (now (out .exit)) r ⌝ }
+    requires { ⌜
+        (from + 67584 ≤ length (now out))
+        × (n ≤ 1024)
+        × (n ≤ length (now task))
+        × (n ≤ length (now tick))
+        × (n ≤ length (now ready))
+        × (n ≤ length (now finish))
+        ⌝ }
+    ensures { λ r. ⌜
+        PutLine 67584 (now (out .entry)) from (lines (runLine (now (task .entry)) (now (tick .entry)) (now (ready .entry)) (now (finish .entry))) n) (now (out .exit)) r
+        ⌝ }
 {
     let mut at = from;
     let mut p = 0;
@@ -130,7 +139,9 @@ pub fn put_run(
     finish: &[u32],
 ) -> usize
     requires { ⌜ (67648 ≤ length (now out)) × (n ≤ 1024) × (n ≤ length (now task)) × (n ≤ length (now tick)) × (n ≤ length (now ready)) × (n ≤ length (now finish)) ⌝ }
-    ensures { λ r. ⌜ PutLine 67648 (now (out .entry)) 0 (runText n (now (task .entry)) (now (tick .entry)) (now (ready .entry)) (now (finish .entry))) (now (out .exit)) r ⌝ }
+    ensures { λ r. ⌜
+        PutLine 67648 (now (out .entry)) 0 (runText n (now (task .entry)) (now (tick .entry)) (now (ready .entry)) (now (finish .entry))) (now (out .exit)) r
+        ⌝ }
 {
     let a = text::put_bytes(out, 0, b"job task release ready finish response\n");
     put_jobs(out, a, n, task, tick, ready, finish)

@@ -170,9 +170,23 @@ pub fn run(
     ready: &mut [u32],
     finish: &mut [u32],
 ) -> Checked
-    ensures refusal { λ r. ⌜ refusalIn r ≡ refusalOf (runInputs (viewOf s) (now (kept .entry)) count (now (task .entry)) (now (tick .entry)) (now (cost .entry)) (now (ready .entry)) (now (finish .entry))) ⌝ }
-    ensures ticks { λ r. ⌜ now (ready .exit) ≡ columnAfter (refusalOf (runInputs (viewOf s) (now (kept .entry)) count (now (task .entry)) (now (tick .entry)) (now (cost .entry)) (now (ready .entry)) (now (finish .entry)))) (readyList (viewOf s) (column (now (kept .entry))) (releasesOf count (now (task .entry)) (now (tick .entry)) (now (cost .entry)))) (now (ready .entry)) ⌝ }
-    ensures finishes { λ r. ⌜ now (finish .exit) ≡ columnAfter (refusalOf (runInputs (viewOf s) (now (kept .entry)) count (now (task .entry)) (now (tick .entry)) (now (cost .entry)) (now (ready .entry)) (now (finish .entry)))) (finishList (viewOf s) (column (now (kept .entry))) (releasesOf count (now (task .entry)) (now (tick .entry)) (now (cost .entry)))) (now (finish .entry)) ⌝ }
+    ensures refusal { λ r. ⌜
+        refusalIn r
+        ≡ refusalOf (runInputs (viewOf s) (now (kept .entry)) count (now (task .entry)) (now (tick .entry)) (now (cost .entry)) (now (ready .entry))
+        (now (finish .entry)))
+        ⌝ }
+    ensures ticks { λ r. ⌜
+        now (ready .exit)
+        ≡ columnAfter (refusalOf
+        (runInputs (viewOf s) (now (kept .entry)) count (now (task .entry)) (now (tick .entry)) (now (cost .entry)) (now (ready .entry)) (now (finish .entry))))
+        (readyList (viewOf s) (column (now (kept .entry))) (releasesOf count (now (task .entry)) (now (tick .entry)) (now (cost .entry)))) (now (ready .entry))
+        ⌝ }
+    ensures finishes { λ r. ⌜
+        now (finish .exit)
+        ≡ columnAfter (refusalOf
+        (runInputs (viewOf s) (now (kept .entry)) count (now (task .entry)) (now (tick .entry)) (now (cost .entry)) (now (ready .entry)) (now (finish .entry))))
+        (finishList (viewOf s) (column (now (kept .entry))) (releasesOf count (now (task .entry)) (now (tick .entry)) (now (cost .entry)))) (now (finish .entry))
+        ⌝ }
 {
     let slots = shorter(ready.len(), finish.len());
     let checked = trace::check_call(s, kept, count, task, tick, cost, slots);

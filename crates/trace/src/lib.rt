@@ -77,7 +77,10 @@ pub fn fill_ready(
     ready: &mut [u32],
 )
     requires { ⌜ Shapable (viewOf s) count (now task) (now tick) × (s .count ≤ length (now kept)) × (count ≤ length (now ready)) ⌝ }
-    ensures { λ _. ⌜ ((cost : List ℕ) → now (ready .exit) ≡ readyList (viewOf s) (column (now (kept .entry))) (releasesOf count (now (task .entry)) (now (tick .entry)) cost) ++ drop count (now (ready .entry))) ⌝ }
+    ensures { λ _. ⌜
+        ((cost : List ℕ) → now (ready .exit) ≡ readyList (viewOf s) (column (now (kept .entry)))
+        (releasesOf count (now (task .entry)) (now (tick .entry)) cost) ++ drop count (now (ready .entry)))
+        ⌝ }
 {
     let mut all = kept_shapers(s, kept);
     let mut p = 0;
@@ -210,8 +213,15 @@ pub fn ready_ticks(
     cost: &[u32],
     ready: &mut [u32],
 ) -> Checked
-    ensures refusal { λ r. ⌜ refusalIn r ≡ refusalOf (readyInputs (viewOf s) (now (kept .entry)) count (now (task .entry)) (now (tick .entry)) (now (cost .entry)) (now (ready .entry))) ⌝ }
-    ensures ticks { λ r. ⌜ now (ready .exit) ≡ columnAfter (refusalOf (readyInputs (viewOf s) (now (kept .entry)) count (now (task .entry)) (now (tick .entry)) (now (cost .entry)) (now (ready .entry)))) (readyList (viewOf s) (column (now (kept .entry))) (releasesOf count (now (task .entry)) (now (tick .entry)) (now (cost .entry)))) (now (ready .entry)) ⌝ }
+    ensures refusal { λ r. ⌜
+        refusalIn r
+        ≡ refusalOf (readyInputs (viewOf s) (now (kept .entry)) count (now (task .entry)) (now (tick .entry)) (now (cost .entry)) (now (ready .entry)))
+        ⌝ }
+    ensures ticks { λ r. ⌜
+        now (ready .exit)
+        ≡ columnAfter (refusalOf (readyInputs (viewOf s) (now (kept .entry)) count (now (task .entry)) (now (tick .entry)) (now (cost .entry)) (now (ready .entry))))
+        (readyList (viewOf s) (column (now (kept .entry))) (releasesOf count (now (task .entry)) (now (tick .entry)) (now (cost .entry)))) (now (ready .entry))
+        ⌝ }
 {
     let checked = check_call(s, kept, count, task, tick, cost, ready.len());
     let Checked::Fine = checked else {

@@ -59,8 +59,15 @@ fn verdict_case(head: &[u32; 136]) {
 
 // Calls the choice, and prints the answer and the columns lent.
 fn choice_call(set: TaskSet, kept: &mut [u32], worst: &mut [u32])
-    ensures { λ _. ⌜ now (kept .exit) ≡ columnAfter (refusalOf (choiceInputs (viewOf set) (now (kept .entry)) (now (worst .entry)))) (keptColumn (model_choice.choice (viewOf set))) (now (kept .entry)) ⌝ }
-    ensures { λ _. ⌜ now (worst .exit) ≡ columnAfter (refusalOf (choiceInputs (viewOf set) (now (kept .entry)) (now (worst .entry)))) (worstColumn (model_choice.choice (viewOf set))) (now (worst .entry)) ⌝ }
+    ensures { λ _. ⌜
+        now (kept .exit)
+        ≡ columnAfter (refusalOf (choiceInputs (viewOf set) (now (kept .entry)) (now (worst .entry)))) (keptColumn (model_choice.choice (viewOf set))) (now (kept .entry))
+        ⌝ }
+    ensures { λ _. ⌜
+        now (worst .exit)
+        ≡ columnAfter (refusalOf (choiceInputs (viewOf set) (now (kept .entry)) (now (worst .entry)))) (worstColumn (model_choice.choice (viewOf set)))
+        (now (worst .entry))
+        ⌝ }
 {
     let answer = choice::choose(set, kept, worst);
     cases::print_checked(answer);

@@ -79,9 +79,18 @@ fn print_bytes(bytes: &[u8], count: usize) {
 
 // Calls the read, and prints the answer, the task set and the columns lent.
 fn read_call(file: &[u8], task: &mut [u32], tick: &mut [u32], cost: &mut [u32])
-    ensures { λ _. ⌜ now (task .exit) ≡ readColumn (λ q. q .task) (readCall (now (file .entry)) (now (task .entry)) (now (tick .entry)) (now (cost .entry))) (now (task .entry)) ⌝ }
-    ensures { λ _. ⌜ now (tick .exit) ≡ readColumn (λ q. q .tick) (readCall (now (file .entry)) (now (task .entry)) (now (tick .entry)) (now (cost .entry))) (now (tick .entry)) ⌝ }
-    ensures { λ _. ⌜ now (cost .exit) ≡ readColumn (λ q. q .cost) (readCall (now (file .entry)) (now (task .entry)) (now (tick .entry)) (now (cost .entry))) (now (cost .entry)) ⌝ }
+    ensures { λ _. ⌜
+        now (task .exit)
+        ≡ readColumn (λ q. q .task) (readCall (now (file .entry)) (now (task .entry)) (now (tick .entry)) (now (cost .entry))) (now (task .entry))
+        ⌝ }
+    ensures { λ _. ⌜
+        now (tick .exit)
+        ≡ readColumn (λ q. q .tick) (readCall (now (file .entry)) (now (task .entry)) (now (tick .entry)) (now (cost .entry))) (now (tick .entry))
+        ⌝ }
+    ensures { λ _. ⌜
+        now (cost .exit)
+        ≡ readColumn (λ q. q .cost) (readCall (now (file .entry)) (now (task .entry)) (now (tick .entry)) (now (cost .entry))) (now (cost .entry))
+        ⌝ }
 {
     let answer = reader::read(file, task, tick, cost);
     let outcome = answer.outcome;

@@ -83,7 +83,10 @@ fn walk(
     deadline: u32,
 ) -> VerdictAnswer
     requires { ⌜ Walkable (now loads) (now periods) (now keeps) task jitter ⌝ }
-    ensures { λ r. ⌜ verdictIn r ≡ answered (model_verdict.verdict (flatTasks (now (loads .entry)) (now (periods .entry)) jitter deadline) (column (now (keeps .entry))) task) ⌝ }
+    ensures { λ r. ⌜
+        verdictIn r
+        ≡ answered (model_verdict.verdict (flatTasks (now (loads .entry)) (now (periods .entry)) jitter deadline) (column (now (keeps .entry))) task)
+        ⌝ }
 {
     let cost = loads[task];
     let period = periods[task];

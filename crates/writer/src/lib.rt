@@ -85,7 +85,10 @@ fn put_tasks(out: &mut [u8], s: TaskSet)
 // Writes the release records of a list.
 fn put_releases(out: &mut [u8], from: usize, count: usize, task: &[u32], tick: &[u32], cost: &[u32])
     requires { ⌜ (from + 10 * count ≤ length (now out)) × (count ≤ length (now task)) × (count ≤ length (now tick)) × (count ≤ length (now cost)) ⌝ }
-    ensures { λ _. ⌜ now (out .exit) ≡ stored (now (out .entry)) from (joined (map releaseRecord (releasesOf count (now (task .entry)) (now (tick .entry)) (now (cost .entry))))) ⌝ }
+    ensures { λ _. ⌜
+        now (out .exit)
+        ≡ stored (now (out .entry)) from (joined (map releaseRecord (releasesOf count (now (task .entry)) (now (tick .entry)) (now (cost .entry)))))
+        ⌝ }
 {
     let mut at = from;
     let mut i = 0;
