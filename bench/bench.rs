@@ -13,7 +13,7 @@ mod library;
 mod reference;
 mod same_method;
 
-use generator::{list_for, numbers_of, Random};
+use generator::{legal_list_for, list_for, numbers_of, Random};
 use reference::{Budget, Release, Sheet, Task};
 use std::hint::black_box;
 
@@ -118,18 +118,34 @@ struct List {
     cost: Vec<u32>,
 }
 
-/// n releases of 32 tasks that keep the processor busy most of the time.
-fn list_of(n: usize) -> List {
+fn busy_sheet() -> Sheet {
     let tasks: Vec<Task> = (0..32).map(|i| Task { p: 400 + 10 * i, j: 100, e: 12, d: 1_000_000 }).collect();
-    let sheet = Sheet::of(&tasks);
-    let all: Vec<Release> = list_for(&mut Random::seeded(7), &sheet, n, 28);
+    Sheet::of(&tasks)
+}
+
+fn list_with(sheet: Sheet, all: &[Release]) -> List {
     List {
-        kept: tasks.iter().map(|t| t.j / 2).collect(),
+        kept: sheet.tasks.iter().map(|t| t.j / 2).collect(),
         task: all.iter().map(|r| r.task).collect(),
         tick: all.iter().map(|r| r.tick).collect(),
         cost: all.iter().map(|r| r.cost).collect(),
         sheet,
     }
+}
+
+/// n releases of 32 tasks that keep the processor busy most of the time.
+fn list_of(n: usize) -> List {
+    let sheet = busy_sheet();
+    let all = list_for(&mut Random::seeded(7), &sheet, n, 28);
+    list_with(sheet, &all)
+}
+
+/// n legal releases of 32 tasks, so that the trace check looks at all of them.
+fn legal_list_of(n: usize) -> List {
+    let sheet = busy_sheet();
+    let all = legal_list_for(&mut Random::seeded(7), &sheet, n);
+    assert_eq!(all.len(), n);
+    list_with(sheet, &all)
 }
 
 /// One release at the last tick that is allowed.
@@ -193,6 +209,25 @@ fn time_choice(sheet: &Sheet) -> Vec<f64> {
         },
         &mut || {
             black_box(reference::choice(black_box(sheet), 32, 32, &mut Budget::of(u64::MAX)).is_ok());
+        },
+    ])
+}
+
+fn time_trace(l: &List) -> Vec<f64> {
+    let numbers = numbers_of(&l.sheet);
+    let mut answer = [0u64; 2];
+    assert_eq!(library::trace_check(&numbers, 32, l.n(), l.library(), &mut answer), 0);
+    assert_eq!(answer, [0, 0]);
+    assert_eq!(same_method::trace_check(&l.sheet.tasks, l.n() as usize, l.same()).unwrap(), None);
+    medians(&mut [
+        &mut || {
+            black_box(library::trace_check(black_box(&numbers), 32, l.n(), l.library(), black_box(&mut answer)));
+        },
+        &mut || {
+            black_box(same_method::trace_check(black_box(&l.sheet.tasks), l.n() as usize, l.same()).is_ok());
+        },
+        &mut || {
+            black_box(reference::trace_check(black_box(&l.sheet), l.n() as usize, &l.reference()).is_ok());
         },
     ])
 }
@@ -286,7 +321,8 @@ fn head(first: &str) {
     println!("|---|---|---|---|---|---|");
 }
 
-fn main() {
+/// The calls at full size.
+fn full_size() {
     head("Call");
     let full = full_sheet(32);
     let kept: Vec<u32> = full.tasks.iter().map(|t| t.j / 4).collect();
@@ -294,12 +330,17 @@ fn main() {
     let (sheet, kept) = long_walk();
     line("verdict of task 31 of 32, many q", &time_verdict(&sheet, &kept, 31));
     line("choice of 32 tasks", &time_choice(&full));
+    line("trace check of 1,024 releases", &time_trace(&legal_list_of(1024)));
     let list = list_of(1024);
     line("ready ticks of 1,024 releases", &time_ready(&list));
     line("run of 1,024 releases", &time_run(&list));
     line("run of one release at tick 1,000,000,000", &time_run(&late_list()));
     line("read of 10,785 bytes", &time_read(&list));
     line("write of 10,785 bytes", &time_write(&list));
+}
+
+/// How the cost grows.
+fn growth() {
     head("Tasks");
     for n in [1u32, 2, 4, 8, 16, 32] {
         let sheet = full_sheet(n);
@@ -310,16 +351,29 @@ fn main() {
     head("Releases");
     for n in [64usize, 256, 1024] {
         let list = list_of(n);
+        line(&format!("trace check of {}", n), &time_trace(&legal_list_of(n)));
         line(&format!("ready ticks of {}", n), &time_ready(&list));
         line(&format!("run of {}", n), &time_run(&list));
         line(&format!("read of {}", n), &time_read(&list));
         line(&format!("write of {}", n), &time_write(&list));
     }
+}
+
+fn longest_verdicts() {
     head("Sheet");
     for one in LONGEST {
         let (sheet, kept) = longest(one);
         let (a, t) = (sheet.tasks[0], sheet.tasks[31]);
         let name = format!("31 tasks ({},{},1,1000000) above ({},1,1,1000000)", a.p, a.j, t.p);
         line(&name, &time_verdict(&sheet, &kept, 31));
+    }
+}
+
+/// Without an argument all tables; with `full` the first alone.
+fn main() {
+    full_size();
+    if std::env::args().nth(1).as_deref() != Some("full") {
+        growth();
+        longest_verdicts();
     }
 }

@@ -320,53 +320,54 @@ struct Scanned {
 
 /// Checks a whole file, record by record.
 fn scan(file: &[u8]) -> Result<Scanned, Refusal> {
-    let mut s = Scanned { tasks: [Task { p: 0, j: 0, e: 0, d: 0 }; 32], count: 0, releases: 0 };
-    let (mut at, mut before) = (0, 0);
+    let mut tasks = [Task { p: 0, j: 0, e: 0, d: 0 }; 32];
+    let (mut count, mut releases, mut at, mut before) = (0, 0, 0, 0);
     loop {
         let (kind, size) = record_at(file, at)?;
         match kind {
             1 => {
                 let t = task_at(file, at + 1);
-                if s.releases > 0 {
+                if releases > 0 {
                     return refuse(3, at);
                 }
-                if s.count == MAX_TASKS {
+                if count == MAX_TASKS {
                     return refuse(4, at);
                 }
                 if !in_range(&t) {
                     return refuse(6, at);
                 }
-                s.tasks[s.count] = t;
-                s.count += 1;
+                tasks[count] = t;
+                count += 1;
             }
             2 => {
-                if s.count == 0 {
+                if count == 0 {
                     return refuse(5, at);
                 }
                 let (task, tick, cost) = release_at(file, at + 1);
-                if let Some(number) = check_release(&s.tasks[..s.count], before, task, tick, cost) {
+                if let Some(number) = check_release(&tasks[..count], before, task, tick, cost) {
                     return refuse(number, at);
                 }
-                if s.releases == MAX_RELEASES {
+                if releases == MAX_RELEASES {
                     return refuse(10, at);
                 }
                 before = tick;
-                s.releases += 1;
+                releases += 1;
             }
             _ => {
-                if s.count == 0 {
+                if count == 0 {
                     return refuse(5, at);
                 }
                 if file.len() > at + 1 {
                     return refuse(11, at + 1);
                 }
-                return Ok(s);
+                return Ok(Scanned { tasks, count, releases });
             }
         }
         at += size;
     }
 }
 
+#[inline(always)]
 fn release_at(file: &[u8], at: usize) -> (u32, u32, u32) {
     (file[at] as u32, number_at(file, at + 1), number_at(file, at + 5))
 }
@@ -381,8 +382,10 @@ pub fn read(
         check_slots(slots, n)?;
     }
     *sheet = s.tasks;
-    for p in 0..n {
-        (task[p], tick[p], cost[p]) = release_at(file, 17 * s.count + 10 * p + 1);
+    let (task, tick, cost) = (&mut task[..n], &mut tick[..n], &mut cost[..n]);
+    let records = file[17 * s.count..].chunks_exact(10);
+    for (p, r) in records.take(n).enumerate() {
+        (task[p], tick[p], cost[p]) = release_at(r, 1);
     }
     Ok((s.count, n))
 }

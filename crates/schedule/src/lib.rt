@@ -126,11 +126,10 @@ fn fill_finish(
     let mut left = whole_work(cost, n);
     let mut head = first_jobs(task, n, tasks);
     let mut wake: u64 = 0;
-    let mut next: u64 = 0;
+    let mut t: u64 = 0;
     loop {
-        let t = next;
-        next = t + 1;
         if t < wake {
+            t += 1;
             continue;
         }
         let i = top_ready(&head, ready, n, tasks, t);
@@ -139,13 +138,15 @@ fn fill_finish(
             if wake == NEVER {
                 return;
             }
+            t += 1;
             continue;
         }
         let p = head[i];
         let rest = left[p] - 1;
         left[p] = rest;
+        t += 1;
         if rest == 0 {
-            finish[p] = next as u32;
+            finish[p] = t as u32;
             head[i] = next_of(task, n, i as u32, p + 1);
         }
     }

@@ -9,10 +9,10 @@ use Rattle.schedule.proofs.fill_finish.Statement.{statement}
 use Rattle.schedule.proofs.fill_finish.Tie as tie
 
 abbrev Inv-loop : tie.InvT-loop
-Inv-loop task cost ready n tasks finish₀ left₀ head₀ wake₀ next₀ finish left head wake next = Filling n tasks task cost ready finish₀ next wake head left finish
+Inv-loop task cost ready n tasks finish₀ left₀ head₀ wake₀ t₀ finish left head wake t = Filling n tasks task cost ready finish₀ t wake head left finish
 
 abbrev μ-loop : tie.MeasureT-loop
-μ-loop task cost ready n tasks finish₀ left₀ head₀ wake₀ next₀ finish left head wake next = maxFinish - next
+μ-loop task cost ready n tasks finish₀ left₀ head₀ wake₀ t₀ finish left head wake t = maxFinish - t
 
 whole-work-requires : tie.Need-whole-work-requires Inv-loop μ-loop
 whole-work-requires c κs = omega arith
@@ -24,8 +24,8 @@ loop-holds : tie.Need-loop-holds Inv-loop μ-loop
 loop-holds c =
     fill-start _ _ _ _ _ _ (c .before .before .before .before .before .before .pre) _ _ (c .before .whole-work .ensures) (c .first-jobs .ensures)
 
-add-next : tie.Need-add-next Inv-loop μ-loop
-add-next c = omega arith
+add-t : tie.Need-add-t Inv-loop μ-loop
+add-t c = omega arith
 
 loop-again : tie.Need-loop-again Inv-loop μ-loop
 loop-again c = fill-sleep _ _ _ _ _ _ (c .before .loop .inv .can) _ _ _ _ _ (c .before .loop .inv .state) (c .if1 .taken)
@@ -47,6 +47,9 @@ returns c =
     fill-end _ _ _ _ _ _ (c .before .before .before .before .before .before .before .loop .inv .can) _ _ _ _ _
     (c .before .before .before .before .before .before .before .loop .inv .state)
     (sym (c .before .wake-all .ensures) ∙ c .if3 .taken)
+
+add-t-2 : tie.Need-add-t-2 Inv-loop μ-loop
+add-t-2 c = omega (arith, c .before .before .before .before .before .before .before .loop .inv .state .time)
 
 loop-again-2 : tie.Need-loop-again-2 Inv-loop μ-loop
 loop-again-2 c =
@@ -71,7 +74,7 @@ start c = c .before .before .before .before .before .before .before
 
 top : (c : tie.Else2 Inv-loop μ-loop)
     → Top (jobsOf (start (at c) .args .n) (now (start (at c) .args .task)) (now (start (at c) .args .cost)) (now (start (at c) .args .ready)))
-    (start (at c) .args .tasks) (at c .loop .next) (at c .loop .head) (at c .loop .left) (c .before .top-ready .result)
+    (start (at c) .args .tasks) (at c .loop .t) (at c .loop .head) (at c .loop .left) (c .before .top-ready .result)
 top c = fill-top _ _ _ _ _ _ (at c .loop .inv .can) _ _ _ _ _ (at c .loop .inv .state) _ (c .before .top-ready .ensures) (c .if2 .left)
 
 mul-p : tie.Need-mul-p Inv-loop μ-loop
@@ -94,6 +97,9 @@ mul-left c = omega (arith, top c)
 
 array-write-left : tie.Need-array-write-left Inv-loop μ-loop
 array-write-left c = omega (arith, top c)
+
+add-t-3 : tie.Need-add-t-3 Inv-loop μ-loop
+add-t-3 c = omega (arith, top c)
 
 cast-finish : tie.Need-cast-finish Inv-loop μ-loop
 cast-finish c = omega (arith, top (c .before))
@@ -160,13 +166,14 @@ fill-finish-spec =
     whole-work-requires
     first-jobs-requires
     loop-holds
-    add-next
+    add-t
     loop-less
     loop-again
     top-ready-requires
     wake-all-requires
     same-length
     returns
+    add-t-2
     loop-less-2
     loop-again-2
     mul-p
@@ -176,6 +183,7 @@ fill-finish-spec =
     sub-rest
     mul-left
     array-write-left
+    add-t-3
     cast-finish
     mul-finish
     slice-write-finish
