@@ -56,7 +56,7 @@ fn calls_for(call: &mut dyn FnMut()) -> u32 {
     calls
 }
 
-/// Medians of the times of several calls, each timed in turn; of three repetitions where a call takes over 0.1 s, and one call of
+/// Medians of the times of several calls, each timed in turn; of seven repetitions where a call takes over 0.1 s, and one call of
 /// each where one takes over 1 s.
 fn medians(all: &mut [&mut dyn FnMut()]) -> Vec<f64> {
     let single: Vec<f64> = all.iter_mut().map(|c| once(*c, 1)).collect();
@@ -66,7 +66,7 @@ fn medians(all: &mut [&mut dyn FnMut()]) -> Vec<f64> {
     }
     let calls: Vec<u32> = all.iter_mut().map(|c| calls_for(*c)).collect();
     let mut times: Vec<Vec<f64>> = vec![Vec::new(); all.len()];
-    for _ in 0..if longest > 100_000.0 { 3 } else { REPETITIONS } {
+    for _ in 0..if longest > 100_000.0 { 7 } else { REPETITIONS } {
         for (i, call) in all.iter_mut().enumerate() {
             times[i].push(once(*call, calls[i]));
         }

@@ -157,7 +157,7 @@ fn least_keep(f: &Flat, kept: &[u32], i: usize, t: &Task) -> Option<(u32, u32)> 
         }
         high = high.max((w + j).saturating_sub(base));
         let keep = high.saturating_sub(d);
-        if keep + w <= base + p {
+        if w <= ((q + 1) * p).saturating_sub(keep) {
             return Some((keep as u32, high.min(d) as u32));
         }
         from = w;

@@ -1,4 +1,5 @@
 -- "Entries of a sheet past its count are not looked at .. and do not matter": sheets that agree on the tasks below the count, and the same answer of every call on values.
+-- proofs/SameAnswers.antt proves the second from the first (`same-answers`).
 use Prim.Native.Nat.{ℕ, _<_}
 use mathlib.Core.Path.{_≡_}
 use mathlib.Core.List.{List}

@@ -1,4 +1,4 @@
--- A code tells the number and the place of its refusal: nothing is lost where both go into one number.
+-- A code tells the number and the place of its refusal: nothing is lost where both go into one number. proofs/CodeLaws.antt proves it (`codes-tell`).
 use Prim.Native.Nat.{ℕ, _<_, _/_, _%_}
 use mathlib.Core.Path.{_≡_}
 use mathlib.Core.Bool.{true, false}
