@@ -18,18 +18,19 @@
 static uint32_t sheet[NUMBERS], kept[SLOTS], worst[SLOTS], task[SLOTS], tick[SLOTS], cost[SLOTS], ready[SLOTS], finish[SLOTS];
 static uint8_t file[NOLKRADA_READ_BYTES];
 static uint64_t answer[3], code;
-/* The parts of a call that a case changes: how many tasks, releases, slots and bytes there are, and which task is asked for. */
+/* The parts of a call that a case changes: how many tasks, releases, slots, bytes, numbers of a sheet that is
+ * read and words there are, and which task is asked for. */
 static uint32_t tasks, releases, which;
-static size_t slots, bytes;
+static size_t slots, bytes, numbers_lent, words;
 
 static void nothing(void) { code = 0; }
 static void arrival_count(void) {
-    code = nolkrada_arrival_count(sheet, NUMBERS, tasks, which, kept, slots, 1000000, answer, 3);
+    code = nolkrada_arrival_count(sheet, NUMBERS, tasks, which, kept, slots, 1000000, answer, words);
 }
-static void verdict(void) { code = nolkrada_verdict(sheet, NUMBERS, tasks, which, kept, slots, answer, 3); }
+static void verdict(void) { code = nolkrada_verdict(sheet, NUMBERS, tasks, which, kept, slots, answer, words); }
 static void choice(void) { code = nolkrada_choice(sheet, NUMBERS, tasks, kept, slots, worst, slots); }
 static void trace_check(void) {
-    code = nolkrada_trace_check(sheet, NUMBERS, tasks, releases, task, slots, tick, slots, cost, slots, answer, 3);
+    code = nolkrada_trace_check(sheet, NUMBERS, tasks, releases, task, slots, tick, slots, cost, slots, answer, words);
 }
 static void ready_ticks(void) {
     code = nolkrada_ready(sheet, NUMBERS, tasks, kept, slots, releases, task, slots, tick, slots, cost, slots, ready, slots);
@@ -39,10 +40,10 @@ static void run(void) {
                         slots);
 }
 static void read_file(void) {
-    code = nolkrada_read(file, bytes, sheet, NUMBERS, task, slots, tick, slots, cost, slots, answer, 3);
+    code = nolkrada_read(file, bytes, sheet, numbers_lent, task, slots, tick, slots, cost, slots, answer, words);
 }
 static void write_file(void) {
-    code = nolkrada_write(sheet, NUMBERS, tasks, releases, task, slots, tick, slots, cost, slots, file, bytes, answer, 3);
+    code = nolkrada_write(sheet, NUMBERS, tasks, releases, task, slots, tick, slots, cost, slots, file, bytes, answer, words);
 }
 
 /* 32 tasks, 1,024 releases and their file. */
@@ -62,6 +63,8 @@ static void full(void) {
     which = NOLKRADA_MAX_TASKS - 1;
     slots = SLOTS;
     bytes = NOLKRADA_MAX_FILE;
+    numbers_lent = NUMBERS;
+    words = 3;
     write_file();
 }
 
@@ -77,7 +80,9 @@ static void tight(void) { sheet[NUMBERS - 1] = 60; }
 static void crowded(void) { memset(tick, 0, sizeof tick); }
 static void cut(void) { bytes = NOLKRADA_MAX_FILE - 1; }
 static void one_more_byte(void) { file[bytes++] = 0; }
-static void (*const cases[])(void) = {nothing, no_slots, many_tasks, many_releases, no_such_task, last_range, last_cost,
+static void few_numbers(void) { numbers_lent = NUMBERS - 1; }
+static void no_words(void) { words = 0; }
+static void (*const cases[])(void) = {nothing, few_numbers, no_words, no_slots, many_tasks, many_releases, no_such_task, last_range, last_cost,
                                       last_kept, tight, crowded, cut, one_more_byte};
 
 static unsigned char room[1 << 16];

@@ -8,7 +8,6 @@ ghost use Prim.Native.Nat.{_≤_};
 ghost use lib.ListN.{length};
 ghost use Rattle.model.specs.Checks.{checkTasks};
 ghost use Rattle.model.specs.Choice.{choice};
-ghost use Rattle.model.specs.Calls.{releasesOf};
 ghost use Rattle.taskset.specs.TaskSet.{viewOf};
 ghost use Rattle.report.specs.PutLine.{PutLine};
 ghost use Rattle.answers.specs.Answers.{chosenText, chooseText, listText, replayText, Printed};

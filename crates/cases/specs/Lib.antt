@@ -1,2 +1,2 @@
--- What the blocks of a case mean, and laws of it.
+-- What the blocks of a case mean.
 pub mod Cases

@@ -1,5 +1,5 @@
 -- The search for W(q) by a rising list: what holds at its head.
-use Prim.Native.Nat.{ℕ, _-_, _≤_, _<_}
+use Prim.Native.Nat.{ℕ, _≤_, _<_}
 use Rattle.model.specs.Tasks.{Tasks}
 use Rattle.model.specs.Demand.{demand}
 

@@ -1,4 +1,5 @@
 -- "Entries of a sheet past its count .. do not matter": a write of either of two task sets, whatever else goes in.
+-- proofs/SameWriteLaws.antt proves it where their sheets agree below the count, `SameTasks` (`same-writes`).
 use Prim.Native.Nat.{ℕ}
 use mathlib.Core.Path.{_≡_}
 use mathlib.Core.List.{List}

@@ -8,7 +8,8 @@ use Rattle.model.specs.Run.{jobs}
 use Rattle.model.specs.Demand.{aboveLoad}
 use Rattle.model.specs.Claims.{Trace, used, leftOver, isTask, isAbove, Limit, Share}
 use Rattle.model.proofs.SeriesLaws.{most-le}
-use Rattle.theory.specs.Windows.{usedBy, spareBy}
+use Rattle.theory.specs.Windows.{usedBy}
+use Rattle.theory.proofs.JobWindows.{spareBy}
 use Rattle.theory.proofs.LimitOfJobs.{idle-spare}
 use Rattle.processor.proofs.PlainDemand.{supply-plain, above-plain}
 use Rattle.processor.specs.ProcessorClaims.{LimitOn, ShareOn}

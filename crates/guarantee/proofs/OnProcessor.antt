@@ -11,5 +11,5 @@ demand-on m r s periods costs k kept i h = record {
   limit = λ l tr. limit-on m r s k i l tr (periods i h);
   share = λ l tr. share-on m r s k i l tr (λ j g. periods j (omega arith));
   if-fits = fits-on m r s k i (λ j g. periods j (omega arith));
-  if-late = missed-on m r s periods costs k kept i h;
+  if-late = λ d. missed-on m r s periods costs k kept i h d .0;
 }

@@ -8,7 +8,8 @@ use Rattle.model.specs.Processor.{plain}
 use Rattle.model.specs.Tasks.{Tasks, Release}
 use Rattle.model.specs.Run.{jobs, leftAt, finishAt}
 use Rattle.model.specs.Claims.{Trace, Finished}
-use Rattle.theory.specs.Windows.{AllOurs, Clear}
+use Rattle.theory.proofs.JobWindows.{AllOurs}
+use Rattle.theory.specs.Windows.{Clear}
 use Rattle.theory.proofs.FinishLaws.{finish-done, finish-by}
 use Rattle.processor.proofs.PlainDemand.{regular}
 use Rattle.processor.proofs.JobLaws.{some-work}

@@ -23,7 +23,7 @@ use Rattle.model.specs.Choice.{Choice, unfit, chosen, column, andKeep, i
 use Rattle.model.specs.Refusal.{Refusal, answered, firstOf}
 use Rattle.model.specs.Checks.{Lent, Inputs, inRange, refuseAt, refuseIf, checkRanges, checkTasks, checkTask, checkCount, checkSlots, checkKept, releaseFault, checkReleases, checkChoice, refusalOf, answerOf}
 use Rattle.model.specs.Calls.{lends, releasesOf, columnAfter, taskInputs, arrivalCall, verdictCall, unfitOf, choiceInputs, keptColumn, worstColumn, listInputs, traceCall, readyInputs, runInputs}
-use Rattle.model.specs.SameTasks.{SameTasks, SameAnswers}
+use Rattle.model.specs.SameTasks.{SameTasks, SameAnswers, SameTasksAnswerSame}
 use Rattle.model.proofs.SeriesLaws.{le-or-lt}
 use Rattle.model.proofs.CheckLaws.{valid-of, task-of}
 use Rattle.model.proofs.OrderLaws.{accepted-of, column-kept, answers, refuses}
@@ -222,10 +222,9 @@ module _ (s s′ : Tasks) (same : SameTasks s s′) where
   run-refused kept n task tick cost ready finish =
       refusal-same none (some n) _ _ (some (column kept)) (releasesOf n task tick cost) none none (lends-same kept _) refl
 
-  -- entries past the count do not matter
-  pub same-answers : SameAnswers s s′
+  all-same : SameAnswers s s′
   unfolding arrivalCall verdictCall traceCall
-  same-answers =
+  all-same =
       record {
         arrival = λ i kept t.
             answer-same (taskInputs s i kept) (taskInputs s′ i kept) _ _ (task-refusal i kept)
@@ -251,3 +250,7 @@ module _ (s s′ : Tasks) (same : SameTasks s s′) where
             column-same _ _ _ _ finish (run-refused kept n task tick cost ready finish)
             (λ e. finish-list-same (releasesOf n task tick cost) (known-of (runInputs s kept n task tick cost ready finish) refl e) (column kept));
       }
+
+-- entries past the count do not matter
+pub same-answers : SameTasksAnswerSame
+same-answers s s′ same = all-same s s′ same

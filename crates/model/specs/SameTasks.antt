@@ -1,5 +1,6 @@
--- "Entries of a sheet past its count are not looked at .. and do not matter": sheets that agree on the tasks below the count, and the same answer of every call on values.
--- proofs/SameAnswers.antt proves the second from the first (`same-answers`).
+-- "Entries of a sheet past its count are not looked at .. and do not matter": sheets that agree on the tasks below the count,
+-- and the same answer of every call on values.
+-- proofs/SameAnswers.antt proves that the first gives the second (`same-answers`).
 use Prim.Native.Nat.{ℕ, _<_}
 use mathlib.Core.Path.{_≡_}
 use mathlib.Core.List.{List}
@@ -56,3 +57,7 @@ pub record SameAnswers (s s′ : Tasks) : Type 0 where
       : (kept : List ℕ) (n : ℕ) (task tick cost ready finish : List ℕ)
       → columnAfter (refusalOf (runInputs s kept n task tick cost ready finish)) (finishList s (column kept) (releasesOf n task tick cost)) finish
       ≡ columnAfter (refusalOf (runInputs s′ kept n task tick cost ready finish)) (finishList s′ (column kept) (releasesOf n task tick cost)) finish
+
+-- such sheets get such answers
+abbrev pub SameTasksAnswerSame : Type 0
+SameTasksAnswerSame = (s s′ : Tasks) → SameTasks s s′ → SameAnswers s s′

@@ -1,11 +1,10 @@
 -- Document 01's twelve sums as one table, and what it means that they hold; proofs/Sums.antt proves it (`sums`).
-use Prim.Native.Nat.{ℕ, _-_}
+use Prim.Native.Nat.{ℕ}
 use mathlib.Core.Path.{_≡_}
 use mathlib.Core.Option.{some}
 use mathlib.Core.List.{List, [], _∷_, map}
 use lib.ListN.{length, getD}
 use lib.IntN.{pos}
-use Rattle.model.specs.Series.{sum}
 use Rattle.model.specs.Tasks.{Tasks, Release}
 use Rattle.model.specs.Arrival.{arrivals}
 use Rattle.model.specs.Gap.{gap}

@@ -13,19 +13,8 @@ use Rattle.model.specs.Refusal.{Refusal, Answer, refused, answered, firstOf}
 use Rattle.model.specs.Checks.{Lent, Inputs, refuseAt, refuseIf, checkRanges, checkTasks, checkTask, checkCount, checkSlots, checkKept, releaseFault, checkReleases, checkChoice, refusalOf, answerOf}
 use Rattle.model.proofs.CheckLaws.{slots-short, slots-next, slots-none, slots-first, slots-rest}
 use Rattle.nolkrada.specs.Interface.{afterSlots, tooFew, withSlots}
+use Rattle.nolkrada.specs.SlotsLast.{alsoLends, SlotsLast}
 use Rattle.nolkrada.proofs.InterfaceLaws.{with-enough, with-few, kept-before, few-before}
-
--- the inputs of a call to which one more slice is lent, the last of its slices
-abbrev pub alsoLends : ℕ → ℕ → Inputs → Inputs
-alsoLends n slots c = record {
-  tasks = c .tasks;
-  single = c .single;
-  count = c .count;
-  lent = c .lent ++ (record { needed = n; slots = slots } ∷ []);
-  kept = c .kept;
-  releases = c .releases;
-  unfit = c .unfit;
-}
 
 -- a refusal, if any, whose number comes after the slices (true) or not (false)
 abbrev Side : Bool → Option Refusal → Type 0
@@ -174,10 +163,10 @@ module _ {A : Type 0} (n slots : ℕ) (a : A) where
   unfolding answerOf refusalOf
   last-enough c h = with-enough n slots (answerOf c a) h ∙ rw (answerOf, refusalOf, slots-extra (c .lent) (record { needed = n; slots = slots }) h) refl
 
-  -- the answer of a call with the slice put last, given the answer of the call without it
-  pub slots-last : (c : Inputs) → withSlots n slots (answerOf c a) ≡ answerOf (alsoLends n slots c) a
-  slots-last c = go (ltb slots n) refl
-    where
-      go : (b : Bool) → ltb slots n ≡ b → withSlots n slots (answerOf c a) ≡ answerOf (alsoLends n slots c) a
-      go true h = last-few c (ltb-true _ _ h)
-      go false h = last-enough c (ltb-false _ _ h)
+-- the answer of a call with the slice put last, given the answer of the call without it
+pub slots-last : SlotsLast
+slots-last A n slots a c = go (ltb slots n) refl
+  where
+    go : (b : Bool) → ltb slots n ≡ b → withSlots n slots (answerOf c a) ≡ answerOf (alsoLends n slots c) a
+    go true h = last-few n slots a c (ltb-true _ _ h)
+    go false h = last-enough n slots a c (ltb-false _ _ h)

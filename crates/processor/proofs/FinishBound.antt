@@ -11,7 +11,7 @@ use Rattle.model.specs.Run.{jobs, finishAt}
 use Rattle.model.specs.Claims.{Trace}
 use Rattle.shaper.proofs.GapLaws.{gap-le}
 use Rattle.trace.proofs.ReadyAtLaws.{Since, ready-at-closed}
-use Rattle.theory.specs.Windows.{place}
+use Rattle.theory.proofs.JobWindows.{place}
 use Rattle.theory.proofs.EndLaws.{start-high, finish-high}
 use Rattle.processor.specs.FinishBound.{FinishBounded}
 use Rattle.processor.proofs.SamePlace.{same-place}

@@ -16,7 +16,7 @@ use Rattle.shaper.proofs.GapLaws.{gap-mono}
 use Rattle.trace.proofs.PositionLaws.{place-le}
 use Rattle.trace.proofs.LegalLaws.{legal-at}
 use Rattle.trace.proofs.ReadyAtLaws.{Since, ready-at-closed}
-use Rattle.theory.specs.Windows.{supply}
+use Rattle.theory.proofs.JobWindows.{supply}
 use Rattle.theory.proofs.RunLaws.{left-later}
 use Rattle.theory.proofs.FitsOfJobs.{Walk, Done, fits-core}
 use Rattle.processor.specs.ProcessorDemand.{Regular, loadOn, supplyOn, aboveOn, demandOn}

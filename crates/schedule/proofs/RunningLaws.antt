@@ -11,7 +11,7 @@ use lib.ListN.{length, getD}
 use Rattle.model.specs.Limits.{maxTasks, maxReleases}
 use Rattle.model.specs.Run.{Jobs, leftAt, runs, finishOf}
 use Rattle.model.proofs.SeriesLaws.{le-by}
-use Rattle.theory.specs.Windows.{AllOurs, Before}
+use Rattle.theory.proofs.JobWindows.{AllOurs, Before}
 use Rattle.theory.proofs.RunLaws.{none-some, Picked, runs-some, runs-none, left-same, left-other}
 use Rattle.theory.proofs.FinishLaws.{finish-not, finish-late}
 use Rattle.schedule.specs.Schedule.{maxFinish}

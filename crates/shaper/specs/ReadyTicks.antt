@@ -4,7 +4,6 @@ use mathlib.Core.Path.{_≡_}
 use mathlib.Core.List.{List}
 use lib.ListN.{length, getD}
 use Rattle.model.specs.Gap.{gap}
-use Rattle.model.specs.Ready.{after}
 
 -- "ready ticks" as document 01 defines them: r is a list of ticks, one for each release, each the least that is not before its release
 -- and lies at least d_K(k) after the one k places before, for every k

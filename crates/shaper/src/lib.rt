@@ -3,7 +3,7 @@ use numbers::larger;
 use numbers::less;
 use numbers::wide;
 ghost use mathlib.Core.Path.{_≡_};
-ghost use mathlib.Core.List.{List, []};
+ghost use mathlib.Core.List.{[]};
 ghost use Rattle.model.specs.Gap as model_gap;
 ghost use Rattle.shaper.specs.Shaper.{stateOf, Small, Shapes};
 

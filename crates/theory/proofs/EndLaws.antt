@@ -9,7 +9,7 @@ use lib.Dec.{ltb, eqb}
 use Rattle.model.specs.Series.{on, sum}
 use Rattle.model.specs.Run.{Jobs, finishOf}
 use Rattle.model.proofs.SeriesLaws.{le-by, sum-le, sum-longer}
-use Rattle.theory.specs.Windows.{place, rest, AllOurs}
+use Rattle.theory.proofs.JobWindows.{place, rest, AllOurs}
 use Rattle.theory.proofs.WorkLaws.{Latest, latest}
 use Rattle.theory.proofs.FinishLaws.{every, rest-done, finish-by}
 use Rattle.theory.proofs.FitsOfJobs.{Lead, lead-of}

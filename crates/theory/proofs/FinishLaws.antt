@@ -11,7 +11,7 @@ use lib.Dec.{ltb}
 use Rattle.model.specs.Series.{on, sum, most}
 use Rattle.model.specs.Run.{Jobs, leftAt, runs, isJob, runsIn, endOf, finishOf}
 use Rattle.model.proofs.SeriesLaws.{le-by, le-or-lt, clash, on-true, on-nil, on-le, sum-add, sum-ge, most-ge, most-le}
-use Rattle.theory.specs.Windows.{AllOurs, supply, came, rest}
+use Rattle.theory.proofs.JobWindows.{AllOurs, supply, came, rest}
 use Rattle.theory.proofs.RunLaws.{runs-some, left-zero, left-ran, left-later, finished-rests}
 use Rattle.theory.proofs.WorkLaws.{supply-all, busy, Latest, latest, latest-done}
 

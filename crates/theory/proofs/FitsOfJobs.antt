@@ -10,7 +10,7 @@ use lib.Dec.{leb, eqb}
 use Rattle.model.specs.Series.{sum}
 use Rattle.model.specs.Run.{Jobs, leftAt}
 use Rattle.model.proofs.SeriesLaws.{le-by, le-or-lt, clash, and-left, and-right, and-both}
-use Rattle.theory.specs.Windows.{place, supply, Spaced, Bounded, win, upto}
+use Rattle.theory.proofs.JobWindows.{place, supply, Spaced, Bounded, win, upto}
 use Rattle.theory.proofs.RunLaws.{left-later}
 use Rattle.theory.proofs.WorkLaws.{Quiet, busy, Latest, latest, latest-done}
 use Rattle.theory.proofs.PlaceLaws.{first-of, place-mono}

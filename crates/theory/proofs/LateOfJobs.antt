@@ -11,7 +11,7 @@ use Rattle.model.specs.Series.{on, sum}
 use Rattle.model.specs.Run.{Jobs, leftAt}
 use Rattle.model.specs.Claims.{isTask, isAbove}
 use Rattle.model.proofs.SeriesLaws.{le-by, and-left, and-right, and-both, sum-scale-up}
-use Rattle.theory.specs.Windows.{place, supply, doneBy, came, back, win, ofThose, Before, upto}
+use Rattle.theory.proofs.JobWindows.{place, supply, doneBy, came, back, win, ofThose, Before, upto}
 use Rattle.theory.proofs.RunLaws.{Picked, runs-some, left-step}
 use Rattle.theory.proofs.WorkLaws.{done-back, done-le, back-zero}
 use Rattle.theory.proofs.FinishLaws.{LastTick, last-tick}

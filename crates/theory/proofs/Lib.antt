@@ -1,4 +1,5 @@
 -- Laws of a run of any jobs, on any ticks of ours: what runs, what is left, when jobs finish; limit, share, fits and late over jobs. From the ground up.
+pub mod JobWindows
 pub mod RunLaws
 pub mod WorkLaws
 pub mod FinishLaws

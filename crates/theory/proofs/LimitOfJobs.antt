@@ -9,7 +9,8 @@ use Rattle.model.specs.Series.{on, sum}
 use Rattle.model.specs.Run.{Jobs, runs}
 use Rattle.model.specs.Claims.{isTask, isAbove, ofTasks}
 use Rattle.model.proofs.SeriesLaws.{sum-le, sum-longer}
-use Rattle.theory.specs.Windows.{supply, usedBy, spareBy, idleBy, Spaced, Clear, Bounded, doneBy, ofSet, ran, win, ofThose}
+use Rattle.theory.proofs.JobWindows.{supply, spareBy, Spaced, Bounded, doneBy, ofSet, ran, win, ofThose}
+use Rattle.theory.specs.Windows.{usedBy, idleBy, Clear}
 use Rattle.theory.proofs.WorkLaws.{done-back, done-suc, back-zero}
 use Rattle.theory.proofs.LoadLaws.{came-win, win-own, win-above}
 

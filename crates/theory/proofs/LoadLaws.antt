@@ -11,7 +11,7 @@ use Rattle.model.specs.Series.{on, sum}
 use Rattle.model.specs.Run.{Jobs}
 use Rattle.model.specs.Claims.{isTask, isAbove}
 use Rattle.model.proofs.SeriesLaws.{le-by, le-or-lt, clash, and-left, and-right, and-both, on-false, on-nil, sum-add, sum-nil, sum-scale}
-use Rattle.theory.specs.Windows.{place, Spaced, Bounded, came, win, ofThose}
+use Rattle.theory.proofs.JobWindows.{place, Spaced, Bounded, came, win, ofThose}
 use Rattle.theory.proofs.PlaceLaws.{first-of, place-mono, count-le}
 
 -- work that starts before a window, in it, and before its end

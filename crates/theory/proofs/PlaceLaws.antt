@@ -8,7 +8,7 @@ use borrow.Author.Tests.{eqb-true, eqb-false, eq-eqb, ne-eqb}
 use lib.Dec.{eqb}
 use Rattle.model.specs.Series.{on, sum}
 use Rattle.model.proofs.SeriesLaws.{below-suc, le-or-lt, on-true, on-false, on-le, sum-longer}
-use Rattle.theory.specs.Windows.{place}
+use Rattle.theory.proofs.JobWindows.{place}
 
 -- the first member of a set below n, or none
 pub first-of : (v : ℕ → Bool) (n : ℕ)

@@ -10,7 +10,7 @@ use borrow.Author.Tests.{ltb-true, ltb-false, leb-true, eqb-true, eqb-false, le-
 use lib.Dec.{ltb, leb, eqb}
 use Rattle.model.specs.Run.{Jobs, pending, prefer, top, pick, less, leftAt, runs}
 use Rattle.model.proofs.SeriesLaws.{below-suc, le-by, clash, and-left, and-right}
-use Rattle.theory.specs.Windows.{Before}
+use Rattle.theory.proofs.JobWindows.{Before}
 
 -- nothing is not something
 pub none-some : (p : ℕ) → _≡_ {A = Option ℕ} none (some p) → ⊥

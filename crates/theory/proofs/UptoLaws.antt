@@ -11,7 +11,7 @@ use Rattle.model.specs.Series.{on, sum}
 use Rattle.model.specs.Run.{Jobs}
 use Rattle.model.specs.Claims.{isAbove}
 use Rattle.model.proofs.SeriesLaws.{le-or-lt, and-left, and-right, and-both, sum-scale}
-use Rattle.theory.specs.Windows.{place, win, ofThose, Down, upto}
+use Rattle.theory.proofs.JobWindows.{place, win, ofThose, Down, upto}
 use Rattle.theory.proofs.PlaceLaws.{count-le}
 use Rattle.theory.proofs.LoadLaws.{cap, inWindow, in-low, in-high, win-add}
 

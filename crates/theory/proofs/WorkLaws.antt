@@ -11,7 +11,7 @@ use lib.Dec.{ltb}
 use Rattle.model.specs.Series.{on, sum}
 use Rattle.model.specs.Run.{Jobs, leftAt, runs}
 use Rattle.model.proofs.SeriesLaws.{below-suc, le-by, clash, and-left, and-right, on-true, on-false, on-nil, on-le, and-both, sum-eq, sum-add, sum-nil, sum-zero, sum-bump}
-use Rattle.theory.specs.Windows.{supply, AllOurs, doneBy, came, back, ofSet, ran, Down}
+use Rattle.theory.proofs.JobWindows.{supply, AllOurs, doneBy, came, back, ofSet, ran, Down}
 use Rattle.theory.proofs.RunLaws.{none-some, Picked, runs-some, runs-none, runs-off, left-same, left-other, left-step, left-le, left-later, left-early}
 
 one-zero : _≡_ {A = ℕ} 1 0 → ⊥

@@ -1,2 +1,3 @@
--- Windows of ticks in a run of any jobs: what is used, left over and asked for in them.
+-- The facts of a run of any jobs, and windows of ticks in it.
+pub mod Facts
 pub mod Windows

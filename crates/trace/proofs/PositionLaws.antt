@@ -99,10 +99,6 @@ module _ (l : List Release) where
   place-back i m p g g′ em ep h =
       dite (decLe m p) (λ a. a) (λ a. absurd (let u : place l p < place l m = place-lt i p m (omega arith) g ep em in omega arith))
 
-  pub place-back-lt : (i m p : ℕ) → m < length l → releaseAt l m .task ≡ i → releaseAt l p .task ≡ i → place l m < place l p → m < p
-  place-back-lt i m p g em ep h =
-      dite (decLt m p) (λ a. a) (λ a. absurd (let u : place l p ≤ place l m = place-le i p m (omega arith) g ep em in omega arith))
-
   -- a task's own list, about a position of the task
   pub own-split : (i p : ℕ) → p < length l → releaseAt l p .task ≡ i
       → own i l ≡ own i (take p l) ++ (releaseAt l p .tick ∷ own i (drop (suc p) l))

@@ -1,7 +1,6 @@
 // Response bound and verdict of one task.
 ghost use mathlib.Core.Path.{_≡_};
 ghost use Prim.Native.Nat.{_≤_};
-ghost use lib.IntN.{pos};
 ghost use Rattle.model.specs.Refusal.{answered};
 ghost use Rattle.model.specs.Choice.{column};
 ghost use Rattle.model.specs.Bound as model_bound;

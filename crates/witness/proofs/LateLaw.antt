@@ -1,6 +1,6 @@
 -- On any processor: where R(q) > D there is a list in whose run a job of the task is late.
 use Prim.Native.Nat.{ℕ, _+_, _-_, _*_, _/_, _≤_, _<_}
-use mathlib.Core.Path.{_≡_}
+use mathlib.Core.Path.{_≡_, refl}
 use mathlib.Core.Logic.{dite}
 use native.Mathlib.Omega.{arith}
 use native.Mathlib.Decide.{decLe}
@@ -9,6 +9,7 @@ use native.Mathlib.Nat.{lt-div-mul-add, div-mul-le-self}
 use Rattle.model.specs.Gap.{gap}
 use Rattle.shaper.proofs.GapLaws.{gap-le}
 use Rattle.trace.proofs.PositionLaws.{Held}
+use Rattle.processor.specs.ProcessorClaims.{MissedOn}
 use Rattle.witness.specs.LateList.{leadOf, leadIn, baseOf, firstOf, lateList, LateShown}
 use Rattle.witness.proofs.ScenarioLaws.{scenario-trace, scenario-legal, scenario-ticks, last-job, last-release}
 use Rattle.witness.proofs.LateRun.{not-finished}
@@ -32,18 +33,7 @@ lead P J K q p = dite (decLe J (q * P + K)) none-before some-before
         rw (leadOf, lt-leb J (q * P + K) (omega arith)) (record { small = omega arith; reached = omega arith })
 
 pub missed-on : LateShown
-missed-on m r s periods costs k kept i hi d = record {
-  list = lateList (r .pickup) s k i (d .q) (d .w) (d .from);
-  trace = scenario-trace s k i base first last (d .w) costs hi;
-  legal = scenario-legal s k i base first last (d .w) kept;
-  ticks = scenario-ticks s k i base first last (d .w) (λ j g. periods j (omega arith)) _ (omega (arith, above-from)) (omega (arith, own-from, b .small));
-  job = h .at;
-  in-list = h .inside;
-  own-job = h .of-task;
-  not-done =
-      not-finished m r s k i base first (leadIn s k i (d .q)) (d .q) (d .w) (d .from) periods costs kept hi above-from own-from (d .some-tick) (d .unmet) h _
-      (omega (arith, d .over, b .reached, last-release s k i base first last (d .w) h, own-from));
-}
+missed-on m r s periods costs k kept i hi d = (late, refl)
   where
     b : Lead (s .period i) (s .jitter i) (k i) (d .q) (leadIn s k i (d .q))
     b = lead (s .period i) (s .jitter i) (k i) (d .q) (periods i hi)
@@ -67,3 +57,17 @@ missed-on m r s periods costs k kept i hi d = record {
 
     own-from : first + gap (s .period i) (k i) (leadIn s k i (d .q)) + r .pickup ≡ d .from
     own-from = omega (arith, d .room, b .small, gap-le (s .period i) (k i) (leadIn s k i (d .q)))
+
+    late : MissedOn m s k i (d .from + d .w + s .jitter i + s .period i + d .q * s .period i)
+    late = record {
+      list = lateList (r .pickup) s k i (d .q) (d .w) (d .from);
+      trace = scenario-trace s k i base first last (d .w) costs hi;
+      legal = scenario-legal s k i base first last (d .w) kept;
+      ticks = scenario-ticks s k i base first last (d .w) (λ j g. periods j (omega arith)) _ (omega (arith, above-from)) (omega (arith, own-from, b .small));
+      job = h .at;
+      in-list = h .inside;
+      own-job = h .of-task;
+      not-done =
+          not-finished m r s k i base first (leadIn s k i (d .q)) (d .q) (d .w) (d .from) periods costs kept hi above-from own-from (d .some-tick) (d .unmet) h _
+          (omega (arith, d .over, b .reached, last-release s k i base first last (d .w) h, own-from));
+    }

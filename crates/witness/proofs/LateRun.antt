@@ -14,7 +14,7 @@ use Rattle.model.specs.Run.{Jobs, jobsOn, leftAt}
 use Rattle.shaper.proofs.GapLaws.{gap-mono}
 use Rattle.trace.proofs.PositionLaws.{Held}
 use Rattle.trace.proofs.ReadyAtLaws.{ready-rising}
-use Rattle.theory.specs.Windows.{supply}
+use Rattle.theory.proofs.JobWindows.{supply}
 use Rattle.theory.proofs.RunLaws.{left-later}
 use Rattle.theory.proofs.LateOfJobs.{Burst, Queue, late-core}
 use Rattle.processor.specs.ProcessorDemand.{Regular, loadOn, supplyOn, aboveOn, demandOn}

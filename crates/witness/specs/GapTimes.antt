@@ -1,5 +1,5 @@
 -- Releases of one task, the x-th of them d_S(x) ticks after a base tick.
-use Prim.Native.Nat.{ℕ, _+_, _-_}
+use Prim.Native.Nat.{ℕ, _+_}
 use Rattle.model.specs.Gap.{gap}
 
 -- the x-th release

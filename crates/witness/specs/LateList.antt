@@ -1,5 +1,6 @@
 -- The list of releases that a late verdict promises, and the statement about it; proofs/LateLaw.antt proves it (`missed-on`).
 use Prim.Native.Nat.{ℕ, suc, _+_, _-_, _*_, _/_, _≤_, _<_}
+use mathlib.Core.Path.{_≡_}
 use mathlib.Core.Bool.{true, false}
 use mathlib.Core.List.{List}
 use lib.Dec.{leb}
@@ -32,10 +33,11 @@ abbrev pub lateList : ℕ → Tasks → (ℕ → ℕ) → ℕ → ℕ → ℕ �
 lateList pickup s k i q w from =
     scenario s k i (baseOf pickup from) (firstOf s k i (baseOf pickup from) (leadIn s k i q)) (leadIn s k i q + q) w
 
--- a late q has a list with every task's releases legal and no tick after the given one, in whose run a job of task i is not finished D ticks after its release.
+-- a late q has this list: every task's releases are legal, no tick is after the given one, and in its run a job of task i is not finished D ticks after its release.
 -- Periods and costs are at least 1 and the kept jitters at most J; no other limit of the task set is used
 abbrev pub LateShown : Type 0
 LateShown =
     (m : Processor) (r : Regular m) (s : Tasks) → ((j : ℕ) → j < s .count → 1 ≤ s .period j) → ((j : ℕ) → j < s .count → 1 ≤ s .cost j)
     → (k : ℕ → ℕ) → ((j : ℕ) → j < s .count → k j ≤ s .jitter j) → (i : ℕ) → i < s .count
-    → (d : LateOn m r s k i) → MissedOn m s k i (d .from + d .w + s .jitter i + s .period i + d .q * s .period i)
+    → (d : LateOn m r s k i) → (x : MissedOn m s k i (d .from + d .w + s .jitter i + s .period i + d .q * s .period i))
+    × (x .list ≡ lateList (r .pickup) s k i (d .q) (d .w) (d .from))

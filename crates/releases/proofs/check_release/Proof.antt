@@ -1,5 +1,4 @@
 -- Each test that fails is the fault of its number, the tests before it having passed.
-use borrow.Author.Needs.{needs}
 use native.Mathlib.Omega.{arith}
 use Rattle.model.proofs.TraceLaws.{fault-early, fault-late, fault-idle, fault-cost, fault-none}
 use Rattle.releases.proofs.ReleaseLaws.{faulty, faultless}

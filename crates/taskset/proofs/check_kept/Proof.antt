@@ -1,5 +1,5 @@
 -- The loop has passed every task below i: each has K ≤ J.
-use Prim.Native.Nat.{_≤_, _-_}
+use Prim.Native.Nat.{_-_}
 use borrow.Author.Tests.{lt-ltb, le-ltb}
 use native.Mathlib.Omega.{arith}
 use Rattle.model.specs.Choice.{column}
