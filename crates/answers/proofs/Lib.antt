@@ -4,4 +4,5 @@ pub mod AnswerColumnLaws
 pub mod AnswerLaws
 pub mod ByPlaceLaws
 pub mod ReplayLaws
+pub mod LoadedTextLaws
 pub mod SaidLaws

@@ -1,7 +1,8 @@
--- What each program prints for the bytes of a file.
+-- What each program prints for the bytes of a file or of a text sheet.
 use Prim.Native.Nat.{ℕ}
 use mathlib.Core.Path.{_≡_}
-use mathlib.Core.List.{List, map}
+use mathlib.Core.Bool.{true}
+use mathlib.Core.List.{List, map, _++_}
 use lib.ListN.{length, take}
 use lib.IntN.{natAbs}
 use Rattle.model.specs.Tasks.{Tasks, Release}
@@ -11,6 +12,9 @@ use Rattle.model.specs.Run.{finishList}
 use Rattle.model.specs.Calls.{releasesOf}
 use Rattle.model.specs.Choice.{Choice, unfit, chosen, column, choice}
 use Rattle.fileformat.specs.File.{sheetOf, decode}
+use Rattle.textformat.specs.TextSheet.{load}
+use Rattle.loader.specs.declared.Loader.{Loader}
+use Rattle.loader.specs.Loader.{fresh, fed, decided}
 use Rattle.report.specs.Report.{choiceText, runText, refusalText}
 use Rattle.report.specs.PutLine.{PutLine}
 
@@ -37,6 +41,14 @@ chooseText f =
       | answered x ↦ chosenText (sheetOf (x .tasks)) (choice (sheetOf (x .tasks)))
     ]
 
+-- the third program prints the choice for a text sheet, or a refusal with the line's number
+unfoldable pub chooseCsvText : List ℕ → List ℕ
+chooseCsvText text =
+    elim (load text) [
+      | refused r ↦ refusalText (r .number) (r .place)
+      | answered ts ↦ chosenText (sheetOf ts) (choice (sheetOf ts))
+    ]
+
 -- the text of a run of n releases in columns, with the chosen kept jitters
 unfoldable pub listText : Tasks → ℕ → List ℕ → List ℕ → List ℕ → Choice → List ℕ
 listText s n task tick cost (unfit i) = refusalText 15 i
@@ -60,3 +72,8 @@ WasRead file buffer n = take n buffer ≡ take (length buffer) file
 pub record Printed (text : List ℕ → List ℕ) (m : ℕ) (buffer : List ℕ) (n : ℕ) (held now : List ℕ) (r : ℕ) : Type 0 where
   pub line : PutLine m held 0 (text (take n buffer)) now r
   pub whole : (file : List ℕ) → WasRead file buffer n → text (take n buffer) ≡ text file
+
+-- what the third program prints of a loader, at most m bytes: what the text that was fed to it prints, and once it is decided, what any longer text prints
+pub record PrintedFed (m : ℕ) (s : Loader) (held now : List ℕ) (r : ℕ) : Type 0 where
+  pub line : (text : List ℕ) → s ≡ fed fresh text → PutLine m held 0 (chooseCsvText text) now r
+  pub whole : (text more : List ℕ) → s ≡ fed fresh text → decided s ≡ true → chooseCsvText (text ++ more) ≡ chooseCsvText text

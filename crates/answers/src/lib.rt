@@ -1,4 +1,5 @@
-// What each program prints for the bytes of a file, written into a lent buffer.
+// What each program prints for the bytes of a file or of a text sheet, written into a lent buffer.
+use loader::Loader;
 use reader::ReadOutcome;
 use taskset::Checked;
 use taskset::TaskSet;
@@ -9,8 +10,9 @@ ghost use lib.ListN.{length};
 ghost use Rattle.model.specs.Checks.{checkTasks};
 ghost use Rattle.model.specs.Choice.{choice};
 ghost use Rattle.taskset.specs.TaskSet.{viewOf};
+ghost use Rattle.loader.specs.Pieces.{Fed};
 ghost use Rattle.report.specs.PutLine.{PutLine};
-ghost use Rattle.answers.specs.Answers.{chosenText, chooseText, listText, replayText, Printed};
+ghost use Rattle.answers.specs.Answers.{chosenText, chooseText, listText, replayText, Printed, PrintedFed};
 ghost use Rattle.answers.specs.Listed.{Listed, Kept, keptText};
 
 // The text of the choice of a task set.
@@ -107,5 +109,19 @@ pub fn replay_text(file: &[u8; 10801], n: usize, out: &mut [u8]) -> usize
     match outcome {
         ReadOutcome::Refused { number, place } => report::put_refusal(out, number, place as u32),
         ReadOutcome::Read { releases } => put_replayed(tasks, releases, &task, &tick, &cost, out),
+    }
+}
+
+// What the third program prints for a loader that was fed a text: the choice, or a refusal with the line's number.
+pub fn choose_csv_text(l: Loader, out: &mut [u8]) -> usize
+    requires { ⌜ Fed l × (2560 ≤ length (now out)) ⌝ }
+    ensures { λ r. ⌜ PrintedFed 2560 l (now (out .entry)) (now (out .exit)) r ⌝ }
+{
+    let got = loader::finish(l);
+    let answer = got.answer;
+    let tasks = got.tasks;
+    match answer {
+        Checked::Refused { number, place } => report::put_refusal(out, number, place as u32),
+        Checked::Fine => put_chosen(tasks, out),
     }
 }

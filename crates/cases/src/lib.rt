@@ -154,6 +154,41 @@ pub fn print_column(column: &[u32]) {
     }
 }
 
+// Prints the numbers of a task after a comma.
+fn print_task(t: Task) {
+    io::write_all(STDOUT_FILENO, b",");
+    print_number(t.period as u64);
+    print_number(t.jitter as u64);
+    print_number(t.cost as u64);
+    print_number(t.deadline as u64);
+}
+
+// Prints an entry of a task set; past the count only one that is not 0.
+fn print_entry(t: Task, inside: bool) {
+    if inside {
+        print_task(t);
+        return;
+    }
+    if t.period == 0 && t.jitter == 0 && t.cost == 0 && t.deadline == 0 {
+        return;
+    }
+    print_words(b"past the count");
+    print_task(t);
+}
+
+// Prints the count of a task set and its entries.
+pub fn print_task_set(set: TaskSet) {
+    let count = set.count;
+    print_words(b"sheet");
+    print_number(count as u64);
+    let mut i = 0;
+    while i < 32 {
+        let t = set.tasks[i];
+        print_entry(t, i < count);
+        i += 1;
+    }
+}
+
 // Prints a refusal as the programs do.
 pub fn print_refusal(number: u32, place: usize) {
     print_words(b"refused");

@@ -21,9 +21,9 @@ use Rattle.fileformat.specs.FileCalls.{bytesNeeded, writeInputs}
 use Rattle.fileformat.proofs.StepLaws.{Moves, stops, takes-task, takes-release, ends, moves, read-stop, read-next, read-last}
 
 -- a number that a record is refused with
-record Number (n : ℕ) : Type 0 where
-  low : 1 ≤ n
-  high : n ≤ 11
+pub record Number (n : ℕ) : Type 0 where
+  pub low : 1 ≤ n
+  pub high : n ≤ 11
 
 -- a record that is broken: 1 or 2
 record-number : (f : List ℕ) (n : ℕ) → recordOf f ≡ broken n → Number n
@@ -54,7 +54,7 @@ not-number : (n : ℕ) → _≡_ {A = Option ℕ} none (some n) → Number n
 not-number n h = let z : _≡_ {A = ℕ} 0 1 = cc in absurd (omega arith)
 
 -- a task record: 3, 4 or 6
-task-number : (tasks releases : ℕ) (t : Task) (n : ℕ) → taskFault tasks releases t ≡ some n → Number n
+pub task-number : (tasks releases : ℕ) (t : Task) (n : ℕ) → taskFault tasks releases t ≡ some n → Number n
 unfolding taskFault
 task-number tasks releases t n e = go (ltb 0 releases) (leb maxTasks tasks) (inRange (t .period) (t .jitter) (t .cost) (t .deadline)) refl refl refl
   where
@@ -76,7 +76,7 @@ list-number s releases before r n e = go (eqb (s .count) 0) (releaseFault s befo
     go false none false p q t = not-number n (rw (listFault, p, q, t) at e)
 
 -- the end record: 5
-end-number : (tasks n : ℕ) → endFault tasks ≡ some n → Number n
+pub end-number : (tasks n : ℕ) → endFault tasks ≡ some n → Number n
 unfolding endFault
 end-number tasks n e = go (eqb tasks 0) refl
   where

@@ -103,7 +103,8 @@ follows
 follows s s′ f r x p q e =
     e ∙ ap (λ y. y ++ drop (sizeOf r) f) p ∙ append-assoc (partOf s) (recordBytes r) (drop (sizeOf r) f) ∙ ap (λ y. partOf s ++ y) q
 
-never-answered : (q : Refusal) (x : File) → refused q ≡ answered x → ⊥
+-- a refusal is no answer
+pub never-answered : {A : Type 0} (q : Refusal) (x : A) → refused q ≡ answered x → ⊥
 never-answered q x e = let z : _≡_ {A = ℕ} 0 1 = cc in omega arith
 
 written-step
@@ -138,14 +139,15 @@ pub encode-decode : ReadIsWritten
 unfolding decode joined
 encode-decode f x b e = written (suc (length f)) empty 0 f x b e
 
--- tasks that are written are read
-abbrev tasksOnly : List Task → State
+-- what is read so far: tasks alone
+abbrev pub tasksOnly : List Task → State
 tasksOnly l = record { tasks = l; releases = []; before = 0 }
 
 ranged-fits : (t : Task) → Ranged t → TaskFits t
 ranged-fits t h = record { period = omega arith; jitter = omega arith; cost = omega arith; deadline = omega arith }
 
-abbrev AllRanged : List Task → Type 0
+-- each of some tasks is within its limits
+abbrev pub AllRanged : List Task → Type 0
 AllRanged l = (i : ℕ) → i < length l → Ranged (getD l i noTask)
 
 drop-task : (t : Task) (m : List ℕ) → drop 17 (taskBytes t ++ m) ≡ m
@@ -154,6 +156,7 @@ drop-task t m = drop-at (taskBytes t) m 17 (length-task t)
 drop-release : (r : Release) (m : List ℕ) → drop 10 (releaseBytes r ++ m) ≡ m
 drop-release r m = drop-at (releaseBytes r) m 10 (length-release r)
 
+-- tasks that are written are read
 reads-task
     : (t : Task) (n : ℕ) (ts : List Task) (at : ℕ) (m : List ℕ) → Ranged t → length ts < maxTasks
     → readFrom (suc n) (tasksOnly ts) at (taskBytes t ++ m) ≡ readFrom n (tasksOnly (ts ++ (t ∷ []))) (at + 17) m
@@ -246,7 +249,8 @@ nil-of : (l : List Release) → length l ≡ 0 → l ≡ []
 nil-of [] h = refl
 nil-of (r ∷ l) h = absurd (omega arith)
 
-ranged-more : (l : List Task) (t : Task) → AllRanged l → Ranged t → AllRanged (l ++ (t ∷ []))
+-- one task more within its limits
+pub ranged-more : (l : List Task) (t : Task) → AllRanged l → Ranged t → AllRanged (l ++ (t ∷ []))
 ranged-more [] t h g zero i = g
 ranged-more [] t h g (suc j) i = absurd (omega arith)
 ranged-more (a ∷ l) t h g zero i = h 0 (omega arith)

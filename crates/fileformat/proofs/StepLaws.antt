@@ -38,6 +38,18 @@ module _ (tasks releases : ℕ) (t : Task) where
   unfolding taskFault
   task-fine z l h = rw (taskFault, le-ltb 0 releases (omega arith), lt-leb maxTasks tasks l, h)
 
+-- of the numbers of a task it matters only whether they are in range
+pub task-same
+    : (tasks releases : ℕ) (t u : Task) → inRange (t .period) (t .jitter) (t .cost) (t .deadline) ≡ inRange (u .period) (u .jitter) (u .cost) (u .deadline)
+    → taskFault tasks releases t ≡ taskFault tasks releases u
+unfolding taskFault
+task-same tasks releases t u e = go (ltb 0 releases) (leb maxTasks tasks) refl refl
+  where
+    go : (a b : Bool) → ltb 0 releases ≡ a → leb maxTasks tasks ≡ b → taskFault tasks releases t ≡ taskFault tasks releases u
+    go true b p q = rw (taskFault, p)
+    go false true p q = rw (taskFault, p, q)
+    go false false p q = rw (taskFault, p, q, e)
+
 module _ (s : Tasks) (releases before : ℕ) (r : Release) where
   pub list-early : s .count ≡ 0 → listFault s releases before r ≡ some 5
   unfolding listFault
@@ -149,21 +161,33 @@ moves s (taskRecord t) = task-moves s t
 moves s (releaseRecord r) = release-moves s r
 moves s endRecord = end-moves s
 
--- a record without a fault leaves the number of tasks and of releases within the limits
-pub task-few : (tasks releases : ℕ) (t : Task) → taskFault tasks releases t ≡ none → tasks < maxTasks
-task-few tasks releases t e = after (ltb 0 releases) refl
-  where
-    never : {n : ℕ} → taskFault tasks releases t ≡ some n → ⊥
-    never h = let w = sym h ∙ e in let z : _≡_ {A = ℕ} 0 1 = cc in omega arith
+-- a task record without a fault: there is no release yet, there is room for the task, and it is in range
+module _ (tasks releases : ℕ) (t : Task) (e : taskFault tasks releases t ≡ none) where
+  no-fault : {n : ℕ} → taskFault tasks releases t ≡ some n → ⊥
+  no-fault h = let w = sym h ∙ e in let z : _≡_ {A = ℕ} 0 1 = cc in omega arith
 
-    over : releases ≡ 0 → (b : Bool) → leb maxTasks tasks ≡ b → tasks < maxTasks
-    over z true h = absurd (never (task-over tasks releases t z (leb-true _ _ h)))
-    over z false h = leb-false _ _ h
+  task-first : releases ≡ 0
+  task-first = go (ltb 0 releases) refl
+    where
+      go : (b : Bool) → ltb 0 releases ≡ b → releases ≡ 0
+      go true h = absurd (no-fault (task-after tasks releases t (ltb-true _ _ h)))
+      go false h = omega (arith, ltb-false 0 releases h)
 
-    after : (b : Bool) → ltb 0 releases ≡ b → tasks < maxTasks
-    after true h = absurd (never (task-after tasks releases t (ltb-true _ _ h)))
-    after false h = over (omega (arith, ltb-false 0 releases h)) (leb maxTasks tasks) refl
+  pub task-few : tasks < maxTasks
+  task-few = go (leb maxTasks tasks) refl
+    where
+      go : (b : Bool) → leb maxTasks tasks ≡ b → tasks < maxTasks
+      go true h = absurd (no-fault (task-over tasks releases t task-first (leb-true _ _ h)))
+      go false h = leb-false _ _ h
 
+  pub task-ranged : Ranged t
+  task-ranged = go (inRange (t .period) (t .jitter) (t .cost) (t .deadline)) refl
+    where
+      go : (b : Bool) → inRange (t .period) (t .jitter) (t .cost) (t .deadline) ≡ b → Ranged t
+      go true h = in-range-of _ _ _ _ h
+      go false h = absurd (no-fault (task-outside tasks releases t task-first task-few h))
+
+-- a release record without a fault leaves the number of releases within its limit
 pub list-few : (s : Tasks) (releases before : ℕ) (r : Release) → listFault s releases before r ≡ none → releases < maxReleases
 list-few s releases before r e = early (ltb 0 (s .count)) refl
   where

@@ -18,7 +18,8 @@ use Rattle.model.specs.Checks.{Lent, inRange, refuseAt, refuseIf, checkR
 use Rattle.model.specs.Calls.{unfitOf}
 use Rattle.model.proofs.SearchLaws.{first-none, first-nothing}
 
-is-false : (b : Bool) → (b ≡ true → ⊥) → b ≡ false
+-- a test that cannot hold does not
+pub is-false : (b : Bool) → (b ≡ true → ⊥) → b ≡ false
 is-false true h = absurd (h refl)
 is-false false h = refl
 
@@ -36,7 +37,8 @@ in-range-yes P J E D h =
       le-leb D maxTime (omega arith),
     )
 
-both : (a b : Bool) → (a && b) ≡ true → (a ≡ true) × (b ≡ true)
+-- two tests that hold together hold
+pub both : (a b : Bool) → (a && b) ≡ true → (a ≡ true) × (b ≡ true)
 both a b h = and-eq-true-iff a b .0 h
 
 pub in-range-of : (P J E D : ℕ) → inRange P J E D ≡ true → InRange P J E D

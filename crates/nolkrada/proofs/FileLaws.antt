@@ -17,7 +17,7 @@ use Rattle.writer.specs.Writer.{stored}
 use Rattle.writer.proofs.StoreLaws.{stored-at}
 use Rattle.nolkrada.specs.Interface.{refusalCode, codeIn, wordsAfter, asWords, Ends}
 use Rattle.nolkrada.proofs.InterfaceLaws.{words-put}
-use Rattle.nolkrada.specs.Files.{taskNumbers, numbersOf, fileWords, sheetNumbers, readAnswer, ReadEnds}
+use Rattle.nolkrada.specs.Files.{taskNumbers, numbersOf, fileWords, entryNumbers, sheetNumbers, readAnswer, ReadEnds}
 use Rattle.nolkrada.proofs.ReadLaws.{Halts, call-told, within-enough}
 
 pub numbers-append : (a b : List Task) → numbersOf (a ++ b) ≡ numbersOf a ++ numbersOf b
@@ -140,7 +140,7 @@ module _ (f sheet task tick cost answer : List ℕ) where
         → answered n ≡ readCount a
         → s ≡ readSheet a
         → numbersOf (s .tasks) ++ drop (length (numbersOf (s .tasks))) sheet ≡ wordsAfter (asWords sheetNumbers a) sheet
-    unfolding readCount readSheet wordsAfter asWords sheetNumbers
+    unfolding readCount readSheet wordsAfter asWords entryNumbers sheetNumbers
     read-numbers (refused p) e i = let z : _≡_ {A = ℕ} 0 1 = cc in absurd (omega arith)
     read-numbers (answered x) e i = rw i refl
 

@@ -6,3 +6,4 @@ pub mod ReadLaws
 pub mod FileLaws
 pub mod SameNumbers
 pub mod WriteEndLaws
+pub mod LoadEndLaws

@@ -12,6 +12,7 @@ use Rattle.model.specs.Calls.{arrivalCall, verdictCall, traceCall, choiceInputs
 use Rattle.taskset.specs.TaskSet.{viewOf}
 use Rattle.nolkrada.specs.Interface.{sheetFrom, codeOf, codeIn, asWords, withSlots, oneWord, verdictWords, traceWords}
 use Rattle.nolkrada.specs.Files.{readAnswer, writeAnswer}
+use Rattle.nolkrada.specs.Texts.{loadAnswer}
 
 -- what a code tells: 0, that nothing is refused; else the number, code ÷ 2^32, and the place, the rest
 unfoldable pub told : ℕ → Option Refusal
@@ -50,4 +51,5 @@ pub record CodesTell : Type 0 where
       : (sheet : List ℕ) (count : ℕ) (kept : List ℕ) (n : ℕ) (task tick cost ready finish : List ℕ)
       → Tells (refusalOf (runInputs (viewOf (sheetFrom sheet count)) kept n task tick cost ready finish))
   pub read : (file sheet task tick cost answer : List ℕ) → TellsOf (readAnswer file sheet task tick cost answer)
+  pub load : (text sheet answer : List ℕ) → TellsOf (loadAnswer text sheet answer)
   pub write : (sheet : List ℕ) (count n : ℕ) (task tick cost out answer : List ℕ) → TellsOf (writeAnswer sheet count n task tick cost out answer)

@@ -25,11 +25,16 @@ numbersOf (t ∷ l) = taskNumbers t ++ numbersOf l
 unfoldable pub fileWords : File → List ℕ
 fileWords x = length (x .tasks) ∷ length (x .releases) ∷ []
 
--- the sheet of a file as 128 numbers, those of the entries past its tasks being 0
-unfoldable pub sheetNumbers : File → List ℕ
-sheetNumbers x = numbersOf (setOf (x .tasks) .tasks)
+-- the sheet of some tasks as 128 numbers, those of the entries past the tasks being 0
+unfoldable pub entryNumbers : List Task → List ℕ
+entryNumbers ts = numbersOf (setOf ts .tasks)
 
-abbrev slots : ℕ → ℕ → Lent
+-- the sheet of a file
+unfoldable pub sheetNumbers : File → List ℕ
+sheetNumbers x = entryNumbers (x .tasks)
+
+-- a lent slice of which n slots are needed
+abbrev pub slots : ℕ → ℕ → Lent
 slots n have = record { needed = n; slots = have }
 
 -- the slices lent to a read of m releases, given how many slots each has: the sheet, the columns and then the words

@@ -42,6 +42,7 @@ ghost use Rattle.nolkrada.specs.Interface.{
   traceWords,
 };
 ghost use Rattle.nolkrada.specs.Files.{taskNumbers, numbersOf, readWithin, readAnswer, ReadEnds, writeAnswer, WriteEnds};
+ghost use Rattle.nolkrada.specs.Texts.{loadAnswer, LoadEnds};
 use demand::ArrivalAnswer;
 use reader::ReadOutcome;
 use taskset::Checked;
@@ -477,6 +478,31 @@ pub extern "C" fn nolkrada_read(
             put_two(answer, tasks.count as u64, releases as u64)
         }
     }
+}
+
+// Loads a text: the 128 numbers of its sheet, and how many tasks as one word.
+#[no_mangle]
+pub extern "C" fn nolkrada_load(text: &[u8], sheet: &mut [u32], answer: &mut [u64]) -> u64
+    ensures { λ r. ⌜
+        LoadEnds (loadAnswer (now (text .entry)) (now (sheet .entry)) (now (answer .entry))) (now (sheet .entry)) (now (answer .entry)) r (now (sheet .exit))
+        (now (answer .exit))
+        ⌝ }
+{
+    let got = loader::load(text);
+    let checked = got.answer;
+    let tasks = got.tasks;
+    if let Checked::Refused { number, place } = checked {
+        return refusal_code(number, place);
+    }
+    let slots = sheet.len();
+    if slots < 128 {
+        return refusal_code(13, 128);
+    }
+    if answer.len() < 1 {
+        return refusal_code(13, 1);
+    }
+    put_sheet(tasks, sheet);
+    put_one(answer, tasks.count as u64)
 }
 
 // Writes a file: its bytes, and how many as one word.

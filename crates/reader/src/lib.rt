@@ -4,7 +4,6 @@ use taskset::Checked;
 use taskset::Task;
 use taskset::TaskSet;
 ghost use mathlib.Core.Path.{_≡_};
-ghost use mathlib.Core.List.{[]};
 ghost use Prim.Native.Nat.{_≤_, _<_, _+_, _*_};
 ghost use lib.ListN.{length, drop};
 ghost use Rattle.model.specs.Tasks.{Tasks};
@@ -12,8 +11,7 @@ ghost use Rattle.taskset.specs.TaskSet.{refusalIn};
 ghost use Rattle.releases.specs.Releases.{faultAt};
 ghost use Rattle.fileformat.specs.Numbers.{field};
 ghost use Rattle.fileformat.specs.Records.{taskFrom, releaseFrom, recordOf};
-ghost use Rattle.fileformat.specs.File.{taskFault, listFault};
-ghost use Rattle.fileformat.specs.FileCalls.{setOf};
+ghost use Rattle.fileformat.specs.File.{listFault};
 ghost use Rattle.reader.specs.Reader.{releaseOf, recordIn, releasesAt, Listed, ScanSays, Refuses, ReadSays};
 
 // A release as it stands in a file.
@@ -112,31 +110,6 @@ fn record_at(f: &[u8], at: usize) -> Found
     Found::Broken { number: 1 }
 }
 
-// What is wrong with a task record after so many tasks and releases: 3, 4 or 6, with the offset given.
-fn check_task(tasks: usize, releases: usize, at: usize, t: Task) -> Checked
-    ensures { λ r. ⌜ refusalIn r ≡ faultAt at (taskFault tasks releases t) ⌝ }
-{
-    if 0 < releases {
-        return Checked::Refused {
-            number: 3,
-            place: at,
-        };
-    }
-    if 32 <= tasks {
-        return Checked::Refused {
-            number: 4,
-            place: at,
-        };
-    }
-    if !taskset::in_range(t) {
-        return Checked::Refused {
-            number: 6,
-            place: at,
-        };
-    }
-    Checked::Fine
-}
-
 // What is wrong with a release record of a task whose cost is `most`, after so many releases: 8, 9 or 10, with the offset given.
 fn check_job(releases: usize, at: usize, before: u32, most: u32, j: Job) -> Checked
     ensures { λ r. ⌜ ((s : Tasks) → j .task < s .count → s .cost (j .task) ≡ most → refusalIn r ≡ faultAt at (listFault s releases before (releaseOf j))) ⌝ }
@@ -154,27 +127,11 @@ fn check_job(releases: usize, at: usize, before: u32, most: u32, j: Job) -> Chec
     Checked::Fine
 }
 
-// No tasks.
-fn no_tasks() -> TaskSet
-    ensures { λ r. ⌜ r ≡ setOf [] ⌝ }
-{
-    let t = Task {
-        period: 0,
-        jitter: 0,
-        cost: 0,
-        deadline: 0,
-    };
-    TaskSet {
-        tasks: [t; 32],
-        count: 0,
-    }
-}
-
 // A refusal of the scan.
 fn refused(number: u32, place: usize) -> Scanned
     ensures { λ r. ⌜ Refuses number place r ⌝ }
 {
-    let tasks = no_tasks();
+    let tasks = entries::no_tasks();
     Scanned {
         answer: Checked::Refused {
             number: number,
@@ -189,7 +146,7 @@ fn refused(number: u32, place: usize) -> Scanned
 fn scan(f: &[u8]) -> Scanned
     ensures { λ r. ⌜ ScanSays (now (f .entry)) r ⌝ }
 {
-    let mut tasks = no_tasks();
+    let mut tasks = entries::no_tasks();
     let mut releases = 0;
     let mut before = 0;
     let mut at = 0;
@@ -199,7 +156,7 @@ fn scan(f: &[u8]) -> Scanned
             Found::Broken { number } => return refused(number, at),
             Found::OfTask { task } => {
                 let n = tasks.count;
-                let k = check_task(n, releases, at, task);
+                let k = entries::check_task(n, releases, at, task);
                 if let Checked::Refused { number, place } = k {
                     return refused(number, place);
                 }
@@ -297,7 +254,7 @@ pub fn read(f: &[u8], task: &mut [u32], tick: &mut [u32], cost: &mut [u32]) -> R
     let count = s.releases;
     let room = releases::check_columns(count, task, tick, cost);
     if let Checked::Refused { number, place } = room {
-        let none = no_tasks();
+        let none = entries::no_tasks();
         return ReadAnswer {
             outcome: ReadOutcome::Refused {
                 number: number,

@@ -1,16 +1,13 @@
--- The text that the two programs print, as lists of bytes.
+-- The text that the programs print, as lists of bytes.
 use Prim.Native.Nat.{ℕ, _-_}
 use mathlib.Core.List.{List, [], _∷_, _++_}
 use lib.ListN.{getD}
 use Rattle.model.specs.Tasks.{Tasks}
-use Rattle.text.specs.Text.{field, lines}
+use Rattle.text.specs.Text.{lineFeed, field, lines}
 
--- a blank and a line feed
+-- a blank
 abbrev pub blank : ℕ
 blank = 32
-
-abbrev pub feed : ℕ
-feed = 10
 
 -- "task period jitter cost deadline keep worst" and a line feed
 abbrev pub choiceHeader : List ℕ
@@ -39,21 +36,21 @@ atWord = 97 ∷ 116 ∷ 32 ∷ []
 -- seven numbers on a line: task, P, J, E, D, K, largest R
 unfoldable pub choiceFields : ℕ → ℕ → ℕ → ℕ → ℕ → ℕ → ℕ → List ℕ
 choiceFields i p j e d k w =
-    field i blank ++ (field p blank ++ (field j blank ++ (field e blank ++ (field d blank ++ (field k blank ++ field w feed)))))
+    field i blank ++ (field p blank ++ (field j blank ++ (field e blank ++ (field d blank ++ (field k blank ++ field w lineFeed)))))
 
 -- the line of task i
 unfoldable pub choiceLine : Tasks → List ℕ → List ℕ → ℕ → List ℕ
 choiceLine s kept worst i =
     choiceFields i (s .period i) (s .jitter i) (s .cost i) (s .deadline i) (getD kept i 0) (getD worst i 0)
 
--- what the first program prints for a choice
+-- what the first program, and the third, prints for a choice
 unfoldable pub choiceText : Tasks → List ℕ → List ℕ → List ℕ
 choiceText s kept worst = choiceHeader ++ (lines (choiceLine s kept worst) (s .count) ++ fitsLine)
 
 -- six numbers on a line: place in the list, task, release, ready, finish, response
 unfoldable pub runFields : ℕ → ℕ → ℕ → ℕ → ℕ → ℕ → List ℕ
 runFields p i a r f d =
-    field p blank ++ (field i blank ++ (field a blank ++ (field r blank ++ (field f blank ++ field d feed))))
+    field p blank ++ (field i blank ++ (field a blank ++ (field r blank ++ (field f blank ++ field d lineFeed))))
 
 -- the line of the release at p
 unfoldable pub runLine : List ℕ → List ℕ → List ℕ → List ℕ → ℕ → List ℕ
@@ -66,4 +63,4 @@ runText n task tick ready finish = runHeader ++ lines (runLine task tick ready f
 
 -- the one line that a refusal prints: "refused 15 at 2"
 unfoldable pub refusalText : ℕ → ℕ → List ℕ
-refusalText n p = refusedWord ++ (field n blank ++ (atWord ++ field p feed))
+refusalText n p = refusedWord ++ (field n blank ++ (atWord ++ field p lineFeed))

@@ -1,4 +1,4 @@
-// The two programs' text, written into a lent buffer.
+// The programs' text, written into a lent buffer.
 use taskset::Task;
 use taskset::TaskSet;
 ghost use mathlib.Core.Path.{_≡_};

@@ -9,7 +9,7 @@ use native.Mathlib.Numerals.{add-one}
 use lib.ListN.{length, length-append, set, take, getD}
 use lib.Seq.{sets, length-sets, take-suc, take-all}
 use lib.Dec.{ltb}
-use borrow.Author.Tests.{lt-ltb, le-ltb, ltb-false}
+use borrow.Author.Tests.{lt-ltb, le-ltb, ltb-true, ltb-false}
 use Rattle.text.specs.Text.{digits, decimal, field, Put, PutField}
 
 -- two texts one after the other are one text
@@ -49,24 +49,32 @@ pub decimal-more : (n : ℕ) → 10 ≤ n → decimal n ≡ decimal (n / 10) ++ 
 unfolding decimal digits
 decimal-more n h = rw (decimal, digits, le-ltb n 10 h, digits-more n (suc (n / 10)) (n / 10) (omega arith) (omega arith))
 
--- a number below 10^k has at most k digits
-digits-length : (f n k : ℕ) → n < 10 ^ suc k → length (digits f n) ≤ suc k
-unfolding digits
-digits-length zero n k h = omega arith
-digits-length (suc f) n k h = go (ltb n 10) refl k h (digits-length f (n / 10))
-  where
-    go : (b : Bool) → ltb n 10 ≡ b → (m : ℕ) → n < 10 ^ suc m → ((j : ℕ) → n / 10 < 10 ^ suc j → length (digits f (n / 10)) ≤ suc j) → length (digits (suc f) n) ≤ suc m
-    go true e m h ih = rw (digits, e) (omega arith)
-    go false e zero h ih = let l : 10 ≤ n = ltb-false n 10 e in absurd (omega arith)
-    go false e (suc m) h ih = rw (digits, e, length-append) (let i : length (digits f (n / 10)) ≤ suc m = ih m (omega arith) in omega arith)
+pub decimal-some : (n : ℕ) → n < 10 → length (decimal n) ≡ 1
+decimal-some n h = ap length (decimal-one n h)
 
+pub decimal-last : (n : ℕ) → 10 ≤ n → length (decimal n) ≡ length (decimal (n / 10)) + 1
+decimal-last n h = ap length (decimal-more n h) ∙ length-append (decimal (n / 10)) ((48 + n % 10) ∷ [])
+
+-- a number below 10^(k + 1) has at most k + 1 digits
+pub decimal-below : (n k : ℕ) → n < 10 ^ suc k → length (decimal n) ≤ suc k
+decimal-below n zero h = omega (arith, decimal-some n (omega arith))
+decimal-below n (suc k) h = go (ltb n 10) refl (decimal-below (n / 10) k)
+  where
+    go : (b : Bool) → ltb n 10 ≡ b → (n / 10 < 10 ^ suc k → length (decimal (n / 10)) ≤ suc k) → length (decimal n) ≤ suc (suc k)
+    go true e ih = omega (arith, decimal-some n (ltb-true n 10 e))
+    go false e ih = omega (arith, decimal-last n (ltb-false n 10 e), ih (omega arith))
+
+-- and one byte more in its field
+pub field-below : (n end k : ℕ) → n < 10 ^ suc k → length (field n end) ≤ suc (suc k)
+unfolding field
+field-below n end k h = omega (arith, length-append (decimal n) (end ∷ []), decimal-below n k h)
+
+-- a number of 32 bits
 pub decimal-length : (n : ℕ) → n < 4294967296 → length (decimal n) ≤ 10
-unfolding decimal
-decimal-length n h = digits-length (suc n) n 9 (omega arith)
+decimal-length n h = decimal-below n 9 (omega arith)
 
 pub field-length : (n end : ℕ) → n < 4294967296 → length (field n end) ≤ 11
-unfolding field
-field-length n end h = let l = decimal-length n h in rw length-append (omega arith)
+field-length n end h = field-below n end 9 (omega arith)
 
 pub put-nothing : (l : List ℕ) (i : ℕ) → Put l i [] l i
 put-nothing l i = record { holds = refl; next = sym (add-zero i) }
@@ -93,12 +101,6 @@ pub put-digits
     : (l : List ℕ) (at n : ℕ) (m : List ℕ) (r d : ℕ) (k : List ℕ) (t : ℕ) → 10 ≤ n → Put l at (decimal (n / 10)) m r → d ≡ 48 + n % 10 → Put m r (d ∷ []) k t
     → Put l at (decimal n) k t
 put-digits l at n m r d k t h p e q = rw (decimal-more n h, ← e) (put-append l at (decimal (n / 10)) m r (d ∷ []) k t p q)
-
-pub decimal-some : (n : ℕ) → n < 10 → length (decimal n) ≡ 1
-decimal-some n h = ap length (decimal-one n h)
-
-pub decimal-last : (n : ℕ) → 10 ≤ n → length (decimal n) ≡ length (decimal (n / 10)) + 1
-decimal-last n h = ap length (decimal-more n h) ∙ length-append (decimal (n / 10)) ((48 + n % 10) ∷ [])
 
 -- a number and the byte that ends its field
 pub put-ended : (l : List ℕ) (at n end : ℕ) (m : List ℕ) (r : ℕ) (k : List ℕ) (t : ℕ) → Put l at (decimal n) m r → Put m r (end ∷ []) k t → Put l at (field n end) k t

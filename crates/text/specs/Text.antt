@@ -7,6 +7,10 @@ use lib.ListN.{length}
 use lib.Seq.{sets}
 use lib.Dec.{ltb}
 
+-- the byte of a line feed
+abbrev pub lineFeed : ℕ
+lineFeed = 10
+
 -- the decimal digits of n, at most f of them
 unfoldable pub digits : ℕ → ℕ → List ℕ
 digits zero n = []

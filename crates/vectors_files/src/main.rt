@@ -2,7 +2,6 @@
 // lent slices.
 use libc::STDOUT_FILENO;
 use reader::ReadOutcome;
-use taskset::Task;
 use taskset::TaskSet;
 use writer::WriteAnswer;
 ghost use mathlib.Core.Path.{_≡_};
@@ -21,41 +20,6 @@ fn print_outcome(outcome: ReadOutcome) {
             cases::print_number(releases as u64);
         }
         ReadOutcome::Refused { number, place } => cases::print_refusal(number, place),
-    }
-}
-
-// Prints the numbers of a task after a comma.
-fn print_task(t: Task) {
-    io::write_all(STDOUT_FILENO, b",");
-    cases::print_number(t.period as u64);
-    cases::print_number(t.jitter as u64);
-    cases::print_number(t.cost as u64);
-    cases::print_number(t.deadline as u64);
-}
-
-// Prints an entry of a task set; past the count only one that is not 0.
-fn print_entry(t: Task, inside: bool) {
-    if inside {
-        print_task(t);
-        return;
-    }
-    if t.period == 0 && t.jitter == 0 && t.cost == 0 && t.deadline == 0 {
-        return;
-    }
-    cases::print_words(b"past the count");
-    print_task(t);
-}
-
-// Prints the count of a task set and its entries.
-fn print_task_set(set: TaskSet) {
-    let count = set.count;
-    cases::print_words(b"sheet");
-    cases::print_number(count as u64);
-    let mut i = 0;
-    while i < 32 {
-        let t = set.tasks[i];
-        print_entry(t, i < count);
-        i += 1;
     }
 }
 
@@ -96,7 +60,7 @@ fn read_call(file: &[u8], task: &mut [u32], tick: &mut [u32], cost: &mut [u32])
     let outcome = answer.outcome;
     let tasks = answer.tasks;
     print_outcome(outcome);
-    print_task_set(tasks);
+    cases::print_task_set(tasks);
     cases::print_column(task);
     cases::print_column(tick);
     cases::print_column(cost);

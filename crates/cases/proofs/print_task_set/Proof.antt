@@ -1,8 +1,8 @@
 -- The loop stays within the 32 entries.
 use Prim.Native.Nat.{_-_, _≤_}
 use borrow.Author.Needs.{needs}
-use Rattle.vectors_files.proofs.print_task_set.Statement.{statement}
-use Rattle.vectors_files.proofs.print_task_set.Tie as tie
+use Rattle.cases.proofs.print_task_set.Statement.{statement}
+use Rattle.cases.proofs.print_task_set.Tie as tie
 
 abbrev Inv-loop : tie.InvT-loop
 Inv-loop set count i₀ i = i ≤ 32

@@ -4,8 +4,8 @@ use native.Mathlib.Omega.{arith}
 use Rattle.releases.proofs.ReleaseLaws.{faulty, faultless}
 use Rattle.fileformat.proofs.StepLaws.{task-after, task-over, task-outside, task-fine}
 use borrow.Author.Needs.{needs}
-use Rattle.reader.proofs.check_task.Statement.{statement}
-use Rattle.reader.proofs.check_task.Tie as tie
+use Rattle.entries.proofs.check_task.Statement.{statement}
+use Rattle.entries.proofs.check_task.Tie as tie
 
 returns : tie.Need-returns
 returns c = faulty _ 3 _ (task-after _ _ _ (omega arith))

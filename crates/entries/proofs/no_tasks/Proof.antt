@@ -1,7 +1,7 @@
 use mathlib.Core.Path.{refl}
 use Rattle.fileformat.specs.FileCalls.{setOf}
-use Rattle.reader.proofs.no_tasks.Statement.{statement}
-use Rattle.reader.proofs.no_tasks.Tie as tie
+use Rattle.entries.proofs.no_tasks.Statement.{statement}
+use Rattle.entries.proofs.no_tasks.Tie as tie
 
 returns : tie.Need-returns
 unfolding setOf

@@ -1,0 +1,2 @@
+-- What a read brought, case by case.
+pub mod TurnLaws

@@ -1,0 +1,12 @@
+use borrow.Author.Needs.{needs}
+use Rattle.loader.proofs.refused.Statement.{statement}
+use Rattle.loader.proofs.refused.Tie as tie
+
+no-tasks-requires : tie.Need-no-tasks-requires
+no-tasks-requires c κs = search needs
+
+returns : tie.Need-returns
+returns c = rw (c .no-tasks .ensures)
+
+pub refused-spec : {M : Type 1} → statement M
+refused-spec = tie.close (tie.spec no-tasks-requires returns)

@@ -1,0 +1,82 @@
+-- A text answers what the file with the same numbers answers.
+use Prim.Native.Nat.{ℕ, suc, _+_, _*_, _<_}
+use mathlib.Core.Path.{_≡_, refl, sym, ap, ap₂, _∙_}
+use mathlib.Core.Option.{Option, some, none}
+use mathlib.Core.List.{List, [], _∷_, _++_, map, append-assoc}
+use native.Mathlib.Omega.{arith}
+use lib.ListN.{length, getD, length-append}
+use lib.Seq.{drop-at}
+use Rattle.model.specs.Checks.{checkReleases}
+use Rattle.model.specs.Refusal.{Answer, refused}
+use Rattle.taskset.specs.declared.Task.{Task}
+use Rattle.taskset.specs.TaskSet.{noTask}
+use Rattle.fileformat.specs.Records.{taskRecord, endRecord, taskBytes, recordBytes, sizeOf}
+use Rattle.fileformat.specs.File.{File, joined, encode, decode, readFrom, afterEnd, empty, taskFault, endFault}
+use Rattle.fileformat.proofs.RecordLaws.{TaskFits, length-task, task-read, record-end}
+use Rattle.fileformat.proofs.StepLaws.{task-stops, task-taken, end-stops, end-taken, read-stop, read-next, read-last}
+use Rattle.fileformat.proofs.RoundTrips.{taskPart, encode-parts, length-encode, tasksOnly, decode-encode}
+use Rattle.textformat.specs.TextSheet.{loadFrom, load, textOf}
+use Rattle.textformat.specs.TextTrips.{tasksAlone, LoadedIsRead, inRecords}
+use Rattle.textformat.proofs.TextTrips.{lineOf, sheet-lines, line-fault, load-stop, task-line, load-none, load-end, loaded-valid}
+
+-- the sheet that is loaded is read from the file that holds it
+pub loaded-is-read : LoadedIsRead
+unfolding checkReleases
+loaded-is-read text ts e = decode-encode (tasksAlone ts) (record { tasks = loaded-valid text ts e; releases = refl; few = omega arith })
+
+-- a refusal of a line and that of its record
+refused-same : (k n at : ℕ) → at ≡ 17 * n → _≡_ {A = Answer File} (refused (record { number = k; place = at })) (inRecords (refused (record { number = k; place = n })))
+unfolding inRecords
+refused-same k n at e = ap (λ p. refused (record { number = k; place = p })) e
+
+same-end : (n : ℕ) (ts : List Task) (at : ℕ) → at ≡ 17 * length ts → readFrom (suc n) (tasksOnly ts) at (3 ∷ []) ≡ inRecords (loadFrom ts [])
+unfolding inRecords sizeOf afterEnd
+same-end n ts at a = go (endFault (length ts)) refl
+  where
+    go : (o : Option ℕ) → endFault (length ts) ≡ o → readFrom (suc n) (tasksOnly ts) at (3 ∷ []) ≡ inRecords (loadFrom ts [])
+    go (some k) e =
+        read-stop n (tasksOnly ts) at (3 ∷ []) endRecord (record-end []) k (end-stops (tasksOnly ts) k e)
+        ∙ refused-same k (length ts) at a ∙ ap inRecords (sym (load-none ts k e))
+    go none e =
+        read-last n (tasksOnly ts) at (3 ∷ []) endRecord (record-end []) (end-taken (tasksOnly ts) e) ∙ ap inRecords (sym (load-end ts e))
+
+-- numbers that kind 1 records can hold
+abbrev pub AllFit : List Task → Type 0
+AllFit l = (i : ℕ) → i < length l → TaskFits (getD l i noTask)
+
+-- the lines of some tasks and their records, after as many tasks that were taken
+same-from
+    : (l : List Task) (n : ℕ) (ts : List Task) (at : ℕ) → AllFit l → at ≡ 17 * length ts
+    → readFrom (length l + suc n) (tasksOnly ts) at (taskPart l ++ (3 ∷ [])) ≡ inRecords (loadFrom ts (map lineOf l))
+unfolding joined recordBytes sizeOf
+same-from [] n ts at h a = let e : 0 + suc n ≡ suc n = omega arith in rw e (same-end n ts at a)
+same-from (t ∷ l) n ts at h a =
+    let e : suc (length l) + suc n ≡ suc (length l + suc n) = omega arith in
+    ap₂ (λ k f. readFrom k (tasksOnly ts) at f) e (append-assoc (taskBytes t) (taskPart l) (3 ∷ []))
+    ∙ go (taskFault (length ts) 0 t) refl
+    (same-from l n (ts ++ (t ∷ [])) (at + 17) (λ i g. h (suc i) (omega arith)) (omega (arith, length-append ts (t ∷ []))))
+  where
+    f : List ℕ
+    f = taskBytes t ++ (taskPart l ++ (3 ∷ []))
+
+    go
+        : (o : Option ℕ) → taskFault (length ts) 0 t ≡ o
+        → readFrom (length l + suc n) (tasksOnly (ts ++ (t ∷ []))) (at + 17) (taskPart l ++ (3 ∷ [])) ≡ inRecords (loadFrom (ts ++ (t ∷ [])) (map lineOf l))
+        → readFrom (suc (length l + suc n)) (tasksOnly ts) at f ≡ inRecords (loadFrom ts (lineOf t ∷ map lineOf l))
+    go (some k) e ih =
+        read-stop (length l + suc n) (tasksOnly ts) at f (taskRecord t) (task-read t _ (h 0 (omega arith))) k (task-stops (tasksOnly ts) t k e)
+        ∙ refused-same k (length ts) at a
+        ∙ ap inRecords (sym (load-stop ts (lineOf t) (map lineOf l) k (line-fault (length ts) t ∙ e)))
+    go none e ih =
+        read-next (length l + suc n) (tasksOnly ts) at f (taskRecord t) (task-read t _ (h 0 (omega arith))) (tasksOnly (ts ++ (t ∷ [])))
+        (task-taken (tasksOnly ts) t e)
+        ∙ ap (readFrom (length l + suc n) (tasksOnly (ts ++ (t ∷ []))) (at + 17)) (drop-at (taskBytes t) (taskPart l ++ (3 ∷ [])) 17 (length-task t))
+        ∙ ih ∙ ap inRecords (sym (task-line ts t (map lineOf l) e))
+
+-- numbers that records hold: a text answers as the file with the same numbers does, line n as the record at 17n
+pub same-if-fit : (ts : List Task) → AllFit ts → decode (encode (tasksAlone ts)) ≡ inRecords (load (textOf ts))
+unfolding decode load joined
+same-if-fit ts h =
+    let e : suc (length (encode (tasksAlone ts))) ≡ length ts + suc (16 * length ts + 1) = omega (arith, length-encode (tasksAlone ts)) in
+    ap₂ (λ k f. readFrom k empty 0 f) e (encode-parts (tasksAlone ts)) ∙ same-from ts (16 * length ts + 1) [] 0 h refl
+    ∙ ap (λ x. inRecords (loadFrom [] x)) (sym (sheet-lines ts))
