@@ -312,6 +312,38 @@ fn time_write(l: &List) -> Vec<f64> {
     ])
 }
 
+/// The longest text that is accepted.
+fn longest_text() -> Vec<u8> {
+    "1000000,1000000,1000000,1000000\n".repeat(32).into_bytes()
+}
+
+/// One line whose P has 1,000,000 digits: refused with 6 after all of them.
+fn long_number() -> Vec<u8> {
+    format!("{},0,1,1\n", "9".repeat(1_000_000)).into_bytes()
+}
+
+fn time_load(text: &[u8]) -> Vec<f64> {
+    let (mut sheet, mut answer) = ([0u32; 128], [0u64; 1]);
+    let mut tasks = [Task { p: 0, j: 0, e: 0, d: 0 }; 32];
+    let code = library::load(text, &mut sheet, &mut answer);
+    match same_method::load(text, &mut tasks) {
+        Ok(n) => assert_eq!((code, answer[0]), (0, n as u64)),
+        Err(r) => assert_eq!(code, ((r.number as u64) << 32) + r.place),
+    }
+    assert_eq!(sheet.to_vec(), numbers_of(&Sheet::of(&tasks)));
+    medians(&mut [
+        &mut || {
+            black_box(library::load(black_box(text), black_box(&mut sheet), &mut answer));
+        },
+        &mut || {
+            black_box(same_method::load(black_box(text), black_box(&mut tasks)).is_ok());
+        },
+        &mut || {
+            black_box(reference::load(black_box(text)).is_ok());
+        },
+    ])
+}
+
 fn line(name: &str, t: &[f64]) {
     println!("| {} | {:.2} | {:.2} | {:.2} | {:.2} | {:.2} |", name, t[0], t[1], t[2], t[0] / t[1], t[0] / t[2]);
 }
@@ -337,6 +369,8 @@ fn full_size() {
     line("run of one release at tick 1,000,000,000", &time_run(&late_list()));
     line("read of 10,785 bytes", &time_read(&list));
     line("write of 10,785 bytes", &time_write(&list));
+    line("load of a text of 1,024 bytes", &time_load(&longest_text()));
+    line("load of one line of 1,000,000 digits", &time_load(&long_number()));
 }
 
 /// How the cost grows.

@@ -1,5 +1,6 @@
 //! The calls in plain Rust with the methods of the library: the rising search for W(q), one walk over q for the choice, a
-//! shaper of two numbers for each task, a run tick by tick with one queue for each task, a reader in two passes, a writer in one.
+//! shaper of two numbers for each task, a run tick by tick with one queue for each task, a reader in two passes, a writer in one,
+//! a loader that looks once at each byte.
 //! Each makes the checks of its call. Used as the measure of the archive's speed.
 
 use crate::reference::{number_at, record_at, task_at, Refusal, Task, HORIZON, MAX_RELEASES, MAX_TASKS, MAX_TICK, MAX_TIME};
@@ -388,4 +389,78 @@ pub fn read(
         (task[p], tick[p], cost[p]) = release_at(r, 1);
     }
     Ok((s.count, n))
+}
+
+// ---- Texts -------------------------------------------------------------------------------------------------------------
+
+/// What the bytes of a text so far leave: the tasks of the whole lines; of the line begun the numbers before its commas, how many
+/// commas they are, whether a digit follows them, and the number of the digits since, cut off just over the limit.
+pub struct Loading {
+    pub tasks: [Task; 32],
+    pub count: usize,
+    before: [u32; 3],
+    commas: usize,
+    digit: bool,
+    value: u32,
+}
+
+impl Loading {
+    pub fn start() -> Loading {
+        Loading { tasks: [Task { p: 0, j: 0, e: 0, d: 0 }; 32], count: 0, before: [0; 3], commas: 0, digit: false, value: 0 }
+    }
+
+    /// One byte more. What cannot stand here is 16; a digit cannot after a first zero.
+    #[inline(always)]
+    pub fn byte(&mut self, b: u8) -> Checked {
+        match b {
+            b'0'..=b'9' if !self.digit || self.value > 0 => {
+                self.digit = true;
+                self.value = (10 * self.value + (b - b'0') as u32).min(MAX_TIME + 1);
+                Ok(())
+            }
+            b',' if self.digit && self.commas < 3 => {
+                self.before[self.commas] = self.value;
+                self.commas += 1;
+                (self.digit, self.value) = (false, 0);
+                Ok(())
+            }
+            b'\n' if self.digit && self.commas == 3 => self.line(),
+            _ => refuse(16, self.count),
+        }
+    }
+
+    /// A line of the form is there.
+    fn line(&mut self) -> Checked {
+        let [p, j, e] = self.before;
+        let t = Task { p, j, e, d: self.value };
+        if self.count == MAX_TASKS {
+            return refuse(4, self.count);
+        }
+        if !in_range(&t) {
+            return refuse(6, self.count);
+        }
+        self.tasks[self.count] = t;
+        self.count += 1;
+        (self.commas, self.digit, self.value) = (0, false, 0);
+        Ok(())
+    }
+
+    /// The text ends here.
+    pub fn end(&self) -> Checked {
+        if self.digit || self.commas > 0 {
+            return refuse(16, self.count);
+        }
+        if self.count == 0 { refuse(5, 0) } else { Ok(()) }
+    }
+}
+
+/// Loads a text: the sheet, and the count of its tasks.
+pub fn load(text: &[u8], sheet: &mut [Task; 32]) -> Result<usize, Refusal> {
+    let mut loading = Loading::start();
+    for &b in text {
+        loading.byte(b)?;
+    }
+    loading.end()?;
+    *sheet = loading.tasks;
+    Ok(loading.count)
 }

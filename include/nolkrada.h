@@ -3,8 +3,8 @@
  *
  * ./install puts this header and libnolkrada.a in place: cc main.c -lnolkrada (x86-64 Linux). Without installing, `rt staticlib
  * nolkrada` writes target/staticlib/libnolkrada.a. Of the C library the archive calls memcpy and memset alone; it allocates nothing
- * and has no writable data, so any number of threads may call it. A read takes below 4096 bytes of stack, any other call below
- * 8192; what memcpy and memset take is counted, what the dynamic linker takes when it looks them up is not.
+ * and has no writable data, so any number of threads may call it. A read or a load takes below 4096 bytes of stack, any other call
+ * below 8192; what memcpy and memset take is counted, what the dynamic linker takes when it looks them up is not.
  *
  * Every call ends, but not always soon. A verdict or a choice takes microseconds on most sheets; where the tasks load the processor
  * whole or a little more, it may walk over millions of q: with 31 tasks (62,0,1,1000000) above (2,1,1,1000000), kept at 1, the
@@ -29,6 +29,10 @@
  *   n releases, at most 1024, in three arrays of at least n slots each, each with its own length: task (its number), tick
  *   (0 to 1000000000, never falling along the list) and cost (1 to the task's E).
  *
+ * TEXT
+ *   A sheet as text: a line P,J,E,D for each task, task 0 first, in decimal digits without signs, blanks or leading zeros (0 itself
+ *   is allowed), each line, the last one too, ended by a line feed (byte 10; a carriage return before it is not allowed).
+ *
  * EVERY LENGTH counts elements, not bytes. An array of length 0 may be any non-null, aligned pointer. Arrays that a call
  * writes must not overlap each other or an array that it reads.
  *
@@ -36,9 +40,9 @@
  *    1  read: kind byte not 1, 2 or 3; offset of the kind byte
  *    2  read: the file ends inside a record, or where a kind is due; offset of that kind
  *    3  read: task after a release; offset of the record
- *    4  over 32 tasks; 32 (read: offset)
- *    5  no task: count 0; 0 (read: release or end before any task; offset)
- *    6  P, J, E or D outside its range; the task (read: offset)
+ *    4  over 32 tasks; 32 (read: offset; load: the line)
+ *    5  no task: count 0; 0 (read: release or end before any task; offset. load: an empty text; 0)
+ *    6  P, J, E or D outside its range; the task (read: offset; load: the line, however long a number is)
  *    7  release of a task that is not in the sheet; the release (read: offset)
  *    8  tick below the one before, or over 1000000000; the release (read: offset)
  *    9  cost 0 or over the task's E; the release (read: offset)
@@ -48,9 +52,12 @@
  *   13  an array is too short; the slots that it needs
  *   14  there is no such task; the number given
  *   15  choice: no K fits; the first such task
+ *   16  load: a line that is not P,J,E,D and a line feed; the line
+ * A line is its number in the text, from 0.
  * A call checks, in this order: the sheet (5, 4, then 6 by task), 14, 10, 13 (arrays by task, then by release, then bytes, then
  * `answer`), 12, the releases in order (7, 8, 9), 15. A read checks the whole file, record by record and the lower number first,
- * and then 13 (`sheet`, then task, tick and cost, then `answer`).
+ * and then 13 (`sheet`, then task, tick and cost, then `answer`). A load checks the whole text, line by line: 16, then 4, then 6
+ * on a line, 5 where there is none; and then 13 (`sheet`, then `answer`).
  */
 #ifndef NOLKRADA_H
 #define NOLKRADA_H
@@ -64,11 +71,11 @@ extern "C" {
 
 /* The version of this interface. The archive has no symbol for it: take header and archive of one build. */
 #define NOLKRADA_VERSION_MAJOR 0
-#define NOLKRADA_VERSION_MINOR 1
+#define NOLKRADA_VERSION_MINOR 2
 #define NOLKRADA_VERSION_PATCH 0
-#define NOLKRADA_VERSION "0.1.0"
+#define NOLKRADA_VERSION "0.2.0"
 
-/* Tasks of a sheet, numbers of a sheet that is read (P, J, E, D of 32 tasks), releases of a list. */
+/* Tasks of a sheet, numbers of a sheet that is read or loaded (P, J, E, D of 32 tasks), releases of a list. */
 #define NOLKRADA_MAX_TASKS 32
 #define NOLKRADA_SHEET_NUMBERS 128
 #define NOLKRADA_MAX_RELEASES 1024
@@ -77,6 +84,10 @@ extern "C" {
 /* Bytes that decide a read: none past these changes what it answers. Make a buffer that is filled from an input this long: one of
  * NOLKRADA_MAX_FILE bytes may hold a whole file and miss the byte that follows it, which is refusal 11. */
 #define NOLKRADA_READ_BYTES 10801
+/* Bytes of the longest text that is accepted: 32 lines of four numbers of 7 digits, three commas and a line feed. A longer text is
+ * refused; what its refusal is may depend on every byte. Make a buffer that is filled from an input one byte longer: the first
+ * NOLKRADA_MAX_TEXT bytes of a longer text may be accepted, the first NOLKRADA_MAX_TEXT + 1 never are. */
+#define NOLKRADA_MAX_TEXT 1024
 
 /* The numbers of the refusals. */
 enum {
@@ -94,7 +105,8 @@ enum {
     NOLKRADA_REFUSED_KEPT = 12,
     NOLKRADA_REFUSED_SHORT_ARRAY = 13,
     NOLKRADA_REFUSED_NO_SUCH_TASK = 14,
-    NOLKRADA_REFUSED_UNFIT = 15
+    NOLKRADA_REFUSED_UNFIT = 15,
+    NOLKRADA_REFUSED_LINE = 16
 };
 
 /* The number and the place of a refusal. */
@@ -154,6 +166,12 @@ uint64_t nolkrada_read(const uint8_t *file, size_t file_length, uint32_t *sheet,
 uint64_t nolkrada_write(const uint32_t *sheet, size_t sheet_length, uint32_t count, uint32_t n, const uint32_t *task,
                         size_t task_length, const uint32_t *tick, size_t tick_length, const uint32_t *cost, size_t cost_length,
                         uint8_t *out, size_t out_length, uint64_t *answer, size_t answer_length);
+
+/* Load a text. Lend it whole.
+ * sheet: NOLKRADA_SHEET_NUMBERS slots, all written; entries past the count are 0.
+ * answer: 1 slot, the tasks of the text.                                                                Refuses 16 4 6 5 13. */
+uint64_t nolkrada_load(const uint8_t *text, size_t text_length, uint32_t *sheet, size_t sheet_length, uint64_t *answer,
+                       size_t answer_length);
 
 #ifdef __cplusplus
 }

@@ -1,5 +1,5 @@
 # Proves and builds what ./run, ./install and the tests need. Read in by a script that has set `here`, the repository's folder:
-#   build programs    leaves target/built/choose and target/built/replay
+#   build programs    leaves target/built/choose, target/built/replay and target/built/choose_csv
 #   build library     leaves target/built/libnolkrada.a
 # It says on standard error how far the proving is. Where something fails it says what, with the log, and ends the script with 3.
 #
@@ -22,7 +22,7 @@ sum_now() { (cd "$here" && find crates crates.txt -type f -exec sha256sum {} + |
 
 files_of() { # PART
     case $1 in
-    programs) echo choose replay ;;
+    programs) echo choose replay choose_csv ;;
     library) echo libnolkrada.a ;;
     esac
 }
@@ -115,15 +115,16 @@ build() { # PART
     now=$(sum_now)
     if ! fresh "$1" "$now"; then
         case $1 in
-        programs) prove check choose replay ;;
+        programs) prove check $(files_of programs) ;;
         library) prove staticlib nolkrada ;;
         esac
         [ "$(sum_now)" = "$now" ] || fail "the sources changed while they were proved: call again"
         rm -f "$built/$1.sum"
         case $1 in
-        programs) keep "$here/target/bin/choose" && keep "$here/target/bin/replay" ;;
-        library) keep "$here/target/staticlib/libnolkrada.a" ;;
+        programs) from=bin ;;
+        library) from=staticlib ;;
         esac
+        for one in $(files_of "$1"); do keep "$here/target/$from/$one"; done
         { printf '%s\n' "$now" >"$built/new" && mv -f "$built/new" "$built/$1.sum"; } 2>/dev/null || fail "cannot write in $built"
     fi
     exec 9>&-

@@ -1,5 +1,5 @@
 /*
- * The printed sheet of document 01 from C: choice, verdicts, arrival count, trace check, ready ticks, run, write and read.
+ * The printed sheet of document 01 from C: choice, verdicts, arrival count, trace check, ready ticks, run, write, read and load.
  * Build, after ./install:
  *   cc -O2 examples/c/sheet.c -lnolkrada -o sheet
  * or, without installing, after `rt staticlib nolkrada`:
@@ -81,6 +81,16 @@ static int print_file(void) {
     return 0;
 }
 
+static int print_text(void) {
+    static const char text[] = "6,5,2,6\n8,7,2,8\n10,0,2,10\n";
+    static uint32_t loaded[NOLKRADA_SHEET_NUMBERS];
+    uint64_t count[1];
+    if (refused("load", nolkrada_load((const uint8_t *)text, strlen(text), loaded, LENGTH(loaded), count, 1))) return 1;
+    printf("%llu lines of text, %s\n", (unsigned long long)count[0],
+           memcmp(loaded, sheet, sizeof sheet) == 0 ? "the same sheet" : "another sheet");
+    return 0;
+}
+
 int main(void) {
     uint32_t kept[TASKS];
     uint64_t arrivals[1];
@@ -90,6 +100,7 @@ int main(void) {
     printf("task 0 arrives at most %llu times in 8 ticks\n", (unsigned long long)arrivals[0]);
     if (print_run(kept)) return 1;
     if (print_file()) return 1;
+    if (print_text()) return 1;
     kept[1] = 2;
     if (print_verdict(kept, 1)) return 1;
     /* More than the task's jitter. */

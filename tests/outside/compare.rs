@@ -128,15 +128,15 @@ impl Case {
 
 #[derive(Default)]
 struct Tally {
-    calls: [u64; 8],
-    refusals: [u64; 16],
+    calls: [u64; 9],
+    refusals: [u64; 17],
     verdicts: [u64; 3],
     too_close: u64,
     passed_over: u64,
     differences: u64,
 }
 
-const NAMES: [&str; 8] = ["arrival count", "verdict", "choice", "trace check", "ready ticks", "run", "read", "write"];
+const NAMES: [&str; 9] = ["arrival count", "verdict", "choice", "trace check", "ready ticks", "run", "read", "write", "load"];
 
 impl Tally {
     fn note(&mut self, call: usize, expected: Option<Refusal>, got: u64, slots: bool, show: impl Fn() -> String) {
@@ -175,6 +175,14 @@ fn read_into(file: &[u8], sheet: usize, slots: [usize; 3], answer: usize) -> Res
     short(sheet, 128)?;
     let given = reference::read(file, slots)?;
     short(answer, 2)?;
+    Ok(given)
+}
+
+/// A load: the whole text, then the slots of the sheet and of the answer.
+fn load_into(text: &[u8], sheet: usize, answer: usize) -> Result<Sheet, Refusal> {
+    let given = reference::load(text)?;
+    short(sheet, 128)?;
+    short(answer, 1)?;
     Ok(given)
 }
 
@@ -304,6 +312,37 @@ fn compare_write(r: &mut Random, tally: &mut Tally, case: &Case) {
     if let Ok(file) = expected {
         compare_read(r, tally, &file);
     }
+}
+
+/// A load; and where the text is accepted, that the same tasks as records are read to the same sheet.
+fn compare_load(r: &mut Random, tally: &mut Tally, text: &[u8]) {
+    let (a, s) = (around(r, 1), around(r, 128));
+    let (mut answer, mut sheet) = (words(r, a), numbers(r, s));
+    let expected = load_into(text, s, a);
+    let got = library::load(text, &mut sheet.now, &mut answer.now);
+    let whole = expected.as_ref().ok().map(|s| {
+        let mut whole = numbers_of(s);
+        whole.resize(128, 0);
+        whole
+    });
+    let count = expected.as_ref().ok().map(|s| [s.count as u64]);
+    let same = answer.holds(count.as_ref().map(|c| &c[..])) && sheet.holds(whole.as_ref().map(|w| &w[..]));
+    tally.note(8, expected.as_ref().err().copied(), got, same, || {
+        format!("sheet {} slots, answer {} slots, {} bytes: {}", s, a, text.len(), text.escape_ascii())
+    });
+    if let Ok(given) = reference::load(text) {
+        compare_load_with_read(r, tally, text, &given);
+    }
+}
+
+fn compare_load_with_read(r: &mut Random, tally: &mut Tally, text: &[u8], given: &Sheet) {
+    let file = reference::encode(&given.tasks, &[]);
+    let (mut loaded, mut read) = (numbers(r, 128), numbers(r, 128));
+    let (mut count, mut counts) = ([u64::MAX; 1], [u64::MAX; 2]);
+    let got = library::load(text, &mut loaded.now, &mut count);
+    let and = library::read(&file, &mut read.now, &mut [], &mut [], &mut [], &mut counts);
+    let same = loaded.now == read.now && [count[0], 0] == counts;
+    tally.note(8, None, if got == 0 { and } else { got }, same, || format!("loaded and read: {}", text.escape_ascii()));
 }
 
 fn compare_list_calls(r: &mut Random, tally: &mut Tally, case: &Case) {
@@ -492,6 +531,71 @@ fn full_files(r: &mut Random, tally: &mut Tally) {
     }
 }
 
+/// The text of tasks within the limits gives them back, a text that is accepted is the text of its tasks, and what is decided stays.
+fn check_reference_texts(r: &mut Random, cases: u32) {
+    for _ in 0..cases {
+        let n = r.within(1, 32) as usize;
+        let tasks = tasks_for(r, n);
+        assert_eq!(reference::load(&reference::text_of(&tasks)), Ok(Sheet::of(&tasks)));
+        let any = random_text(r);
+        if let Ok(sheet) = reference::load(&any) {
+            assert_eq!(reference::text_of(&sheet.tasks), any);
+        }
+        if reference::decided(&any) {
+            assert_eq!(reference::load(&[&any[..], &random_text(r)].concat()), reference::load(&any));
+        }
+    }
+}
+
+/// Sound texts cut, changed, shortened and lengthened at every byte, with other line ends and empty lines; and random ones.
+fn texts(r: &mut Random, tally: &mut Tally, cases: u32) {
+    compare_load(r, tally, b"");
+    for odd in 0..=255 {
+        compare_load(r, tally, &[odd]);
+    }
+    for _ in 0..cases {
+        let lines = r.within(1, 4) as usize;
+        let text = text_for(r, lines);
+        compare_load(r, tally, &text);
+        for other in damaged_texts(&text).iter().chain(&other_line_ends(&text)) {
+            compare_load(r, tally, other);
+        }
+        for _ in 0..200 {
+            let any = random_text(r);
+            compare_load(r, tally, &any);
+        }
+        let noise: Vec<u8> = (0..r.within(0, 40)).map(|_| if r.once_in(3) { r.of(&ODD_BYTES) } else { r.bits() as u8 }).collect();
+        compare_load(r, tally, &noise);
+    }
+}
+
+/// Numbers at the limits and far over them in each field; 31 to 34 lines, with faults in the last ones; the longest text.
+fn full_texts(r: &mut Random, tally: &mut Tally) {
+    for digits in digits_at_limits() {
+        for text in texts_with_digits(&digits) {
+            compare_load(r, tally, &text);
+        }
+    }
+    for text in texts_at_line_limit() {
+        compare_load(r, tally, &text);
+    }
+    for lines in 31..=34 {
+        let text = text_for(r, lines);
+        for other in damaged_texts(&text).iter().chain(&other_line_ends(&text)) {
+            compare_load(r, tally, other);
+        }
+    }
+    let longest = "1000000,1000000,1000000,1000000\n".repeat(32).into_bytes();
+    assert_eq!(longest.len(), 1_024);
+    assert!(reference::load(&longest).is_ok());
+    for end in 0..=longest.len() {
+        compare_load(r, tally, &longest[..end]);
+    }
+    for more in ODD_BYTES {
+        compare_load(r, tally, &[&longest[..], &[more]].concat());
+    }
+}
+
 /// Walks that reach the horizon or take many q, and jitters for which every K in 0..J can only just be tried.
 fn long_walks(r: &mut Random, tally: &mut Tally) {
     let sheets: [&[[u32; 4]]; 6] = [
@@ -624,6 +728,41 @@ fn short_answers(r: &mut Random, tally: &mut Tally) {
         let same = answer.holds(None) && sheet.holds(None) && task.holds(None) && tick.holds(None) && cost.holds(None);
         tally.note(6, refused(number, place), got, same, || format!("sheet {} slots {:?} answer {} file {:?}", s, slots, a, file));
     }
+
+    // texts: the slots of the sheet and of the answer, and what decides
+    let texts: [(&str, usize, usize, (u32, u64)); 18] = [
+        ("6,5,2,6\n8,7,2,8\n", 127, 1, (13, 128)),
+        ("6,5,2,6\n8,7,2,8\n", 128, 0, (13, 1)),
+        ("6,5,2,6\n8,7,2,8\n", 0, 0, (13, 128)),
+        ("", 0, 0, (5, 0)),
+        ("\n", 0, 0, (16, 0)),
+        ("6,5,2,6", 128, 1, (16, 0)),
+        ("6,5,2,6\r\n", 128, 1, (16, 0)),
+        ("6,5,2,6\n8,7,2,8\n8,7,2,08\n", 127, 0, (16, 2)),
+        ("6,5,2,6\n8,7,2,8\n\n", 128, 0, (16, 2)),
+        ("6,5,2,6\n8,7,9,8\n8,7,2,08\n", 127, 0, (6, 1)),
+        ("6,5,2,6\n1000001,7,9,+8\n", 128, 1, (16, 1)),
+        ("0,5,2,6,\n", 128, 1, (16, 0)),
+        ("0,5,2,6\nx\n", 128, 1, (6, 0)),
+        ("6,5,4294967298,6\n", 128, 1, (6, 0)),
+        ("18446744073709551622,5,2,6\n", 128, 1, (6, 0)),
+        ("6,5,2,1000001\n", 0, 0, (6, 0)),
+        ("6,5,2,6\n8,7,2,8", 0, 1, (16, 1)),
+        ("6,5,2,6\n8,0,0,8\n", 128, 0, (6, 1)),
+    ];
+    for (text, s, a, (number, place)) in texts {
+        let (mut answer, mut sheet) = (words(r, a), numbers(r, s));
+        let got = library::load(text.as_bytes(), &mut sheet.now, &mut answer.now);
+        let same = answer.holds(None) && sheet.holds(None);
+        tally.note(8, refused(number, place), got, same, || format!("sheet {} answer {} text {:?}", s, a, text));
+    }
+    let full = "6,5,2,6\n".repeat(32);
+    for (last, number) in [("6,5,2,6\n", 4), ("0,0,0,0\n", 4), ("6,5,2,6", 16), ("6,5,2\n", 16), ("\n", 16), ("6,5,2,06\n", 16)] {
+        let (mut answer, mut sheet) = (words(r, 1), numbers(r, 128));
+        let got = library::load(format!("{full}{last}").as_bytes(), &mut sheet.now, &mut answer.now);
+        let same = answer.holds(None) && sheet.holds(None);
+        tally.note(8, refused(number, 32), got, same, || format!("32 lines and {:?}", last));
+    }
 }
 
 fn timed(name: &str, part: impl FnOnce()) {
@@ -640,6 +779,7 @@ fn main() {
     println!("reference: {} sums and examples of document 01 agree", sums::check());
     timed("reference: W(q) by step and by tick", || check_reference_windows(r, 2_000));
     timed("reference: run by event and by tick", || check_reference_run(r, 2_000));
+    timed("reference: texts there and back", || check_reference_texts(r, 20_000));
     timed("printed sheet", || printed(r, tally));
     timed("answers that are too short", || short_answers(r, tally));
     timed("small sheets and lists", || small(r, tally, 100_000));
@@ -650,16 +790,18 @@ fn main() {
     timed("ticks at the limit", || late_ticks(r, tally, 3));
     timed("files, cut and changed at every byte", || files(r, tally, 1_000));
     timed("full files", || full_files(r, tally));
+    timed("texts, cut and changed at every byte", || texts(r, tally, 200));
+    timed("numbers and lines at the limits", || full_texts(r, tally));
     timed("long walks", || long_walks(r, tally));
     for (name, n) in NAMES.iter().zip(tally.calls) {
         println!("{:<14} {:8} calls", name, n);
     }
-    let each: Vec<String> = (1..16).map(|n| format!("{}: {}", n, tally.refusals[n])).collect();
+    let each: Vec<String> = (1..17).map(|n| format!("{}: {}", n, tally.refusals[n])).collect();
     println!("refusals by number  {}", each.join("  "));
     let [horizon, late, fits] = tally.verdicts;
     println!("verdicts  horizon {}  late {}  fits {}; too close {}; passed over {}", horizon, late, fits, tally.too_close, tally.passed_over);
     println!("outside comparison: {} calls, {} differences", tally.calls.iter().sum::<u64>(), tally.differences);
-    let missing = (1..16).any(|n| tally.refusals[n] == 0) || tally.verdicts.contains(&0);
+    let missing = (1..17).any(|n| tally.refusals[n] == 0) || tally.verdicts.contains(&0);
     if missing {
         println!("some refusal or verdict never came up");
     }

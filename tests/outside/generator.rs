@@ -1,6 +1,6 @@
-//! Seeded cases: sheets, kept jitters, lists of releases and files, sound and damaged.
+//! Seeded cases: sheets, kept jitters, lists of releases, files and texts, sound and damaged.
 
-use crate::reference::{encode, Release, Sheet, Task, MAX_TICK};
+use crate::reference::{encode, text_of, Release, Sheet, Task, MAX_TICK};
 
 /// SplitMix64.
 pub struct Random {
@@ -214,4 +214,140 @@ pub fn random_file(r: &mut Random) -> Vec<u8> {
         file.push(3);
     }
     file
+}
+
+// ---- Texts -------------------------------------------------------------------------------------------------------------
+
+/// Bytes that a damaged text may have in some place: of other forms, of neighbours of the digits, and digits.
+pub const ODD_BYTES: [u8; 20] = [
+    b'\r', b' ', b'\t', b',', b'+', b'-', b'0', b'9', 0, 127, 128, 255, b'\n', b':', b'/', b'1', b'.', b';', b'"', b'e',
+];
+
+/// Tasks at the limits.
+const EDGE_TASKS: [Task; 5] = [
+    Task { p: 1, j: 0, e: 1, d: 1 },
+    Task { p: 1_000_000, j: 1_000_000, e: 1_000_000, d: 1_000_000 },
+    Task { p: 1_000_000, j: 0, e: 1, d: 1 },
+    Task { p: 999_999, j: 999_999, e: 999_999, d: 1_000_000 },
+    Task { p: 10, j: 1_000_000, e: 10, d: 999_999 },
+];
+
+/// Tasks within the limits, some at them.
+pub fn tasks_for(r: &mut Random, n: usize) -> Vec<Task> {
+    (0..n).map(|_| if r.once_in(4) { r.of(&EDGE_TASKS) } else { small_task(r) }).collect()
+}
+
+/// A sound text.
+pub fn text_for(r: &mut Random, lines: usize) -> Vec<u8> {
+    text_of(&tasks_for(r, lines))
+}
+
+/// A byte changed, put in before, taken away or doubled, at each place and at the end; and the text cut at each place.
+pub fn damaged_texts(text: &[u8]) -> Vec<Vec<u8>> {
+    let mut all = Vec::new();
+    for at in 0..=text.len() {
+        let (before, after) = text.split_at(at);
+        let rest = after.get(1..).unwrap_or(&[]);
+        all.push(before.to_vec());
+        all.push([before, rest].concat());
+        all.push([before, after.get(..1).unwrap_or(&[]), after].concat());
+        for odd in ODD_BYTES {
+            all.push([before, &[odd], rest].concat());
+            all.push([before, &[odd], after].concat());
+        }
+    }
+    all
+}
+
+/// Line ends of other forms, and empty lines: in all lines, and in each alone.
+pub fn other_line_ends(text: &[u8]) -> Vec<Vec<u8>> {
+    let ends: [&[u8]; 7] = [b"\r\n", b"\n\r", b"\r", b"\n\n", b" \n", b",\n", b""];
+    let lines: Vec<&[u8]> = text.split_inclusive(|&b| b == b'\n').collect();
+    let mut all = Vec::new();
+    for end in ends {
+        for which in 0..=lines.len() {
+            let ended = lines.iter().enumerate().flat_map(|(n, line)| {
+                let bare = &line[..line.len() - 1];
+                if which == lines.len() || which == n { [bare, end] } else { [bare, b"\n"] }
+            });
+            all.push(ended.collect::<Vec<_>>().concat());
+        }
+    }
+    for blank in [&b"\n"[..], b"\r\n", b" \n", b"\t\n"] {
+        for at in 0..=lines.len() {
+            all.push([&lines[..at].concat(), blank, &lines[at..].concat()].concat());
+        }
+    }
+    all
+}
+
+/// Numbers as digits: at the limits, at the widths of machine numbers and past them by a number that is allowed, of 100 and of
+/// 5,000 digits, some of which end in an allowed number that 64 bits would be left with; and forms that are no number.
+pub fn digits_at_limits() -> Vec<String> {
+    let mut all: Vec<String> = ["", "00", "01", "-1", "+1", "1 ", " 1", "1.0", "1e3", "0x1"].iter().map(|s| s.to_string()).collect();
+    for n in [0u128, 1, 2, 9, 10, 999_999, 1_000_000, 1_000_001, 1_000_009, 9_999_999, 10_000_000, 10_000_010] {
+        all.push(n.to_string());
+    }
+    for bits in [31, 32, 33, 63, 64, 65, 127] {
+        all.push(((1u128 << bits) - 1).to_string());
+        for more in [0, 1, 2, 6, 1_000_000] {
+            all.push(((1u128 << bits) + more).to_string());
+        }
+    }
+    for zeros in [18, 19, 20, 63, 99, 4_999] {
+        let tail = |end: &str| format!("1{}{}", "0".repeat(zeros - end.len()), end);
+        all.extend([tail(""), tail("1"), tail("6"), "9".repeat(zeros + 1), "0".repeat(zeros + 1), format!("0{}", tail(""))]);
+    }
+    all
+}
+
+/// Each of these digits in each field of a line that is the first, a middle or the last one.
+pub fn texts_with_digits(digits: &str) -> Vec<Vec<u8>> {
+    let mut all = Vec::new();
+    for field in 0..4 {
+        for (before, after) in [(0, 0), (0, 2), (2, 1), (31, 0), (32, 0), (32, 1)] {
+            let mut fields = ["20", "3", "1", "30"];
+            fields[field] = digits;
+            let line = format!("{}\n", fields.join(","));
+            all.push(["6,5,2,6\n".repeat(before), line, "8,7,2,8\n".repeat(after)].concat().into_bytes());
+        }
+    }
+    all
+}
+
+/// Lines with some fault, or none: of the form, of the range, of a number that is too long, and of two kinds at once.
+pub const ODD_LINES: [&str; 14] = [
+    "6,5,2,6\n", "6,5,2\n", "6,5,2,6,1\n", "\n", "6,5,2,06\n", "6,5,2,6\r\n", "6,5,7,6\n", "0,0,0,0\n", "6,1000001,2,6\n",
+    "6,5,2,100000000000000000000000000000000000006\n", "0,5,2,-6\n", "1000001,5,2,6 \n", "6,5,2,6", "",
+];
+
+/// Texts of some 30 to 35 lines, the last of which have such faults.
+pub fn texts_at_line_limit() -> Vec<Vec<u8>> {
+    let mut all = Vec::new();
+    for sound in 29..=33 {
+        for a in ODD_LINES {
+            for b in ODD_LINES {
+                all.push(["6,5,2,6\n".repeat(sound).as_str(), a, b].concat().into_bytes());
+                all.push(["6,5,2,6\n".repeat(sound - 1).as_str(), a, "8,7,2,8\n", b].concat().into_bytes());
+            }
+        }
+    }
+    all
+}
+
+/// Digits, commas and line feeds in any order, mostly in the order of a line.
+pub fn random_text(r: &mut Random) -> Vec<u8> {
+    let mut text = Vec::new();
+    for _ in 0..r.within(0, 6) {
+        if r.once_in(8) {
+            text.extend_from_slice(r.of(&ODD_LINES).as_bytes());
+            continue;
+        }
+        for field in 0..4 {
+            let n = r.of(&[0, 1, 5, 9, 10, 99, 1_000, 999_999, 1_000_000, 1_000_001, u32::MAX]);
+            text.extend_from_slice(if r.once_in(3) { n } else { r.within(1, 12) }.to_string().as_bytes());
+            text.push(if r.once_in(40) { r.of(&ODD_BYTES) } else if field < 3 { b',' } else { b'\n' });
+        }
+    }
+    text
 }

@@ -1,5 +1,6 @@
 /*
- * The constants of include/nolkrada.h: document 01's limits, the sizes of files, and each refusal by its name, got from the archive.
+ * The constants of include/nolkrada.h: document 01's limits, the sizes of files and texts, and each refusal by its name, got from
+ * the archive.
  */
 #include <stdio.h>
 #include <string.h>
@@ -14,6 +15,8 @@ SAME(NOLKRADA_SHEET_NUMBERS, 4 * NOLKRADA_MAX_TASKS);
 SAME(NOLKRADA_MAX_FILE, 17 * NOLKRADA_MAX_TASKS + 10 * NOLKRADA_MAX_RELEASES + 1);
 /* One more record after the last that is allowed, a task: the longest. */
 SAME(NOLKRADA_READ_BYTES, 17 * NOLKRADA_MAX_TASKS + 10 * NOLKRADA_MAX_RELEASES + 17);
+/* Four numbers of up to 7 digits, three commas and a line feed in a line. */
+SAME(NOLKRADA_MAX_TEXT, NOLKRADA_MAX_TASKS * (4 * 7 + 3 + 1));
 
 #define TEXT_OF(x) #x
 #define TEXT(x) TEXT_OF(x)
@@ -38,6 +41,12 @@ static uint64_t read_bytes(const uint8_t *file, size_t length) {
                          NOLKRADA_MAX_RELEASES, answer, 3);
 }
 
+static uint64_t load_bytes(const char *text, size_t length) {
+    return nolkrada_load((const uint8_t *)text, length, sheet, NOLKRADA_SHEET_NUMBERS, answer, 3);
+}
+
+static uint64_t load(const char *text) { return load_bytes(text, strlen(text)); }
+
 /* The largest file, then one more byte, release or task. */
 static void sizes(void) {
     static uint8_t file[NOLKRADA_READ_BYTES];
@@ -57,6 +66,23 @@ static void sizes(void) {
     memcpy(file + end, file, 17);
     expect("one more task", read_bytes(file, NOLKRADA_READ_BYTES), NOLKRADA_REFUSED_TASK_AFTER_RELEASE, end);
     expect("one more task, cut", read_bytes(file, NOLKRADA_READ_BYTES - 1), NOLKRADA_REFUSED_CUT, end);
+}
+
+/* The longest text, then one more byte, one more line, and a last line that is cut. */
+static void text_sizes(void) {
+    static const char line[] = "1000000,1000000,1000000,1000000\n";
+    static char text[NOLKRADA_MAX_TEXT + sizeof line];
+    const size_t one = sizeof line - 1;
+    for (size_t at = 0; at + one <= sizeof text; at += one) memcpy(text + at, line, one);
+    expect("load of the longest text", load_bytes(text, NOLKRADA_MAX_TEXT), 0, 0);
+    if (answer[0] != NOLKRADA_MAX_TASKS) wrong = 1;
+    for (size_t i = 0; i < NOLKRADA_SHEET_NUMBERS; i++) wrong |= sheet[i] != 1000000;
+    expect("one more line", load_bytes(text, NOLKRADA_MAX_TEXT + one), NOLKRADA_REFUSED_TOO_MANY_TASKS, 32);
+    expect("one more byte", load_bytes(text, NOLKRADA_MAX_TEXT + 1), NOLKRADA_REFUSED_LINE, 32);
+    expect("one byte less", load_bytes(text, NOLKRADA_MAX_TEXT - 1), NOLKRADA_REFUSED_LINE, 31);
+    expect("one line", load("6,5,2,6\n"), 0, 0);
+    if (answer[0] != 1 || memcmp(sheet, printed, 4 * sizeof sheet[0]) != 0) wrong = 1;
+    for (size_t i = 4; i < NOLKRADA_SHEET_NUMBERS; i++) wrong |= sheet[i] != 0;
 }
 
 static void refusals(void) {
@@ -82,6 +108,12 @@ static void refusals(void) {
     expect("short array", nolkrada_choice(printed, n, 3, kept, 2, worst, 3), NOLKRADA_REFUSED_SHORT_ARRAY, 3);
     expect("no such task", nolkrada_verdict(printed, n, 3, 3, zero, 3, answer, 3), NOLKRADA_REFUSED_NO_SUCH_TASK, 3);
     expect("unfit", nolkrada_choice(unfit, 8, 2, kept, 3, worst, 3), NOLKRADA_REFUSED_UNFIT, 1);
+    expect("line", load("6,5,2,6\n8,7,2,8\r\n"), NOLKRADA_REFUSED_LINE, 1);
+    expect("line before range", load("0,5,2,6 \n"), NOLKRADA_REFUSED_LINE, 0);
+    expect("range in a line", load("6,5,2,6\n8,7,2,8\n8,7,20000000000000000000000002,8\n"), NOLKRADA_REFUSED_RANGE, 2);
+    expect("no line", load(""), NOLKRADA_REFUSED_NO_TASK, 0);
+    expect("short sheet", nolkrada_load((const uint8_t *)"6,5,2,6\n", 8, sheet, 127, answer, 3), NOLKRADA_REFUSED_SHORT_ARRAY, 128);
+    expect("short answer", nolkrada_load((const uint8_t *)"6,5,2,6\n", 8, sheet, 128, answer, 0), NOLKRADA_REFUSED_SHORT_ARRAY, 1);
 }
 
 /* The verdicts of the printed sheet's second task, and of a task under a full load. */
@@ -98,6 +130,7 @@ static void verdicts(void) {
 int main(void) {
     if (strcmp(version, NOLKRADA_VERSION) != 0) wrong = 1;
     sizes();
+    text_sizes();
     refusals();
     verdicts();
     puts(wrong ? "header: something is not as it says" : "header: limits, sizes, refusals and verdicts as it says");

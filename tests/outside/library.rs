@@ -36,6 +36,9 @@ extern "C" {
         tick: *const u32, tick_length: usize, cost: *const u32, cost_length: usize, out: *mut u8, out_length: usize,
         answer: *mut u64, answer_length: usize,
     ) -> u64;
+    fn nolkrada_load(
+        text: *const u8, text_length: usize, sheet: *mut u32, sheet_length: usize, answer: *mut u64, answer_length: usize,
+    ) -> u64;
 }
 
 /// Columns of releases, each with a length of its own.
@@ -114,6 +117,14 @@ pub fn write(sheet: &[u32], count: u32, n: u32, list: Columns, out: &mut [u8], a
         nolkrada_write(
             sheet.as_ptr(), sheet.len(), count, n, list.task.as_ptr(), list.task.len(), list.tick.as_ptr(), list.tick.len(),
             list.cost.as_ptr(), list.cost.len(), out.as_mut_ptr(), out.len(), answer.as_mut_ptr(), answer.len(),
+        )
+    }
+}
+
+pub fn load(text: &[u8], sheet: &mut [u32], answer: &mut [u64]) -> u64 {
+    unsafe {
+        nolkrada_load(
+            text.as_ptr(), text.len(), sheet.as_mut_ptr(), sheet.len(), answer.as_mut_ptr(), answer.len(),
         )
     }
 }

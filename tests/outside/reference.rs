@@ -1,6 +1,6 @@
-//! An implementation of document 01 for comparison, written from its words alone. It shares no code and no method with the
+//! An implementation of document 01, and of document 02's text sheets, for comparison, written from their words alone. It shares no code and no method with the
 //! library: ready ticks and the trace check look at every pair of jobs, W(q) is found by walking over the ticks at which
-//! the demand steps, and the choice tries every K in rising order.
+//! the demand steps, the choice tries every K in rising order, and a text is split into whole lines and fields.
 
 pub const MAX_TASKS: usize = 32;
 pub const MAX_RELEASES: usize = 1024;
@@ -557,4 +557,70 @@ pub fn read(file: &[u8], slots: [usize; 3]) -> Result<(Sheet, Vec<Release>), Ref
         check_slots(s, list.len())?;
     }
     Ok((sheet, list))
+}
+
+// ---- Sheets as text ----------------------------------------------------------------------------------------------------
+
+/// The number of a field: decimal digits alone, at least one, and no zero before others. None where it has another form.
+/// One that 32 bits cannot hold is over every limit, so the largest of 32 bits stands for it.
+fn numeral(field: &[u8]) -> Option<u32> {
+    let text = std::str::from_utf8(field).ok()?;
+    let digits = !text.is_empty() && text.chars().all(|c| c.is_ascii_digit());
+    let leading = text.len() > 1 && text.starts_with('0');
+    if digits && !leading { Some(text.parse().unwrap_or(u32::MAX)) } else { None }
+}
+
+/// The task of a line without its line feed; none where the line is not P,J,E,D.
+fn line_task(line: &[u8]) -> Option<Task> {
+    let fields: Vec<u32> = line.split(|&b| b == b',').map(numeral).collect::<Option<_>>()?;
+    match fields[..] {
+        [p, j, e, d] => Some(Task { p, j, e, d }),
+        _ => None,
+    }
+}
+
+/// Whether a line that begins so can become P,J,E,D.
+fn may_become_line(begun: &[u8]) -> bool {
+    let fields: Vec<&[u8]> = begun.split(|&b| b == b',').collect();
+    let (last, before) = fields.split_last().unwrap();
+    fields.len() <= 4 && before.iter().all(|f| numeral(f).is_some()) && (last.is_empty() || numeral(last).is_some())
+}
+
+/// Whether the answer stays, whatever follows the text: one of its whole lines is refused, or the line begun can have no other answer.
+pub fn decided(text: &[u8]) -> bool {
+    let begun = text.rsplit(|&b| b == b'\n').next().unwrap();
+    let whole = &text[..text.len() - begun.len()];
+    (!whole.is_empty() && load(whole).is_err()) || !may_become_line(begun)
+}
+
+/// What a text holds. The earliest line decides, with its number from 0; on a line 16, then 4, then 6.
+pub fn load(text: &[u8]) -> Result<Sheet, Refusal> {
+    let mut lines: Vec<&[u8]> = text.split(|&b| b == b'\n').collect();
+    let after_last_feed = lines.pop().unwrap();
+    let mut tasks = Vec::new();
+    for (n, line) in lines.iter().enumerate() {
+        let Some(t) = line_task(line) else {
+            return refuse(16, n);
+        };
+        if n == MAX_TASKS {
+            return refuse(4, n);
+        }
+        if !in_range(t) {
+            return refuse(6, n);
+        }
+        tasks.push(t);
+    }
+    if !after_last_feed.is_empty() {
+        return refuse(16, lines.len());
+    }
+    if tasks.is_empty() {
+        return refuse(5, 0);
+    }
+    Ok(Sheet::of(&tasks))
+}
+
+/// The text of some tasks.
+pub fn text_of(tasks: &[Task]) -> Vec<u8> {
+    let lines = tasks.iter().map(|t| format!("{},{},{},{}\n", t.p, t.j, t.e, t.d));
+    lines.collect::<String>().into_bytes()
 }

@@ -17,11 +17,13 @@
 
 static uint32_t sheet[NUMBERS], kept[SLOTS], worst[SLOTS], task[SLOTS], tick[SLOTS], cost[SLOTS], ready[SLOTS], finish[SLOTS];
 static uint8_t file[NOLKRADA_READ_BYTES];
+static const char line[] = "1000000,1000000,1000000,1000000\n";
+static char text[NOLKRADA_MAX_TEXT + sizeof line - 1];
 static uint64_t answer[3], code;
-/* The parts of a call that a case changes: how many tasks, releases, slots, bytes, numbers of a sheet that is
- * read and words there are, and which task is asked for. */
+/* The parts of a call that a case changes: how many tasks, releases, slots, bytes, characters, numbers of a sheet that is
+ * read or loaded and words there are, and which task is asked for. */
 static uint32_t tasks, releases, which;
-static size_t slots, bytes, numbers_lent, words;
+static size_t slots, bytes, characters, numbers_lent, words;
 
 static void nothing(void) { code = 0; }
 static void arrival_count(void) {
@@ -45,8 +47,11 @@ static void read_file(void) {
 static void write_file(void) {
     code = nolkrada_write(sheet, NUMBERS, tasks, releases, task, slots, tick, slots, cost, slots, file, bytes, answer, words);
 }
+static void load_text(void) {
+    code = nolkrada_load((const uint8_t *)text, characters, sheet, numbers_lent, answer, words);
+}
 
-/* 32 tasks, 1,024 releases and their file. */
+/* 32 tasks, 1,024 releases and their file; the longest text, and one line more behind it. */
 static void full(void) {
     for (uint32_t i = 0; i < NOLKRADA_MAX_TASKS; i++) {
         const uint32_t numbers[4] = {3000 + 100 * i, 1500, 60, 1000000};
@@ -63,6 +68,8 @@ static void full(void) {
     which = NOLKRADA_MAX_TASKS - 1;
     slots = SLOTS;
     bytes = NOLKRADA_MAX_FILE;
+    for (size_t at = 0; at < sizeof text; at += sizeof line - 1) memcpy(text + at, line, sizeof line - 1);
+    characters = NOLKRADA_MAX_TEXT;
     numbers_lent = NUMBERS;
     words = 3;
     write_file();
@@ -80,10 +87,17 @@ static void tight(void) { sheet[NUMBERS - 1] = 60; }
 static void crowded(void) { memset(tick, 0, sizeof tick); }
 static void cut(void) { bytes = NOLKRADA_MAX_FILE - 1; }
 static void one_more_byte(void) { file[bytes++] = 0; }
+static void no_text(void) { characters = 0; }
+static void text_cut(void) { characters = NOLKRADA_MAX_TEXT - 1; }
+static void one_more_line(void) { characters = sizeof text; }
+static void line_form(void) { text[NOLKRADA_MAX_TEXT - 2] = '\r'; }
+static void line_zero(void) { text[0] = '0'; }
+static void line_range(void) { text[NOLKRADA_MAX_TEXT - 2] = '1'; }
 static void few_numbers(void) { numbers_lent = NUMBERS - 1; }
 static void no_words(void) { words = 0; }
 static void (*const cases[])(void) = {nothing, few_numbers, no_words, no_slots, many_tasks, many_releases, no_such_task, last_range, last_cost,
-                                      last_kept, tight, crowded, cut, one_more_byte};
+                                      last_kept, tight, crowded, cut, one_more_byte, no_text, text_cut, one_more_line, line_form,
+                                      line_zero, line_range};
 
 static unsigned char room[1 << 16];
 static ucontext_t outside, inside;
@@ -131,5 +145,6 @@ int main(void) {
     wrong += over("nolkrada_run", run, OTHER_LIMIT);
     wrong += over("nolkrada_read", read_file, READ_LIMIT);
     wrong += over("nolkrada_write", write_file, OTHER_LIMIT);
+    wrong += over("nolkrada_load", load_text, READ_LIMIT);
     return wrong != 0;
 }

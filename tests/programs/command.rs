@@ -23,6 +23,9 @@ extern "C" {
     fn geteuid() -> u32;
 }
 
+/// The programs that ./run calls.
+const PROGRAMS: [&str; 3] = ["choose", "replay", "choose_csv"];
+
 const INT: i32 = 2;
 const KILL: i32 = 9;
 const PIPE: i32 = 13;
@@ -161,7 +164,7 @@ mkdir busy || { echo "rt: two at once"; exit 1; }
     [ -z "$spoil" ] || echo spoilt >>"$spoil"
     [ "$status" = 0 ] || echo "rt: answers NOT PROVED: the goal of line 7"
     mkdir -p target/bin target/staticlib
-    for one in choose replay; do
+    for one in choose replay choose_csv; do
         from=${program:-real/$one}
         head -c 100 "$from" >"target/bin/$one"
         tail -c +101 "$from" >>"target/bin/$one"
@@ -197,19 +200,20 @@ fn stub_tree(name: &str) -> Tree {
     let root = std::env::current_dir().unwrap().join("target/programs/trees").join(name);
     let _ = fs::remove_dir_all(&root);
     let tree = Tree { path: format!("{}:{}", root.join("bin").display(), std::env::var("PATH").unwrap()), root };
-    for file in ["run", "install", "tools/build.sh", "include/nolkrada.h", "crates.txt", "examples/printed.sheet", "examples/overload.sheet"] {
+    let examples = ["examples/printed.sheet", "examples/overload.sheet", "examples/printed.csv", "examples/overload.csv"];
+    for file in ["run", "install", "tools/build.sh", "include/nolkrada.h", "crates.txt"].into_iter().chain(examples) {
         let to = tree.root.join(file);
         fs::create_dir_all(to.parent().unwrap()).unwrap();
         fs::copy(file, to).unwrap();
     }
-    for program in ["choose", "replay"] {
+    for program in PROGRAMS {
         fs::create_dir_all(tree.root.join("real")).unwrap();
         fs::copy(format!("target/built/{program}"), tree.root.join("real").join(program)).unwrap();
     }
     tree.write("real/libnolkrada.a", "the archive\n");
     tree.write("crates/model/specs/Limits.antt", "limits\n");
     tree.write("crates/model/specs/Gap.antt", "gap\n");
-    tree.write("order", &closure(&["choose", "replay"]).join("\n"));
+    tree.write("order", &closure(&PROGRAMS).join("\n"));
     tree.write("bin/rt", STUB);
     fs::set_permissions(tree.root.join("bin/rt"), fs::Permissions::from_mode(0o755)).unwrap();
     tree.plan("");
@@ -277,7 +281,7 @@ fn at_terminal(tree: &Tree, words: &[&str]) -> (Child, File) {
 
 // ---- Tests -------------------------------------------------------------------------------------------------------------
 
-/// The file named, standard input, or the example: for both programs.
+/// The file named, standard input, or the example: for the two programs on files.
 fn inputs(tree: &Tree) {
     let printed = "examples/printed.sheet";
     for (option, end) in [(None, "choose"), (Some("--replay"), "replay")] {
@@ -297,7 +301,7 @@ fn inputs(tree: &Tree) {
         tree.with_file(&none, "examples/overload.sheet").is(0, &example(end), "no file, a file on standard input");
         let said = tree.with_pipe(&none, &fs::read("examples/overload.sheet").unwrap());
         said.is(0, &example(end), "no file, a pipe").says(NO_FILE).says(NOT_READ).says_lines(2);
-        said.says(&format!("./run{} - reads it", option.map_or(String::new(), |o| format!(" {o}"))));
+        said.says(option.map_or("./run - reads it, ./run --csv - as text", |_| "./run --replay - reads it"));
         tree.with_file(&none, printed).says(NOT_READ).says_lines(2);
         // A pipe on which nothing comes and that does not end.
         let mut c = tree.command("run", &none);
@@ -316,6 +320,93 @@ fn inputs(tree: &Tree) {
     }
 }
 
+/// A text, named, on standard input or in pieces.
+fn texts(tree: &Tree) {
+    for name in ["printed", "press", "overload"] {
+        let (file, text) = (format!("examples/{name}.csv"), stored(&format!("{name}.choose")));
+        let code = if text.starts_with("refused ") { 1 } else { 0 };
+        let absolute = fs::canonicalize(&file).unwrap();
+        let absolute = absolute.to_str().unwrap();
+        tree.call(&[absolute]).is(code, &text, &file).says_lines(0);
+        tree.call(&["--csv", absolute]).is(code, &text, &file).says_lines(0);
+        tree.with_file(&["--csv", "-"], &file).is(code, &text, "a text on standard input").says_lines(0);
+        tree.with_pipe(&["--csv", "-"], &fs::read(&file).unwrap()).is(code, &text, "a pipe").says_lines(0);
+        // The wrong program for it, both ways round.
+        tree.with_file(&["-"], &file).is(1, "refused 1 at 0\n", "a text in place of a file").says_lines(0);
+        let sheet = format!("examples/{name}.sheet");
+        tree.with_file(&["--csv", "-"], &sheet).is(1, "refused 16 at 0\n", "a file in place of a text").says_lines(0);
+    }
+    tree.with_pipe(&["--csv", "-"], b"").is(1, "refused 5 at 0\n", "an empty text").says_lines(0);
+    let (child, mut keyboard) = at_terminal(tree, &["--csv", "-"]);
+    keyboard.write_all(b"6,5,2,6\n8,7,2,8\n10,0,2,10\n\x04").unwrap();
+    finish(child, "./run --csv - at a terminal").is(0, &stored("printed.choose"), "typed").says_lines(0);
+    for write in [1, 2, 7] {
+        in_writes(tree.command("run", &["--csv", "-"]), write);
+        in_writes(Command::new("target/built/choose_csv"), write);
+    }
+    decided(tree);
+    unread_text(tree);
+}
+
+/// A text that comes in many small writes answers as the whole.
+fn in_writes(mut c: Command, bytes: usize) {
+    c.stdin(Stdio::piped()).stdout(Stdio::piped()).stderr(Stdio::piped());
+    let mut child = c.spawn().unwrap();
+    let mut stdin = child.stdin.take().unwrap();
+    for part in fs::read("examples/printed.csv").unwrap().chunks(bytes) {
+        stdin.write_all(part).unwrap();
+        std::thread::sleep(Duration::from_millis(1));
+    }
+    drop(stdin);
+    finish(child, "a text in small writes").is(0, &stored("printed.choose"), "small writes").says_lines(0);
+}
+
+/// An answer that is decided ends the reading: the pipe stays open, and nothing more comes.
+fn decided(tree: &Tree) {
+    let many = "6,5,2,6\n".repeat(33);
+    for (text, answer) in [
+        ("\n", "refused 16 at 0\n"),
+        ("x", "refused 16 at 0\n"),
+        ("6,5,2,06", "refused 16 at 0\n"),
+        ("6,5,2,6\r", "refused 16 at 0\n"),
+        ("6,5,2,6\n6,5,7,6\n", "refused 6 at 1\n"),
+        (many.as_str(), "refused 4 at 32\n"),
+    ] {
+        for (mut c, code) in [(Command::new("target/built/choose_csv"), 0), (tree.command("run", &["--csv", "-"]), 1)] {
+            c.stdin(Stdio::piped()).stdout(Stdio::piped()).stderr(Stdio::piped());
+            let mut child = c.spawn().unwrap();
+            let mut open = child.stdin.take().unwrap();
+            open.write_all(text.as_bytes()).unwrap();
+            finish(child, "a text that is decided").is(code, answer, text).says_lines(0);
+            drop(open);
+        }
+    }
+}
+
+/// A standard input that cannot be read: the program prints nothing, and ./run says that there is no answer.
+fn unread_text(tree: &Tree) {
+    let program = || {
+        let mut c = Command::new("target/built/choose_csv");
+        c.stdout(Stdio::piped()).stderr(Stdio::piped());
+        c
+    };
+    let mut c = program();
+    c.stdin(File::open("examples").unwrap());
+    finish(c.spawn().unwrap(), "choose_csv on a directory").is(0, "", "a directory").says_lines(0);
+    let mut c = program();
+    unsafe { c.pre_exec(|| Ok(assert_eq!(close(0), 0))) };
+    finish(c.spawn().unwrap(), "choose_csv without standard input").is(0, "", "closed").says_lines(0);
+    // Open for writing alone.
+    let mut c = program();
+    c.stdin(OpenOptions::new().write(true).open("/dev/null").unwrap());
+    finish(c.spawn().unwrap(), "choose_csv on an output").is(0, "", "an output").says_lines(0);
+    // It can be opened, but nothing can be read from its start.
+    if File::open("/proc/self/mem").is_ok() {
+        let said = tree.call(&["--csv", "/proc/self/mem"]);
+        said.is(3, "", "a failing read").says("choose_csv printed no whole answer").says_lines(1);
+    }
+}
+
 /// The file's name is relative to the caller's folder, and may be any. ./run may be called by a link to it.
 fn names(tree: &Tree) {
     let folder = tree.root.join("folder");
@@ -325,19 +416,47 @@ fn names(tree: &Tree) {
         let mut c = tree.command("run", &[&format!("./{name}")]);
         finish(c.current_dir(&folder).spawn().unwrap(), name).is(1, &stored("overload.choose"), name).says_lines(0);
     }
+    // The end of the name says which program it is for.
+    for (name, text) in [
+        ("a.csv", true), ("A.CSV", true), ("b.Csv", true), (".csv", true), ("a b.csv", true), ("c.sheet.csv", true), ("csv", false),
+        ("acsv", false), ("a.csv.sheet", false), ("a.csvx", false), ("a.csv ", false), ("a.csv\n", false),
+    ] {
+        for file in ["overload.csv", "overload.sheet"] {
+            fs::copy(format!("examples/{file}"), folder.join(name)).unwrap();
+            let expected = match (file.ends_with(".csv"), text) {
+                (true, true) | (false, false) => stored("overload.choose"),
+                (false, true) => "refused 16 at 0\n".to_string(),
+                (true, false) => "refused 1 at 0\n".to_string(),
+            };
+            let mut c = tree.command("run", &[&format!("./{name}")]);
+            finish(c.current_dir(&folder).spawn().unwrap(), name).is(1, &expected, name).says_lines(0);
+        }
+        fs::copy("examples/printed.csv", folder.join(name)).unwrap();
+        let mut c = tree.command("run", &["--csv", &format!("./{name}")]);
+        finish(c.current_dir(&folder).spawn().unwrap(), name).is(0, &stored("printed.choose"), name).says_lines(0);
+    }
     std::os::unix::fs::symlink(tree.root.join("run"), folder.join("link")).unwrap();
     finish(tree.command("folder/link", &[]).spawn().unwrap(), "a link").is(0, &example("choose"), "a link");
 }
 
 fn wrong_calls(tree: &Tree) {
-    let wrong: [&[&str]; 9] = [
+    let wrong: [&[&str]; 20] = [
         &[""], &["a", "b"], &["-", "-"], &["examples/printed.sheet", "--replay"], &["-x"], &["--"], &["--replay", ""],
-        &["--replay", "a", "b"], &["--replay", "--replay"],
+        &["--replay", "a", "b"], &["--replay", "--replay"], &["--csv"], &["--csv", ""], &["--csv", "--csv"], &["--csv", "-x"],
+        &["--csv", "a", "b"], &["examples/printed.csv", "--csv"], &["-", "--csv"], &["a.csv", "b.csv"], &["-x.csv"], &["--CSV", "-"],
+        &["--csv", "examples/printed.csv", "--replay"],
     ];
     for words in wrong {
         tree.call(words).is(2, "", &format!("{words:?}")).says("usage: ./run").says("run: ");
     }
-    for words in [&["-h"] as &[&str], &["--help"], &["--replay", "-h"]] {
+    let no_releases: [&[&str]; 7] = [
+        &["--replay", "examples/printed.csv"], &["--replay", "none.CSV"], &["--replay", "--csv", "examples/printed.csv"],
+        &["--replay", "--csv", "-"], &["--replay", "--csv"], &["--csv", "--replay"], &["--csv", "--replay", "examples/printed.csv"],
+    ];
+    for words in no_releases {
+        tree.call(words).is(2, "", &format!("{words:?}")).says("usage: ./run").says("run: a text has no releases");
+    }
+    for words in [&["-h"] as &[&str], &["--help"], &["--replay", "-h"], &["--csv", "-h"], &["--csv", "--help"]] {
         let said = tree.call(words);
         assert!(said.code() == 0 && said.out.starts_with("usage: ./run") && said.err.is_empty(), "{words:?}");
     }
@@ -357,13 +476,19 @@ fn unreadable(tree: &Tree) {
     for (name, why) in cases {
         tree.call(&[name]).is(2, "", name).says(&format!("run: {name}: ")).says(why).says_lines(1);
         tree.call(&["--replay", name]).is(2, "", name).says(why).says_lines(1);
+        tree.call(&["--csv", name]).is(2, "", name).says(why).says_lines(1);
     }
-    let mut c = tree.command("run", &["-"]);
-    c.stdin(File::open("examples").unwrap());
-    finish(c.spawn().unwrap(), "./run - on a directory").is(2, "", "a directory").says("a directory").says_lines(1);
-    let mut c = tree.command("run", &["-"]);
-    unsafe { c.pre_exec(|| Ok(assert_eq!(close(0), 0))) };
-    finish(c.spawn().unwrap(), "./run - without standard input").is(2, "", "closed").says("closed").says_lines(1);
+    fs::create_dir(tree.root.join("folder.csv")).unwrap();
+    tree.call(&["missing.csv"]).is(2, "", "a missing text").says("run: missing.csv: ").says("no such file").says_lines(1);
+    tree.call(&["folder.csv"]).is(2, "", "a folder").says("run: folder.csv: ").says("a directory").says_lines(1);
+    for words in [&["-"] as &[&str], &["--csv", "-"]] {
+        let mut c = tree.command("run", words);
+        c.stdin(File::open("examples").unwrap());
+        finish(c.spawn().unwrap(), "./run - on a directory").is(2, "", "a directory").says("a directory").says_lines(1);
+        let mut c = tree.command("run", words);
+        unsafe { c.pre_exec(|| Ok(assert_eq!(close(0), 0))) };
+        finish(c.spawn().unwrap(), "./run - without standard input").is(2, "", "closed").says("closed").says_lines(1);
+    }
     assert_eq!(tree.calls(), 0, "rt was called for a file that cannot be read");
 }
 
@@ -376,7 +501,7 @@ fn first_call() {
     tree.plan("wait=$(sed -n 3p order)");
     let mut child = tree.command("run", &[]).spawn().unwrap();
     let mut lines = BufReader::new(child.stderr.take().unwrap()).lines().map(Result::unwrap);
-    let crates = closure(&["choose", "replay"]);
+    let crates = closure(&PROGRAMS);
     let many = crates.len();
     assert_eq!(lines.next().unwrap() + "\n", NO_FILE);
     assert!(lines.next().unwrap().contains(&format!("{many} crates")));
@@ -390,12 +515,15 @@ fn first_call() {
     }
     assert_eq!(lines.next(), None);
     finish(child, "the first call").is(0, &example("choose"), "the first call");
-    assert_eq!(fs::read_to_string(tree.root.join("calls")).unwrap(), "check choose replay\n");
+    assert_eq!(fs::read_to_string(tree.root.join("calls")).unwrap(), "check choose replay choose_csv\n");
     tree.call(&["examples/overload.sheet"]).is(1, &stored("overload.choose"), "the second call").says_lines(0);
     tree.call(&["--replay"]).is(0, &example("replay"), "the third call").says_lines(1);
+    tree.call(&["examples/overload.csv"]).is(1, &stored("overload.choose"), "the fourth call, a text").says_lines(0);
     assert_eq!(tree.calls(), 1, "a later call asked rt");
     let bare = Tree { root: tree.root.clone(), path: path_without_rt(&tree) };
-    bare.call(&["examples/overload.sheet"]).is(1, &stored("overload.choose"), "without rt").says_lines(0);
+    for file in ["examples/overload.sheet", "examples/overload.csv"] {
+        bare.call(&[file]).is(1, &stored("overload.choose"), "without rt").says_lines(0);
+    }
 }
 
 /// A source that changes, comes or goes has the programs proved again, whatever its time is; a new time alone has not.
@@ -425,8 +553,10 @@ fn freshness() {
     let text = fs::read_to_string("crates.txt").unwrap();
     tree.write("crates.txt", &format!("{text}# one line more\n"));
     look(true, "crates.txt changed");
-    tree.remove("target/built/replay");
-    look(true, "a program went");
+    for program in PROGRAMS {
+        tree.remove(&format!("target/built/{program}"));
+        look(true, "a program went");
+    }
     look(false, "nothing changed");
 }
 
@@ -448,9 +578,11 @@ fn failures() {
     tree.write("odd", "#!/bin/sh\necho task one\n");
     tree.plan("program=odd");
     tree.call(&["examples/printed.sheet"]).is(3, "", "an odd program").says("no whole answer");
+    tree.call(&["examples/printed.csv"]).is(3, "", "an odd program").says("choose_csv printed no whole answer");
     tree.write("odd", "#!/bin/sh\necho task one\nkill -9 $$\n");
     tree.write("crates/model/specs/Gap.antt", "gap\n");
     tree.call(&["examples/printed.sheet"]).is(3, "", "a program that is killed").says("ended with status 137");
+    tree.call(&["examples/printed.csv"]).is(3, "", "a program that is killed").says("choose_csv ended with status 137");
 
     let tree = stub_tree("none");
     let bare = Tree { root: tree.root.clone(), path: path_without_rt(&tree) };
@@ -563,7 +695,10 @@ fn install() {
     call(&[], Some("/opt"), stage.to_str()).is(3, "", "not proved").says("NOT PROVED");
     assert!(!stage.exists());
     tree.plan("");
-    let files = [("bin/nolkrada-choose", 0o755), ("bin/nolkrada-replay", 0o755), ("include/nolkrada.h", 0o644), ("lib/libnolkrada.a", 0o644)];
+    let files = [
+        ("bin/nolkrada-choose", 0o755), ("bin/nolkrada-replay", 0o755), ("bin/nolkrada-choose-csv", 0o755),
+        ("include/nolkrada.h", 0o644), ("lib/libnolkrada.a", 0o644),
+    ];
     let said = call(&[], Some("/opt"), stage.to_str());
     let lines: String = files.iter().map(|(f, _)| format!("installed {}/opt/{f}\n", stage.display())).collect();
     said.is(0, &lines, "install");
@@ -577,9 +712,13 @@ fn install() {
     for (file, _) in files {
         assert_eq!(fs::read(direct.join(file)).unwrap(), fs::read(stage.join("opt").join(file)).unwrap(), "{file}");
     }
-    let mut c = Command::new(direct.join("bin/nolkrada-replay"));
-    c.stdin(File::open("examples/printed.sheet").unwrap()).stdout(Stdio::piped());
-    finish(c.spawn().unwrap(), "the installed program").is(0, &stored("printed.replay"), "the installed program");
+    for (program, input, output) in [
+        ("choose", "printed.sheet", "printed.choose"), ("replay", "printed.sheet", "printed.replay"), ("choose-csv", "printed.csv", "printed.choose"),
+    ] {
+        let mut c = Command::new(direct.join(format!("bin/nolkrada-{program}")));
+        c.stdin(File::open(format!("examples/{input}")).unwrap()).stdout(Stdio::piped());
+        finish(c.spawn().unwrap(), "the installed program").is(0, &stored(output), "the installed program");
+    }
     call(&[], tree.root.join("run").to_str(), None).is(3, "", "no place to write").says("cannot write");
 }
 
@@ -587,6 +726,7 @@ fn main() {
     let path = std::env::var("PATH").unwrap();
     let real = Tree { root: std::env::current_dir().unwrap(), path };
     inputs(&real);
+    texts(&real);
     lost_output(&real);
     let tree = stub_tree("names");
     assert_eq!(tree.call(&[]).code(), 0);

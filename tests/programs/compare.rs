@@ -1,4 +1,4 @@
-//! Runs the two programs on stored examples and on generated files, and compares what they print with the reference.
+//! Runs the programs on stored examples and on generated files and texts, and compares what they print with the reference.
 
 #[path = "../outside/generator.rs"]
 #[allow(dead_code)]
@@ -7,21 +7,24 @@ mod generator;
 #[allow(dead_code)]
 mod reference;
 
-use generator::{file_for, legal_list_for, loaded_sheet, random_file, small_sheet, Random};
-use reference::{choice, decode, encode, finish_ticks, ready_ticks, Budget, Refusal, Release, Task};
+use generator::{damaged_texts, digits_at_limits, other_line_ends, texts_at_line_limit, texts_with_digits};
+use generator::{file_for, legal_list_for, loaded_sheet, random_file, random_text, small_sheet, Random};
+use reference::{choice, decode, encode, finish_ticks, load, ready_ticks, text_of, Budget, Refusal, Release, Sheet, Task};
 use std::io::{Read, Write};
-use std::process::{Command, Stdio};
+use std::path::Path;
+use std::process::{Child, Command, Stdio};
 
 const CHOOSE: &str = "target/built/choose";
 const REPLAY: &str = "target/built/replay";
+const CHOOSE_CSV: &str = "target/built/choose_csv";
 
 fn refused(r: Refusal) -> String {
     format!("refused {} at {}\n", r.number, r.place)
 }
 
-/// What the first program prints; none where the reference would search too long.
-fn choose_text(file: &[u8]) -> Option<String> {
-    let (sheet, _) = match decode(file) {
+/// What the first program prints for a file, and the third for a text; none where the reference would search too long.
+fn choose_text(given: Result<Sheet, Refusal>) -> Option<String> {
+    let sheet = match given {
         Ok(x) => x,
         Err(r) => return Some(refused(r)),
     };
@@ -59,7 +62,7 @@ fn replay_text(file: &[u8]) -> Option<String> {
 
 /// The output of a program on an input that is written in pieces of a given size.
 fn run(program: &str, input: &[u8], piece: usize) -> String {
-    let mut child = Command::new(program).stdin(Stdio::piped()).stdout(Stdio::piped()).spawn().expect(program);
+    let mut child = spawned(program);
     let mut stdin = child.stdin.take().unwrap();
     let bytes = input.to_vec();
     let writer = std::thread::spawn(move || {
@@ -78,7 +81,8 @@ fn run(program: &str, input: &[u8], piece: usize) -> String {
 
 fn same(name: &str, file: &[u8], piece: usize) -> usize {
     let mut n = 0;
-    for (program, text) in [(CHOOSE, choose_text(file)), (REPLAY, replay_text(file))] {
+    let sheet = decode(file).map(|(sheet, _)| sheet);
+    for (program, text) in [(CHOOSE, choose_text(sheet)), (REPLAY, replay_text(file))] {
         if let Some(text) = text {
             assert_eq!(run(program, file, piece), text, "{program} on {name}");
             n += 1;
@@ -87,20 +91,52 @@ fn same(name: &str, file: &[u8], piece: usize) -> usize {
     n
 }
 
-/// The files of a folder, with their stored outputs.
+fn same_text(name: &str, text: &[u8], piece: usize) -> usize {
+    let Some(expected) = choose_text(load(text)) else {
+        return 0;
+    };
+    assert_eq!(run(CHOOSE_CSV, text, piece), expected, "{CHOOSE_CSV} on {name}, {}", text.escape_ascii());
+    1
+}
+
+/// A file NAME.sheet with its stored outputs, NAME.choose and NAME.replay.
+fn stored_file(path: &Path) -> usize {
+    let file = std::fs::read(path).unwrap();
+    for (program, end) in [(CHOOSE, "choose"), (REPLAY, "replay")] {
+        let stored = std::fs::read_to_string(path.with_extension(end)).unwrap();
+        assert_eq!(run(program, &file, 4096), stored, "{program} on {}", path.display());
+    }
+    2 + same(&path.display().to_string(), &file, 4096)
+}
+
+/// A text NAME.csv with its stored output, NAME.csv.choose. Beside a file NAME.sheet the text has the tasks of that file, the report
+/// is the same, and NAME.choose stands for both.
+fn stored_text(path: &Path) -> usize {
+    let text = std::fs::read(path).unwrap();
+    let beside = path.with_extension("sheet");
+    let output = if beside.exists() {
+        assert_eq!(load(&text), decode(&std::fs::read(&beside).unwrap()).map(|(sheet, _)| sheet), "{}", path.display());
+        path.with_extension("choose")
+    } else {
+        path.with_extension("csv.choose")
+    };
+    let stored = std::fs::read_to_string(output).unwrap();
+    for piece in [4096, 1] {
+        assert_eq!(run(CHOOSE_CSV, &text, piece), stored, "{CHOOSE_CSV} on {}", path.display());
+    }
+    2 + same_text(&path.display().to_string(), &text, 4096)
+}
+
+/// The files and the texts of a folder.
 fn stored(folder: &str) -> usize {
     let mut n = 0;
     for entry in std::fs::read_dir(folder).unwrap() {
         let path = entry.unwrap().path();
-        if path.extension().map_or(true, |x| x != "sheet") {
-            continue;
-        }
-        let file = std::fs::read(&path).unwrap();
-        for (program, end) in [(CHOOSE, "choose"), (REPLAY, "replay")] {
-            let stored = std::fs::read_to_string(path.with_extension(end)).unwrap();
-            assert_eq!(run(program, &file, 4096), stored, "{program} on {}", path.display());
-        }
-        n += same(&path.display().to_string(), &file, 4096);
+        n += match path.extension().and_then(|x| x.to_str()) {
+            Some("sheet") => stored_file(&path),
+            Some("csv") => stored_text(&path),
+            _ => 0,
+        };
     }
     n
 }
@@ -141,22 +177,69 @@ fn worked() -> Vec<(&'static str, Vec<u8>)> {
     cases
 }
 
-/// An input without end, and an output that nobody reads.
-fn endless() {
-    for program in [CHOOSE, REPLAY] {
-        let task = encode(&sheet(&[[6, 5, 2, 6]]), &[]);
-        let mut child = Command::new(program).stdin(Stdio::piped()).stdout(Stdio::piped()).spawn().unwrap();
-        let mut stdin = child.stdin.take().unwrap();
-        while stdin.write_all(&task[..17]).is_ok() {}
-        let mut out = String::new();
-        child.stdout.take().unwrap().read_to_string(&mut out).unwrap();
-        child.wait().unwrap();
-        assert_eq!(out, "refused 4 at 544\n", "{program} on an endless input");
-        let mut child = Command::new(program).stdin(Stdio::piped()).stdout(Stdio::piped()).spawn().unwrap();
-        drop(child.stdout.take());
-        child.stdin.take().unwrap().write_all(&task).unwrap();
-        child.wait().unwrap();
+/// Texts damaged at every byte, with other line ends, with numbers and lines at the limits; and random ones. Of the many texts that
+/// the outside comparison tries some are taken.
+fn texts(r: &mut Random) -> usize {
+    let mut n = 0;
+    let mut all = Vec::new();
+    for text in [&b"6,5,2,6\n8,7,2,8\n10,0,2,10\n"[..], b"1000000,1000000,1,1000000\n7,0,1,7\n"] {
+        all.extend(damaged_texts(text));
+        all.extend(other_line_ends(text));
     }
+    all.extend(digits_at_limits().iter().flat_map(|digits| texts_with_digits(digits)));
+    all.extend(texts_at_line_limit());
+    for _ in 0..500 {
+        let text = &all[r.within(0, all.len() as u32 - 1) as usize];
+        let piece = r.of(&[1, 3, 31, 4096]);
+        n += same_text("a damaged text", text, piece);
+    }
+    for _ in 0..150 {
+        let s = if r.once_in(3) { loaded_sheet(r, 6, 200) } else { small_sheet(r) };
+        let piece = r.of(&[5, 64, 4096]);
+        n += same_text("a small text", &text_of(&s.tasks), piece);
+        n += same_text("a random text", &random_text(r), piece);
+    }
+    // One line of many digits, longer than any piece that a program may read at a time.
+    let digits = "7".repeat(300_000);
+    n += same_text("300,000 digits", format!("{digits},0,1,1\n").as_bytes(), 65_536);
+    n += same_text("300,000 digits alone", digits.as_bytes(), 65_536);
+    n
+}
+
+fn spawned(program: &str) -> Child {
+    Command::new(program).stdin(Stdio::piped()).stdout(Stdio::piped()).spawn().expect(program)
+}
+
+/// An input without end: the same bytes again and again.
+fn endless(program: &str, part: &[u8], expected: &str) {
+    let mut child = spawned(program);
+    let mut stdin = child.stdin.take().unwrap();
+    while stdin.write_all(part).is_ok() {}
+    let mut out = String::new();
+    child.stdout.take().unwrap().read_to_string(&mut out).unwrap();
+    child.wait().unwrap();
+    assert_eq!(out, expected, "{program} on an endless input");
+}
+
+/// An output that nobody reads.
+fn unread(program: &str, input: &[u8]) {
+    let mut child = spawned(program);
+    drop(child.stdout.take());
+    child.stdin.take().unwrap().write_all(input).unwrap();
+    child.wait().unwrap();
+}
+
+fn odd_ends() {
+    let task = encode(&sheet(&[[6, 5, 2, 6]]), &[]);
+    for program in [CHOOSE, REPLAY] {
+        endless(program, &task[..17], "refused 4 at 544\n");
+        unread(program, &task);
+    }
+    endless(CHOOSE_CSV, b"6,5,2,6\n", "refused 4 at 32\n");
+    endless(CHOOSE_CSV, b"6,5,7,6\n", "refused 6 at 0\n");
+    endless(CHOOSE_CSV, b"6,5,2,6,", "refused 16 at 0\n");
+    endless(CHOOSE_CSV, b"\n", "refused 16 at 0\n");
+    unread(CHOOSE_CSV, b"6,5,2,6\n");
 }
 
 fn main() {
@@ -165,7 +248,7 @@ fn main() {
         n += same(name, &file, 4096);
         n += same(name, &file, 7);
     }
-    endless();
+    odd_ends();
     let mut r = Random::seeded(20_260_101);
     for _ in 0..300 {
         let s = if r.once_in(3) { loaded_sheet(&mut r, 6, 200) } else { small_sheet(&mut r) };
@@ -179,5 +262,6 @@ fn main() {
         cut.truncate(r.within(0, 102) as usize);
         n += same("a cut file", &cut, 4096);
     }
+    n += texts(&mut r);
     println!("programs: {n} runs as the reference says");
 }

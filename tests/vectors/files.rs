@@ -7,7 +7,7 @@ use crate::reference::{encode, read, write, Release, Sheet, Task};
 /// What a byte of a lent buffer holds before a call.
 const BYTE: u8 = 0xee;
 
-fn no_sheet() -> Sheet {
+pub fn no_sheet() -> Sheet {
     Sheet { count: 0, tasks: Vec::new() }
 }
 
@@ -23,7 +23,7 @@ fn reading(file: &[u8], n: usize) -> ReadCall {
     ReadCall { file: file.to_vec(), slots: [held(n), held(n), held(n)] }
 }
 
-fn entries(s: &Sheet) -> String {
+pub fn entries(s: &Sheet) -> String {
     s.tasks.iter().fold(format!(" sheet {}", s.count), |text, t| text + &format!(", {} {} {} {}", t.p, t.j, t.e, t.d))
 }
 

@@ -1,6 +1,6 @@
 //! Writes the stored vectors: for each program its standard input, and the output that it has to write. The answers come from
-//! tests/outside/reference.rs, an implementation of document 01 that shares no code with the library; the worked cases of
-//! document 01 are written out by hand besides.
+//! tests/outside/reference.rs, an implementation of documents 01 and 02 that shares no code with the library; the worked cases of
+//! document 01 and of texts are written out by hand besides.
 //!
 //! Usage: generate FOLDER. Files: FOLDER/NAME/stdin and FOLDER/NAME/stdout.
 
@@ -12,6 +12,7 @@ mod lists;
 #[path = "../outside/reference.rs"]
 mod reference;
 mod run;
+mod text;
 mod trace;
 
 use case::Vectors;
@@ -32,4 +33,5 @@ fn main() {
     write(folder, "vectors_files", files::vectors());
     write(folder, "vectors_analysis", analysis::vectors());
     write(folder, "vectors_run", run::vectors());
+    write(folder, "vectors_text", text::vectors());
 }
