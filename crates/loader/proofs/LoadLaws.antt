@@ -23,6 +23,7 @@ use Rattle.fileformat.proofs.RoundTripCalls.{tasks-of-set}
 use Rattle.text.specs.Text.{lineFeed}
 use Rattle.textformat.specs.Lines.{Line, lastLine, linesFrom, linesOf, fieldsOf}
 use Rattle.textformat.specs.TextSheet.{isFour, hasForm, taskOf, taskIn, lineFault, loadFrom, load, loadSheet}
+use Rattle.textformat.specs.TextTrips.{cutAt}
 use Rattle.textformat.proofs.LineLaws.{line-ends, line-stays}
 use Rattle.textformat.proofs.TextTrips.{load-stop, load-next, load-none, load-end}
 use Rattle.textformat.proofs.EarliestLine.{other-line}
@@ -36,7 +37,7 @@ use Rattle.loader.specs.Loader.{cap, noLine, taken, fresh, halted, pushe
 use Rattle.loader.specs.Pieces.{ClosedSays, DecidedStays}
 use Rattle.loader.proofs.FeedLaws.{going, stopped, fed-refused, refused-fed}
 use Rattle.loader.proofs.PieceLaws.{pieces-join}
-use Rattle.loader.proofs.SeenLaws.{Seen, seen-nothing, some-byte, some-last, Steps, goes, breaks, seen-steps, capped, Closes, forms, fails, seen-closes}
+use Rattle.loader.proofs.SeenLaws.{Seen, seen-nothing, some-byte, some-last, Steps, goes, breaks, seen-steps, Closes, forms, fails, seen-closes}
 
 -- one task more, in the first entry that is free
 set-more : (ts : List Task) (t : Task) → length ts < maxTasks → record { tasks = set (setOf ts .tasks) (length ts) t; count = length ts + 1 } ≡ setOf (ts ++ (t ∷ []))
@@ -132,7 +133,7 @@ module _ (r : List ℕ) (ih : Rest r) (ts : List Task) (m : LineSoFar) (p : List
   four-fault f o g = rw (lineFault, f) g
 
   on-task
-      : (t : Task) → isFour (fieldsOf p) ≡ true → t ≡ capped (taskOf (fieldsOf p)) → (o : Option ℕ) → taskFault (length ts) 0 (taskOf (fieldsOf p)) ≡ o
+      : (t : Task) → isFour (fieldsOf p) ≡ true → t ≡ cutAt cap (taskOf (fieldsOf p)) → (o : Option ℕ) → taskFault (length ts) 0 (taskOf (fieldsOf p)) ≡ o
       → LoadSays (loadFrom ts (line ∷ linesFrom [] r)) (closed (fed (after (going (setOf ts) m) (Ends t)) r))
   unfolding after halted pushed setOf taskIn
   on-task t f e (some k) g =

@@ -13,6 +13,7 @@ use Rattle.taskset.specs.declared.Task.{Task}
 use Rattle.textformat.specs.Numerals.{isDigit, isNumeral, value}
 use Rattle.textformat.specs.Lines.{comma, fieldsFrom, fieldsOf}
 use Rattle.textformat.specs.TextSheet.{allNumerals, isFour, taskOf}
+use Rattle.textformat.specs.TextTrips.{cutAt}
 use Rattle.textformat.proofs.NumeralLaws.{digit-of, value-one, value-snoc, numeral-one, numeral-snoc, zero-alone, numeral-no-digit, numeral-leading}
 use Rattle.textformat.proofs.LineLaws.{field-ends, field-stays}
 use Rattle.loader.specs.declared.LineSoFar.{LineSoFar}
@@ -250,13 +251,9 @@ seen-steps m p b s f = go (isDigit b) refl
     go true d = zero d (afterZero m) refl
     go false d = other d (eqb b comma) refl
 
--- a task whose numbers are kept up to the cap
-abbrev pub capped : Task → Task
-capped t = record { period = min cap (t .period); jitter = min cap (t .jitter); cost = min cap (t .cost); deadline = min cap (t .deadline) }
-
--- what a line feed does to the line
+-- what a line feed does to the line: the task has the numbers kept, cut at the cap
 pub data Closes (p : List ℕ) : Taken → Type 0 where
-  forms : (t : Task) → isFour (fieldsOf p) ≡ true → t ≡ capped (taskOf (fieldsOf p)) → Closes p (Ends t)
+  forms : (t : Task) → isFour (fieldsOf p) ≡ true → t ≡ cutAt cap (taskOf (fieldsOf p)) → Closes p (Ends t)
   fails : isFour (fieldsOf p) ≡ false → Closes p Broken
 
 -- the fields of the line as it stands
@@ -290,7 +287,7 @@ same-task
     → _≡_ {A = Task} (record { period = a; jitter = b; cost = c; deadline = d }) (record { period = a′; jitter = b′; cost = c′; deadline = d′ })
 same-task e f g h = rw (e, f, g, h)
 
-four-task : (m : LineSoFar) (p : List ℕ) (s : Seen m p) → m .digit ≡ true → m .commas ≡ 3 → taskSoFar m ≡ capped (taskOf (fieldsOf p))
+four-task : (m : LineSoFar) (p : List ℕ) (s : Seen m p) → m .digit ≡ true → m .commas ≡ 3 → taskSoFar m ≡ cutAt cap (taskOf (fieldsOf p))
 unfolding taskOf
 four-task m p s n c =
     let k : length (s .done) ≡ 3 = omega (arith, s .commas) in

@@ -19,10 +19,14 @@ use Rattle.model.proofs.TableLaws.{length-table}
 use Rattle.model.proofs.CheckLaws.{valid-of, count-of}
 use Rattle.model.proofs.OrderLaws.{answers, refuses}
 
--- a refusal with one of document 01's numbers and a place of at most B
+-- the largest number of a refusal: 15 in document 01; 16 is that of a text's line
+abbrev pub largestNumber : ℕ
+largestNumber = 16
+
+-- a refusal with one of these numbers and a place of at most B
 pub record Within (B : ℕ) (r : Refusal) : Type 0 where
   pub number-low : 1 ≤ r .number
-  pub number-high : r .number ≤ 15
+  pub number-high : r .number ≤ largestNumber
   pub place-high : r .place ≤ B
 
 -- a larger bound
@@ -30,19 +34,19 @@ pub within-more : (B B′ : ℕ) (r : Refusal) → B ≤ B′ → Within B r →
 within-more B B′ r h w = record { number-low = w .number-low; number-high = w .number-high; place-high = omega (arith, w .place-high) }
 
 -- a refusal that is known
-pub within-known : (B n p : ℕ) (r : Refusal) → 1 ≤ n → n ≤ 15 → p ≤ B → some r ≡ refuse n p → Within B r
+pub within-known : (B n p : ℕ) (r : Refusal) → 1 ≤ n → n ≤ largestNumber → p ≤ B → some r ≡ refuse n p → Within B r
 within-known B n p r a b c e =
     let w : _≡_ {A = Refusal} (record { number = n; place = p }) r = cc in
     let v : Within B (record { number = n; place = p }) = record { number-low = a; number-high = b; place-high = c } in
     rw w at v
 
 -- a test, and a search, that refuse
-within-if : (B : ℕ) (b : Bool) (n p : ℕ) (r : Refusal) → 1 ≤ n → n ≤ 15 → p ≤ B → some r ≡ refuseIf b n p → Within B r
+within-if : (B : ℕ) (b : Bool) (n p : ℕ) (r : Refusal) → 1 ≤ n → n ≤ largestNumber → p ≤ B → some r ≡ refuseIf b n p → Within B r
 unfolding refuseIf
 within-if B true n p r h g l e = within-known B n p r h g l e
 within-if B false n p r h g l e = let z : _≡_ {A = ℕ} 0 1 = cc in absurd (omega arith)
 
-within-at : (B n : ℕ) (o : Option ℕ) (r : Refusal) → 1 ≤ n → n ≤ 15 → ((p : ℕ) → o ≡ some p → p ≤ B) → some r ≡ refuseAt n o → Within B r
+within-at : (B n : ℕ) (o : Option ℕ) (r : Refusal) → 1 ≤ n → n ≤ largestNumber → ((p : ℕ) → o ≡ some p → p ≤ B) → some r ≡ refuseAt n o → Within B r
 unfolding refuseAt
 within-at B n none r h g l e = let z : _≡_ {A = ℕ} 0 1 = cc in absurd (omega arith)
 within-at B n (some p) r h g l e = within-known B n p r h g (l p refl) e

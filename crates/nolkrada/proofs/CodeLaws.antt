@@ -1,4 +1,4 @@
--- Every refusal of a call for C has a number from 1 to 16 and a place below 2^32, so that its code tells both.
+-- Every refusal of a call for C has one of the numbers and a place below 2^32, so that its code tells both.
 use Prim.Native.Nat.{ℕ, _+_, _*_, _/_, _%_, _≤_, _<_}
 use mathlib.Core.Path.{_≡_, refl, sym, ap, ap₂, _∙_}
 use mathlib.Core.Bool.{Bool, true, false, _&&_}
@@ -9,18 +9,17 @@ use native.Mathlib.Nat.{mod-eq-of-lt, div-eq-of-lt, mul-add-div-right, mul-add-m
 use borrow.Author.Tests.{ne-eqb}
 use lib.Dec.{ltb}
 use lib.ListN.{length}
-use Rattle.model.specs.Limits.{maxReleases}
+use Rattle.model.specs.Limits.{maxTasks, maxReleases}
 use Rattle.model.specs.Refusal.{Refusal, Answer, refused, answered}
-use Rattle.model.specs.Checks.{checkSlots}
 use Rattle.model.specs.Calls.{arrivalCall, verdictCall, traceCall}
-use Rattle.model.proofs.RefusalPlaces.{Within, Needs, needs, needs-none, slots-within, refusal-within, answer-within, task-limited, choice-limited, list-limited, ready-limited, run-limited}
+use Rattle.model.proofs.RefusalPlaces.{Within, within-more, Needs, needs, needs-none, slots-within, refusal-within, answer-within, task-limited, choice-limited, list-limited, ready-limited, run-limited}
 use Rattle.taskset.specs.declared.Task.{Task}
 use Rattle.taskset.specs.TaskSet.{viewOf}
 use Rattle.fileformat.specs.File.{File, decode}
 use Rattle.fileformat.proofs.RoundTrips.{decode-valid}
 use Rattle.fileformat.proofs.FilePlaces.{decode-within, write-limited}
 use Rattle.textformat.specs.TextSheet.{load}
-use Rattle.textformat.proofs.TextPlaces.{TextWithin, load-within}
+use Rattle.textformat.proofs.TextPlaces.{load-within}
 use Rattle.nolkrada.specs.Interface.{sheetFrom, refusalCode, codeOf, codeIn, asWords, tooFew, afterSlots, orTooFew, withSlots, oneWord, verdictWords, traceWords}
 use Rattle.nolkrada.specs.Files.{readLent, readWithin, readAnswer, writeAnswer}
 use Rattle.nolkrada.specs.Texts.{loadLent, loadWithin, loadAnswer}
@@ -30,26 +29,13 @@ use Rattle.nolkrada.specs.Codes.{told, refusalFrom, Tells, TellsOf, Code
 abbrev top : ℕ
 top = 4294967295
 
--- a refusal that a code holds
-pub record Held (r : Refusal) : Type 0 where
-  pub number-low : 1 ≤ r .number
-  pub number-high : r .number ≤ 16
-  pub place-high : r .place ≤ top
-
--- one with a number of document 01 and a place that is small, or one of a text
-held : (B : ℕ) (r : Refusal) → B ≤ top → Within B r → Held r
-held B r h w = record { number-low = w .number-low; number-high = omega (arith, w .number-high); place-high = omega (arith, w .place-high) }
-
-held-text : (r : Refusal) → TextWithin r → Held r
-held-text r w = record { number-low = w .number-low; number-high = w .number-high; place-high = omega (arith, w .place-high) }
-
 -- the code of a refusal within bounds: number · 2^32 + place, no bit of the place being lost
-pub code-whole : (r : Refusal) → Held r → refusalCode (r .number) (r .place) ≡ r .number * 4294967296 + r .place
+pub code-whole : (r : Refusal) → Within top r → refusalCode (r .number) (r .place) ≡ r .number * 4294967296 + r .place
 unfolding refusalCode
 code-whole r w = ap (λ x. r .number * 4294967296 + x) (mod-eq-of-lt (omega (arith, w .place-high)))
 
 -- and back
-pub told-code : (r : Refusal) → Held r → told (refusalCode (r .number) (r .place)) ≡ some r
+pub told-code : (r : Refusal) → Within top r → told (refusalCode (r .number) (r .place)) ≡ some r
 unfolding told
 told-code r w = ap told (code-whole r w) ∙ back
   where
@@ -68,12 +54,12 @@ told-code r w = ap told (code-whole r w) ∙ back
         (ap₂ (λ n p. some (record { number = n; place = p })) number place)
 
 -- refusals within bounds are told
-tells : (o : Option Refusal) → ((r : Refusal) → some r ≡ o → Held r) → Tells o
+tells : (o : Option Refusal) → ((r : Refusal) → some r ≡ o → Within top r) → Tells o
 unfolding codeOf told
 tells none h = refl
 tells (some r) h = told-code r (h r refl)
 
-tells-of : {A : Type 0} (a : Answer A) → ((r : Refusal) → a ≡ refused r → Held r) → TellsOf a
+tells-of : {A : Type 0} (a : Answer A) → ((r : Refusal) → a ≡ refused r → Within top r) → TellsOf a
 unfolding codeIn refusalFrom told
 tells-of (answered x) h = refl
 tells-of (refused r) h = told-code r (h r refl)
@@ -85,63 +71,56 @@ words-refused f (answered x) r e = let z : _≡_ {A = ℕ} 0 1 = cc in absurd (o
 words-refused f (refused q) r e = ap refused (cc)
 
 -- one more lent slice, of at most 3 slots
-few-held : (n : ℕ) → n ≤ 3 → Held (tooFew n)
-few-held n h = record { number-low = omega arith; number-high = omega arith; place-high = omega arith }
+few-within : (n : ℕ) → n ≤ 3 → Within top (tooFew n)
+few-within n h = record { number-low = omega arith; number-high = omega arith; place-high = omega arith }
 
-more-held : (n slots : ℕ) (r : Refusal) → n ≤ 3 → Held r → Held (orTooFew n slots r)
+more-within : (n slots : ℕ) (r : Refusal) → n ≤ 3 → Within top r → Within top (orTooFew n slots r)
 unfolding orTooFew
-more-held n slots r h w = go (ltb slots n && afterSlots (r .number)) refl
+more-within n slots r h w = go (ltb slots n && afterSlots (r .number)) refl
   where
-    go : (b : Bool) → (ltb slots n && afterSlots (r .number)) ≡ b → Held (orTooFew n slots r)
-    go true e = rw (orTooFew, e) (few-held n h)
+    go : (b : Bool) → (ltb slots n && afterSlots (r .number)) ≡ b → Within top (orTooFew n slots r)
+    go true e = rw (orTooFew, e) (few-within n h)
     go false e = rw (orTooFew, e) w
 
-slots-told : {A : Type 0} (n slots : ℕ) (a : Answer A) → n ≤ 3 → ((r : Refusal) → a ≡ refused r → Held r) → TellsOf (withSlots n slots a)
+slots-told : {A : Type 0} (n slots : ℕ) (a : Answer A) → n ≤ 3 → ((r : Refusal) → a ≡ refused r → Within top r) → TellsOf (withSlots n slots a)
 unfolding withSlots codeIn refusalFrom
 slots-told n slots (answered x) h f = go (ltb slots n) refl
   where
     go : (b : Bool) → ltb slots n ≡ b → TellsOf (withSlots n slots (answered x))
-    go true e = rw (withSlots, e) (told-code (tooFew n) (few-held n h))
+    go true e = rw (withSlots, e) (told-code (tooFew n) (few-within n h))
     go false e = rw (withSlots, e) (tells-of (answered x) (λ r g. let z : _≡_ {A = ℕ} 0 1 = cc in absurd (omega arith)))
-slots-told n slots (refused q) h f = told-code (orTooFew n slots q) (more-held n slots q h (f q refl))
+slots-told n slots (refused q) h f = told-code (orTooFew n slots q) (more-within n slots q h (f q refl))
 
 words-told
-    : {A : Type 0} (n slots : ℕ) (f : A → List ℕ) (a : Answer A) → n ≤ 3 → ((r : Refusal) → a ≡ refused r → Held r) → TellsOf (withSlots n slots (asWords f a))
+    : {A : Type 0} (n slots : ℕ) (f : A → List ℕ) (a : Answer A) → n ≤ 3 → ((r : Refusal) → a ≡ refused r → Within top r) → TellsOf (withSlots n slots (asWords f a))
 words-told n slots f a h g = slots-told n slots (asWords f a) h (λ r e. g r (words-refused f a r e))
+
+-- what is answered once the lent slices are checked: a refusal is that of the slices
+slotted : {A : Type 0} (x : A) (o : Option Refusal) (r : Refusal) → _≡_ {A = Answer A} (elim o [ none ↦ answered x | some q ↦ refused q ]) (refused r) → some r ≡ o
+slotted x none r e = let z : _≡_ {A = ℕ} 0 1 = cc in absurd (omega arith)
+slotted x (some q) r e = let i : q ≡ r = cc in sym (ap some i)
 
 -- a read: the file's refusal, or 13 for at most 1,024 slots
 lent-needs : (m sheet task tick cost answer : ℕ) → m ≤ maxReleases → Needs maxReleases (readLent m sheet task tick cost answer)
 lent-needs m sheet task tick cost answer h =
     let a : 128 ≤ maxReleases = omega arith in let b : 2 ≤ maxReleases = omega arith in needs a (needs h (needs h (needs h (needs b needs-none))))
 
-read-held
-    : (f : List ℕ) (a : Answer File) (sheet task tick cost answer : ℕ) (r : Refusal) → decode f ≡ a → readWithin a sheet task tick cost answer ≡ refused r → Held r
+read-within
+    : (f : List ℕ) (a : Answer File) (sheet task tick cost answer : ℕ) (r : Refusal) → decode f ≡ a → readWithin a sheet task tick cost answer ≡ refused r → Within top r
 unfolding readWithin
-read-held f (refused q) sheet task tick cost answer r d e = held 10785 r (omega arith) (decode-within f r (d ∙ e))
-read-held f (answered x) sheet task tick cost answer r d e = go (checkSlots (readLent (length (x .releases)) sheet task tick cost answer)) refl
-  where
-    go : (o : Option Refusal) → checkSlots (readLent (length (x .releases)) sheet task tick cost answer) ≡ o → Held r
-    go none g = let w : answered x ≡ refused r = rw (readWithin, g) at e in let z : _≡_ {A = ℕ} 0 1 = cc in absurd (omega arith)
-    go (some q) g =
-        let w : _≡_ {A = Answer File} (refused q) (refused r) = rw (readWithin, g) at e in
-        let i : q ≡ r = cc in
-        held maxReleases r (omega arith)
-        (slots-within maxReleases _ r (lent-needs (length (x .releases)) sheet task tick cost answer (decode-valid f x d .few)) (sym (g ∙ ap some i)))
+read-within f (refused q) sheet task tick cost answer r d e = within-more 10785 top r (omega arith) (decode-within f r (d ∙ e))
+read-within f (answered x) sheet task tick cost answer r d e =
+    within-more maxReleases top r (omega arith)
+    (slots-within maxReleases _ r (lent-needs (length (x .releases)) sheet task tick cost answer (decode-valid f x d .few)) (slotted x _ r e))
 
 -- a load: the text's refusal, or 13 for at most 128 slots
-load-held : (text : List ℕ) (a : Answer (List Task)) (sheet answer : ℕ) (r : Refusal) → load text ≡ a → loadWithin a sheet answer ≡ refused r → Held r
+load-slots : (text : List ℕ) (a : Answer (List Task)) (sheet answer : ℕ) (r : Refusal) → load text ≡ a → loadWithin a sheet answer ≡ refused r → Within top r
 unfolding loadWithin
-load-held text (refused q) sheet answer r d e = held-text r (load-within text r (d ∙ e))
-load-held text (answered ts) sheet answer r d e = go (checkSlots (loadLent sheet answer)) refl
-  where
-    go : (o : Option Refusal) → checkSlots (loadLent sheet answer) ≡ o → Held r
-    go none g = let w : answered ts ≡ refused r = rw (loadWithin, g) at e in let z : _≡_ {A = ℕ} 0 1 = cc in absurd (omega arith)
-    go (some q) g =
-        let w : _≡_ {A = Answer (List Task)} (refused q) (refused r) = rw (loadWithin, g) at e in
-        let i : q ≡ r = cc in
-        let a : 128 ≤ 128 = omega arith in
-        let b : 1 ≤ 128 = omega arith in
-        held 128 r (omega arith) (slots-within 128 _ r (needs a (needs b needs-none)) (sym (g ∙ ap some i)))
+load-slots text (refused q) sheet answer r d e = within-more maxTasks top r (omega arith) (load-within text r (d ∙ e))
+load-slots text (answered ts) sheet answer r d e =
+    let a : 128 ≤ 128 = omega arith in
+    let b : 1 ≤ 128 = omega arith in
+    within-more 128 top r (omega arith) (slots-within 128 (loadLent sheet answer) r (needs a (needs b needs-none)) (slotted ts _ r e))
 
 -- the code of every call for C tells its refusal
 pub codes-tell : CodesTell
@@ -149,26 +128,26 @@ unfolding arrivalCall verdictCall traceCall readAnswer loadAnswer writeAnswer
 codes-tell = record {
   arrival = λ sheet count task kept t answer h.
       words-told 1 (length answer) oneWord _ (omega arith)
-      (λ r e. held top r (omega arith) (answer-within top _ _ r (task-limited (viewOf (sheetFrom sheet count)) top task kept (omega arith) (omega arith)) e));
+      (λ r. answer-within top _ _ r (task-limited (viewOf (sheetFrom sheet count)) top task kept (omega arith) (omega arith)));
   verdict = λ sheet count task kept answer h.
       words-told 3 (length answer) verdictWords _ (omega arith)
-      (λ r e. held top r (omega arith) (answer-within top _ _ r (task-limited (viewOf (sheetFrom sheet count)) top task kept (omega arith) (omega arith)) e));
+      (λ r. answer-within top _ _ r (task-limited (viewOf (sheetFrom sheet count)) top task kept (omega arith) (omega arith)));
   choice = λ sheet count kept worst.
-      tells _ (λ r e. held maxReleases r (omega arith) (refusal-within maxReleases _ (choice-limited (viewOf (sheetFrom sheet count)) kept worst) r e));
+      tells _ (λ r e. within-more maxReleases top r (omega arith) (refusal-within maxReleases _ (choice-limited (viewOf (sheetFrom sheet count)) kept worst) r e));
   trace = λ sheet count n task tick cost answer.
       words-told 2 (length answer) traceWords _ (omega arith)
-      (λ r e. held maxReleases r (omega arith) (answer-within maxReleases _ _ r (list-limited (viewOf (sheetFrom sheet count)) n task tick cost) e));
+      (λ r e. within-more maxReleases top r (omega arith) (answer-within maxReleases _ _ r (list-limited (viewOf (sheetFrom sheet count)) n task tick cost) e));
   ready = λ sheet count kept n task tick cost ready.
-      tells _ (λ r e. held maxReleases r (omega arith)
+      tells _ (λ r e. within-more maxReleases top r (omega arith)
       (refusal-within maxReleases _ (ready-limited (viewOf (sheetFrom sheet count)) kept n task tick cost ready) r e));
   run = λ sheet count kept n task tick cost ready finish.
-      tells _ (λ r e. held maxReleases r (omega arith)
+      tells _ (λ r e. within-more maxReleases top r (omega arith)
       (refusal-within maxReleases _ (run-limited (viewOf (sheetFrom sheet count)) kept n task tick cost ready finish) r e));
   read =
       λ file sheet task tick cost answer. tells-of _
-      (λ r. read-held file (decode file) (length sheet) (length task) (length tick) (length cost) (length answer) r refl);
-  load = λ text sheet answer. tells-of _ (λ r. load-held text (load text) (length sheet) (length answer) r refl);
+      (λ r. read-within file (decode file) (length sheet) (length task) (length tick) (length cost) (length answer) r refl);
+  load = λ text sheet answer. tells-of _ (λ r. load-slots text (load text) (length sheet) (length answer) r refl);
   write = λ sheet count n task tick cost out answer.
       slots-told 1 (length answer) _ (omega arith)
-      (λ r e. held 10785 r (omega arith) (answer-within 10785 _ _ r (write-limited (viewOf (sheetFrom sheet count)) n task tick cost (length out)) e));
+      (λ r e. within-more 10785 top r (omega arith) (answer-within 10785 _ _ r (write-limited (viewOf (sheetFrom sheet count)) n task tick cost (length out)) e));
 }

@@ -14,13 +14,9 @@ use Rattle.taskset.specs.declared.Task.{Task}
 use Rattle.fileformat.specs.File.{taskFault}
 use Rattle.fileformat.proofs.StepLaws.{task-same, task-ranged}
 use Rattle.textformat.specs.TextSheet.{loadFrom, load}
-use Rattle.textformat.specs.TextTrips.{cut, inRecords, SameAsRecords}
+use Rattle.textformat.specs.TextTrips.{cutAt, cut, inRecords, SameAsRecords}
 use Rattle.textformat.proofs.TextTrips.{lineOf, sheet-lines, line-fault, load-stop, task-line}
 use Rattle.textformat.proofs.RecordTrips.{AllFit, same-if-fit}
-
--- a task whose numbers are cut at c
-abbrev pub cutAt : ℕ → Task → Task
-cutAt c t = record { period = min c (t .period); jitter = min c (t .jitter); cost = min c (t .cost); deadline = min c (t .deadline) }
 
 -- c is over every limit
 module _ (c : ℕ) (over : maxTime < c) where

@@ -86,14 +86,13 @@ tasksAlone ts = record { tasks = ts; releases = [] }
 abbrev pub LoadedIsRead : Type 0
 LoadedIsRead = (text : List ℕ) (ts : List Task) → load text ≡ answered ts → decode (encode (tasksAlone ts)) ≡ answered (tasksAlone ts)
 
--- a number as far as four bytes hold it: a larger one counts as the largest, which is over every limit
+-- a task whose numbers are cut at c: a larger one counts as c
+abbrev pub cutAt : ℕ → Task → Task
+cutAt c t = record { period = min c (t .period); jitter = min c (t .jitter); cost = min c (t .cost); deadline = min c (t .deadline) }
+
+-- at the largest number that four bytes hold, which is over every limit
 abbrev pub cut : Task → Task
-cut t = record {
-  period = min 4294967295 (t .period);
-  jitter = min 4294967295 (t .jitter);
-  cost = min 4294967295 (t .cost);
-  deadline = min 4294967295 (t .deadline);
-}
+cut = cutAt 4294967295
 
 -- what a text answers, as the answer of the file with the same numbers: line n is the record at 17n
 unfoldable pub inRecords : Answer (List Task) → Answer File
