@@ -14,6 +14,7 @@ use lib.IntN.{pos}
 use lib.Signed.{ltZ}
 use Rattle.model.specs.Limits.{horizonTick}
 use Rattle.model.specs.Search.{first}
+use Rattle.model.specs.Processor.{pickup}
 use Rattle.model.specs.Tasks.{Tasks}
 use Rattle.model.specs.Gap.{gap}
 use Rattle.model.specs.Demand.{window}
@@ -49,9 +50,9 @@ pub record Met (P J : ℕ) (W : ℕ → Option ℕ) (q A : ℕ) : Type 0 where
   pub ticks : ℕ
   pub before : at < q
   pub is : W at ≡ some ticks
-  pub value : A + at * P ≡ ticks + J
+  pub value : A + at * P ≡ ticks + pickup + J
 
--- the walk has passed every q' below q, W being the windows of the task: A is the largest W(q') + J − q'P, and A − D (or 0) the least kept jitter so far
+-- the walk has passed every q' below q, W being the windows of the task: A is the largest W(q') + pickup + J − q'P, and A − D (or 0) the least kept jitter so far
 pub record Walked (s : Tasks) (above : List ℕ) (i : ℕ) (W : ℕ → Option ℕ) (q A : ℕ) : Type 0 where
   pub within : q ≤ horizonTick
   pub reach : A ≤ s .deadline i + s .jitter i
@@ -59,7 +60,7 @@ pub record Walked (s : Tasks) (above : List ℕ) (i : ℕ) (W : ℕ → Option �
   pub smaller : (K : ℕ) → K < A - s .deadline i → isFits (verdict s (andKeep above K) i) ≡ false
   -- and no other K has stopped
   pub passes : (K : ℕ) → A - s .deadline i ≤ K → Passes s (andKeep above K) i q
-  pub highest : (x w : ℕ) → x < q → W x ≡ some w → w + s .jitter i ≤ A + x * s .period i
+  pub highest : (x w : ℕ) → x < q → W x ≡ some w → w + pickup + s .jitter i ≤ A + x * s .period i
   pub met : (0 < q) → Met (s .period i) (s .jitter i) W q A
   pub first-zero : q ≡ 0 → A ≡ 0
 
@@ -67,7 +68,7 @@ pub record Walked (s : Tasks) (above : List ℕ) (i : ℕ) (W : ℕ → Option �
 pub record Timely (s : Tasks) (i : ℕ) (W : ℕ → Option ℕ) (K q : ℕ) : Type 0 where
   pub ticks : ℕ
   pub is : W q ≡ some ticks
-  pub in-time : ticks + ahead s i K q ≤ s .deadline i + beyond s i q
+  pub in-time : ticks + pickup + ahead s i K q ≤ s .deadline i + beyond s i q
 
 module _ (s : Tasks) (above : List ℕ) (i : ℕ) (W : ℕ → Option ℕ) (len : length above ≡ i) (same : (K q : ℕ) → window s (andKeep above K) i q ≡ W q) where
   -- before the first q
@@ -83,10 +84,10 @@ module _ (s : Tasks) (above : List ℕ) (i : ℕ) (W : ℕ → Option ℕ) (len 
   }
 
   -- R(q) > D and W(q) ≤ d_K(q + 1), as numbers
-  late-yes : (K q w : ℕ) → s .deadline i + beyond s i q < w + ahead s i K q → isLate s (andKeep above K) i q w ≡ true
+  late-yes : (K q w : ℕ) → s .deadline i + beyond s i q < w + pickup + ahead s i K q → isLate s (andKeep above K) i q w ≡ true
   late-yes K q w h = rw (late-test s (andKeep above K) i q w, keep-own above K i len) (lt-ltb _ _ h)
 
-  late-no : (K q w : ℕ) → w + ahead s i K q ≤ s .deadline i + beyond s i q → isLate s (andKeep above K) i q w ≡ false
+  late-no : (K q w : ℕ) → w + pickup + ahead s i K q ≤ s .deadline i + beyond s i q → isLate s (andKeep above K) i q w ≡ false
   late-no K q w h = rw (late-test s (andKeep above K) i q w, keep-own above K i len) (le-ltb _ _ h)
 
   last-yes : (K q w : ℕ) → K + w ≤ suc q * s .period i → isLast s (andKeep above K) i q w ≡ true
@@ -120,17 +121,17 @@ module _ (s : Tasks) (above : List ℕ) (i : ℕ) (W : ℕ → Option ℕ) (len 
         (λ l. ap isFits (horizon-at s (andKeep above K) i q (walked .within) (walked .passes K (omega arith)) (same K q ∙ e))))
 
     module _ (w : ℕ) (is : W q ≡ some w) where
-      is-late : (K : ℕ) → A - s .deadline i ≤ K → s .deadline i + beyond s i q < w + ahead s i K q → isFits (verdict s (andKeep above K) i) ≡ false
+      is-late : (K : ℕ) → A - s .deadline i ≤ K → s .deadline i + beyond s i q < w + pickup + ahead s i K q → isFits (verdict s (andKeep above K) i) ≡ false
       unfolding isFits
       is-late K l h = ap isFits (late-at s (andKeep above K) i q w (walked .within) (walked .passes K l) (same K q ∙ is) (late-yes K q w h))
 
-      -- where W(q) + min(0, x) is over D, no K fits
-      pub walk-over : s .deadline i + beyond s i q < w → leastKeep s above i ≡ none
+      -- where W(q) + pickup + min(0, x) is over D, no K fits
+      pub walk-over : s .deadline i + beyond s i q < w + pickup → leastKeep s above i ≡ none
       unfolding leastKeep
       walk-over h = first-none _ (suc (s .jitter i)) 0
           (λ K a b. dite (decLt K (A - s .deadline i)) (walked .smaller K) (λ l. is-late K (omega arith) (omega arith)))
 
-      module _ (N : ℕ) (next : N ≡ nextHigh (s .period i) (s .jitter i) A q w) (under : w ≤ s .deadline i + beyond s i q) where
+      module _ (N : ℕ) (next : N ≡ nextHigh (s .period i) (s .jitter i) A q w) (under : w + pickup ≤ s .deadline i + beyond s i q) where
         -- a K below the new least one is late at q, if not before
         smaller-next : (K : ℕ) → K < N - s .deadline i → isFits (verdict s (andKeep above K) i) ≡ false
         smaller-next K h = dite (decLt K (A - s .deadline i)) (walked .smaller K) (λ l. is-late K (omega arith) (omega arith))
@@ -138,10 +139,10 @@ module _ (s : Tasks) (above : List ℕ) (i : ℕ) (W : ℕ → Option ℕ) (len 
         in-time : (K : ℕ) → N - s .deadline i ≤ K → isLate s (andKeep above K) i q w ≡ false
         in-time K h = late-no K q w (omega arith)
 
-        highest-next : (x v : ℕ) → x < suc q → W x ≡ some v → v + s .jitter i ≤ N + x * s .period i
+        highest-next : (x v : ℕ) → x < suc q → W x ≡ some v → v + pickup + s .jitter i ≤ N + x * s .period i
         highest-next x v l e = ⊎-elim here (λ m. omega (arith, walked .highest x v m e)) (eq-or-lt-of-le (le-of-suc-le-suc l))
           where
-            here : x ≡ q → v + s .jitter i ≤ N + x * s .period i
+            here : x ≡ q → v + pickup + s .jitter i ≤ N + x * s .period i
             here d = let g : some v ≡ some w = sym e ∙ ap W d ∙ is in let f : v ≡ w = cc in rw (d, f) (omega arith)
 
         reach-next : N ≤ s .deadline i + s .jitter i
@@ -150,9 +151,9 @@ module _ (s : Tasks) (above : List ℕ) (i : ℕ) (W : ℕ → Option ℕ) (len 
         met-next : Met (s .period i) (s .jitter i) W (suc q) N
         met-next =
             ⊎-elim (λ z. let e : q * s .period i ≡ 0 = rw z (zero-mul (s .period i)) in here (omega (arith, walked .first-zero z)))
-            (λ p. dite (decLt A (w + s .jitter i - q * s .period i)) (λ l. here (omega arith)) (λ l. there (walked .met p) (omega arith))) (eq-zero-or-pos q)
+            (λ p. dite (decLt A (w + pickup + s .jitter i - q * s .period i)) (λ l. here (omega arith)) (λ l. there (walked .met p) (omega arith))) (eq-zero-or-pos q)
           where
-            here : N + q * s .period i ≡ w + s .jitter i → Met (s .period i) (s .jitter i) W (suc q) N
+            here : N + q * s .period i ≡ w + pickup + s .jitter i → Met (s .period i) (s .jitter i) W (suc q) N
             here e = record { at = q; ticks = w; before = omega arith; is = is; value = e }
 
             there : Met (s .period i) (s .jitter i) W q A → N ≡ A → Met (s .period i) (s .jitter i) W (suc q) N
@@ -217,7 +218,7 @@ module _ (s : Tasks) (above : List ℕ) (i : ℕ) (W : ℕ → Option ℕ) (len 
                   go t =
                       ap (ltZ (pos (min N (s .deadline i)))) (bound-there (N - s .deadline i) x (t .ticks) (t .is))
                       ∙ bound-under (s .period i) (s .jitter i) (N - s .deadline i) x (t .ticks) (min N (s .deadline i))
-                      (value-under N (s .deadline i) (s .jitter i) (x * s .period i) (t .ticks) (highest-next x (t .ticks) (omega arith) (t .is)) (t .in-time))
+                      (value-under N (s .deadline i) (s .jitter i) (x * s .period i) (t .ticks + pickup) (highest-next x (t .ticks) (omega arith) (t .is)) (t .in-time))
 
               met-there : boundAt s (andKeep above (N - s .deadline i)) i (met-next .at) ≡ pos (min N (s .deadline i))
               met-there = go met-next (timely (met-next .at) (met-next .before))
@@ -230,4 +231,4 @@ module _ (s : Tasks) (above : List ℕ) (i : ℕ) (W : ℕ → Option ℕ) (len 
                       let e : t .ticks ≡ m .ticks = cc in
                       bound-there (N - s .deadline i) (m .at) (m .ticks) (m .is)
                       ∙ bound-equal (s .period i) (s .jitter i) (N - s .deadline i) (m .at) (m .ticks) (min N (s .deadline i))
-                      (value-met N (s .deadline i) (s .jitter i) (m .at * s .period i) (m .ticks) (m .value) (rw e at (t .in-time)))
+                      (value-met N (s .deadline i) (s .jitter i) (m .at * s .period i) (m .ticks + pickup) (m .value) (rw e at (t .in-time)))

@@ -9,6 +9,7 @@ use native.Mathlib.Decide.{decLt}
 use native.Mathlib.Numerals.{add-one}
 use lib.ListN.{length, take, length-take}
 use lib.Seq.{getD-take}
+use Rattle.model.specs.Processor.{pickup}
 use Rattle.model.specs.Tasks.{Tasks}
 use Rattle.model.specs.Gap.{gap}
 use Rattle.model.specs.Demand.{window}
@@ -86,13 +87,13 @@ module _ (loads periods keeps : List ℕ) (i J D : ℕ) (may : Walkable loads pe
         w-high = facts .high;
       }
 
-      -- W(q) + min(0, x) > D
-      over : D + (q * column periods i - J) < w → LeastOf loads periods keeps i J D Unfit
+      -- W(q) + pickup + min(0, x) > D
+      over : D + (q * column periods i - J) < w + pickup → LeastOf loads periods keeps i J D Unfit
       over h s f =
           walk-over s (take i keeps) i (windowAt loads periods keeps i) above-long (same s f) q high (g .walked s f) w (sym is)
           (rw (f .jitter-is, f .deadline-is, f .period-is i (omega arith)) h)
 
-      module _ (under : w ≤ D + (q * column periods i - J)) where
+      module _ (under : w + pickup ≤ D + (q * column periods i - J)) where
         -- the numbers of a task set with these columns
         abbrev N : ℕ
         N = nextHigh (column periods i) J high q w
@@ -100,7 +101,7 @@ module _ (loads periods keeps : List ℕ) (i J D : ℕ) (may : Walkable loads pe
         next-of : (s : Tasks) → Flat s loads periods i J D → N ≡ nextHigh (s .period i) (s .jitter i) high q w
         next-of s f = rw (f .jitter-is, f .period-is i (omega arith))
 
-        under-of : (s : Tasks) → Flat s loads periods i J D → w ≤ s .deadline i + (q * s .period i - s .jitter i)
+        under-of : (s : Tasks) → Flat s loads periods i J D → w + pickup ≤ s .deadline i + (q * s .period i - s .jitter i)
         under-of s f = rw (f .jitter-is, f .deadline-is, f .period-is i (omega arith)) under
 
         -- the least K so far stops here
@@ -134,7 +135,7 @@ module _ (loads periods keeps : List ℕ) (i J D : ℕ) (may : Walkable loads pe
         }
           where
             walked-next : (s : Tasks) → Flat s loads periods i J D → Walked s (take i keeps) i (windowAt loads periods keeps i) (q + 1) N
-            walked-next s f = rw add-one
+            walked-next s f = rw (add-one q)
                 (walk-next s (take i keeps) i (windowAt loads periods keeps i) above-long (same s f) q high (g .walked s f) w (sym is) N
                 (next-of s f) (under-of s f) long (facts .high)
                 (rw (f .deadline-is, f .period-is i (omega arith)) (omega arith)))
@@ -142,11 +143,11 @@ module _ (loads periods keeps : List ℕ) (i J D : ℕ) (may : Walkable loads pe
       -- one step of the walk
       pub walking-step : (r : Step) → r ≡ stepOf (column periods i) J D high q w → Stepping loads periods keeps i J D q w r
       walking-step r e = rw e
-          (dite (decLt (D + (q * column periods i - J)) w)
+          (dite (decLt (D + (q * column periods i - J)) (w + pickup))
           (λ l. rw (← step-over _ _ _ high q w l) (over l))
           (λ l. inside (omega arith)))
         where
-          inside : w ≤ D + (q * column periods i - J) → Stepping loads periods keeps i J D q w (stepOf (column periods i) J D high q w)
+          inside : w + pickup ≤ D + (q * column periods i - J) → Stepping loads periods keeps i J D q w (stepOf (column periods i) J D high q w)
           inside u =
               dite (decLt (gap (column periods i) (N u - D) (q + 1)) w)
               (λ l. rw (← step-next _ _ _ high q w u (N u) refl l) (goes u (gap-under (column periods i) (N u - D) q w l)))

@@ -9,6 +9,7 @@ use native.Mathlib.Decide.{decLe}
 use borrow.Author.Tests.{le-ltb, ltb-false}
 use lib.IntN.{ℤ, pos, negsuc}
 use lib.Signed.{ltZ}
+use Rattle.model.specs.Processor.{pickup}
 use Rattle.model.specs.Bound.{bound}
 use Rattle.model.specs.Tasks.{Tasks}
 use Rattle.model.specs.Verdict.{peak, isLate, boundOf}
@@ -16,7 +17,7 @@ use Rattle.response.proofs.BoundLaws.{late-test, bound-up, bound-down}
 
 module _ (P J K q w : ℕ) where
   -- a bound that is not over m
-  pub bound-under : (m : ℕ) → w + (J - (q * P + K)) ≤ m + (q * P - J) → ltZ (pos m) (bound P J K q w) ≡ false
+  pub bound-under : (m : ℕ) → w + pickup + (J - (q * P + K)) ≤ m + (q * P - J) → ltZ (pos m) (bound P J K q w) ≡ false
   unfolding isLate boundOf
   bound-under m h = late-test alone (λ j. K) 0 q w ∙ le-ltb _ _ h
     where
@@ -24,12 +25,12 @@ module _ (P J K q w : ℕ) where
       alone = record { count = 1; period = λ j. P; jitter = λ j. J; cost = λ j. 1; deadline = λ j. m }
 
   -- and one that is m
-  pub bound-equal : (m : ℕ) → w + (J - (q * P + K)) ≡ m + (q * P - J) → bound P J K q w ≡ pos m
+  pub bound-equal : (m : ℕ) → w + pickup + (J - (q * P + K)) ≡ m + (q * P - J) → bound P J K q w ≡ pos m
   bound-equal m h =
-      dite (decLe (q * P) J) (λ l. let e : w + (J - (q * P + K)) ≡ m = omega arith in bound-up P J K q w l ∙ ap pos e)
+      dite (decLe (q * P) J) (λ l. let e : w + pickup + (J - (q * P + K)) ≡ m = omega arith in bound-up P J K q w l ∙ ap pos e)
       (λ l.
-      let e : w - (q * P - J) ≡ m = omega arith in
-      bound-down P J K q w (omega arith) ∙ rw (le-ltb w (q * P - J) (omega arith)) (ap pos e))
+      let e : w + pickup - (q * P - J) ≡ m = omega arith in
+      bound-down P J K q w (omega arith) ∙ rw (le-ltb (w + pickup) (q * P - J) (omega arith)) (ap pos e))
 
 -- the largest of f 0, .., f n is at most m where each is
 pub peak-le : (f : ℕ → ℤ) (n m : ℕ) → ((q : ℕ) → q ≤ n → ltZ (pos m) (f q) ≡ false) → ltZ (pos m) (peak f n .value) ≡ false

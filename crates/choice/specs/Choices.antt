@@ -8,6 +8,7 @@ use lib.Dec.{leb, ltb}
 use lib.ListN.{length, take}
 use lib.IntN.{pos}
 use Rattle.model.specs.Limits.{maxTasks, maxTime, horizonTick}
+use Rattle.model.specs.Processor.{pickup}
 use Rattle.model.specs.Tasks.{Tasks, load, InRange}
 use Rattle.model.specs.Gap.{gap}
 use Rattle.model.specs.Demand.{window}
@@ -47,14 +48,14 @@ abbrev pub LeastIs : Tasks → List ℕ → ℕ → Least → Type 0
 LeastIs s above i (Keep K w) = (leastKeep s above i ≡ some K) × (worstOf (verdict s (andKeep above K) i) ≡ pos w)
 LeastIs s above i Unfit = leastKeep s above i ≡ none
 
--- the largest W(q') + J − q'P up to q, high being that of the q' before and w being W(q)
+-- the largest W(q') + pickup + J − q'P up to q, high being that of the q' before and w being W(q)
 abbrev pub nextHigh : ℕ → ℕ → ℕ → ℕ → ℕ → ℕ
-nextHigh P J high q w = max high (w + J - q * P)
+nextHigh P J high q w = max high (w + pickup + J - q * P)
 
--- one q of the walk: no K fits where W(q) + min(0, x) is over D; every K below high − D is late; that K itself stops here where its W(q) ≤ d_K(q + 1)
+-- one q of the walk: no K fits where W(q) + pickup + min(0, x) is over D; every K below high − D is late; that K itself stops here where its W(q) ≤ d_K(q + 1)
 unfoldable pub stepOf : ℕ → ℕ → ℕ → ℕ → ℕ → ℕ → Step
 stepOf P J D high q w =
-    elim (ltb (D + (q * P - J)) w) [
+    elim (ltb (D + (q * P - J)) (w + pickup)) [
       | true ↦ Done Unfit
       | false ↦
           elim (leb w (gap P (nextHigh P J high q w - D) (q + 1))) [

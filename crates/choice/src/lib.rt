@@ -15,6 +15,7 @@ use numbers::larger;
 use numbers::less;
 use numbers::wide;
 use taskset::Checked;
+use taskset::PICKUP;
 use taskset::TaskSet;
 
 // W(q), or that it is over the horizon H or there is none.
@@ -29,7 +30,7 @@ pub enum Least {
     Unfit,
 }
 
-// What the walk over q says at one q: the answer, or the largest W(q) + J − qP so far.
+// What the walk over q says at one q: the answer, or the largest W(q) + pickup + J − qP so far.
 pub enum Step {
     Done(Least),
     Next(u32),
@@ -69,18 +70,19 @@ fn window_from(loads: &[u32], periods: &[u32], keeps: &[u32], n: usize, q: u32, 
     }
 }
 
-// The walk over q at one q, w being W(q) and `high` the largest W(q') + J − q'P of the q' before.
+// The walk over q at one q, w being W(q) and `high` the largest W(q') + pickup + J − q'P of the q' before.
 fn step_at(period: u32, jitter: u32, deadline: u32, high: u32, q: u32, w: u32) -> Step
     requires { ⌜ Stepped period jitter deadline high q w ⌝ }
     ensures { λ r. ⌜ r ≡ stepOf period jitter deadline high q w ⌝ }
 {
     let t = wide(w);
+    let picked = t + PICKUP;
     let d = wide(deadline);
     let base = product(q, period);
-    if d + less(base, wide(jitter)) < t {
+    if d + less(base, wide(jitter)) < picked {
         return Step::Done(Least::Unfit);
     }
-    let next = larger(wide(high), less(t + wide(jitter), base));
+    let next = larger(wide(high), less(picked + wide(jitter), base));
     let keep = less(next, d) as u32;
     if t <= shaper::gap(period, keep, q + 1) {
         return Step::Done(Least::Keep {

@@ -16,7 +16,7 @@ use Rattle.guarantee.specs.RunBounds.{windowOf}
 use Rattle.guarantee.proofs.FitsOfVerdict.{walk-of, on-time}
 use Rattle.guarantee.proofs.LateOfVerdict.{late-of, late-end, missed}
 
--- demand 3 on a processor with pickup 0, load E and every tick ours
+-- demand 3 on the boards' processor: its pickup, load E and every tick ours
 pub demand3 : Demand3Holds
 unfolding late-of
 demand3 s v k kept i h = go (demand-on plain regular s (λ j g. v .in-range j g .period-low) (λ j g. v .in-range j g .cost-low) k kept i h)

@@ -1,4 +1,4 @@
--- "fits": the verdict's walk is one of document 01's processor, and a job that is finished D ticks after its release is not late.
+-- "fits": the verdict's walk is one of the boards' processor, and a job that is finished D ticks after its release is not late.
 use Prim.Native.Nat.{ℕ, suc, _+_, _-_, _*_, _≤_, _<_}
 use mathlib.Core.Path.{_≡_}
 use mathlib.Core.Option.{some}

@@ -1,8 +1,8 @@
--- "late": the verdict's late q is one of document 01's processor, and a job that is not finished D ticks after its release is late.
+-- "late": the verdict's late q is one of the boards' processor, and a job that is not finished D ticks after its release is late.
 use Prim.Native.Nat.{ℕ, suc, _+_, _-_, _*_, _≤_, _<_}
 use native.Mathlib.Omega.{arith}
 use Rattle.model.specs.Limits.{maxTick}
-use Rattle.model.specs.Processor.{plain}
+use Rattle.model.specs.Processor.{pickup, plain}
 use Rattle.model.specs.Tasks.{Tasks, releaseAt, InRange}
 use Rattle.model.specs.Run.{responseAt}
 use Rattle.model.specs.Claims.{Missed}
@@ -21,17 +21,17 @@ module _ (s : Tasks) (k : ℕ → ℕ) (i : ℕ) where
     q = q;
     w = d .w;
     some-tick = window-some s k i q (d .w) (d .is) .low;
-    from = s .period i + s .jitter i;
+    from = pickup + s .period i + s .jitter i;
     room = omega (arith, pickup-plain);
     unmet = λ t a b.
-        omega (arith, window-some s k i q (d .w) (d .is) .least t a b, demand-plain s k i q t, supply-plain (s .period i + s .jitter i) t);
+        omega (arith, window-some s k i q (d .w) (d .is) .least t a b, demand-plain s k i q t, supply-plain (pickup + s .period i + s .jitter i) t);
     over = omega (arith, pickup-plain, is-late s k i q (d .w) (d .over));
   }
 
   -- the last tick of its list is within the limit
   pub late-end
       : InRange (s .period i) (s .jitter i) (s .cost i) (s .deadline i) → (q : ℕ) (d : Missing s k i q)
-      → s .period i + s .jitter i + d .w + s .jitter i + s .period i + q * s .period i ≤ maxTick
+      → pickup + s .period i + s .jitter i + d .w + s .jitter i + s .period i + q * s .period i ≤ maxTick
   late-end r q d = omega (arith, r .period-high, r .jitter-high, window-some s k i q (d .w) (d .is) .high, is-late s k i q (d .w) (d .over))
 
   -- a job that is not finished D ticks after its release is late

@@ -10,3 +10,4 @@ pub mod AnsweredCalls
 pub mod ExactResponse
 pub mod IdleLaws
 pub mod RunBounds
+pub mod PickupLaws

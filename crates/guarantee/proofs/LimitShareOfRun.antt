@@ -1,4 +1,4 @@
--- Limit and share in the run of any trace: document 01's from those of its processor.
+-- Limit and share in the run of any trace: document 01's from those of the boards' processor.
 use Prim.Native.Nat.{ℕ, suc, _-_, _≤_, _<_}
 use mathlib.Core.List.{List}
 use native.Mathlib.Omega.{arith}
@@ -16,12 +16,12 @@ use Rattle.processor.specs.ProcessorClaims.{LimitOn, ShareOn}
 use Rattle.guarantee.proofs.PlainRun.{clear}
 
 module _ (s : Tasks) (k : ℕ → ℕ) (i : ℕ) (l : List Release) (tr : Trace s l) where
-  -- "limit": from a tick at which its own jobs that were ready before it are finished, a task runs at most E × σ(t) of the next t ticks
+  -- "limit": from a tick at which its own jobs that may run before it are finished, a task runs at most E × σ(t) of the next t ticks
   pub limit : LimitOn plain s k i l → Limit s k i l
   unfolding used usedBy
   limit h u t f = h u t (clear s k l tr (isTask i) u f)
 
-  -- "share": from a tick at which every job of the tasks above that was ready before it is finished, they leave over what the demand bound says
+  -- "share": from a tick at which every job of the tasks above that may run before it is finished, they leave over what the demand bound says
   pub share : ShareOn plain s k i l → Share s k i l
   unfolding leftOver spareBy
   share h u t f = most-le (λ n. n - aboveLoad s k i n) (suc t) (leftOver s k l (isAbove i) u t) enough

@@ -1,4 +1,4 @@
--- Document 01's processor: every tick is ours, and a job is finished at a tick exactly where its finish is not over it.
+-- The boards' processor: every tick is ours, and a job is finished at a tick exactly where its finish is not over it.
 use Prim.Native.Nat.{ℕ, _≤_, _<_}
 use mathlib.Core.Path.{_≡_, refl}
 use mathlib.Core.Bool.{Bool}

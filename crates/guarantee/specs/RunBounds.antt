@@ -6,8 +6,8 @@ use mathlib.Core.List.{List}
 use lib.ListN.{length}
 use Rattle.model.specs.Tasks.{Tasks, Release, releaseAt, load, Valid}
 use Rattle.model.specs.Arrival.{arrivals}
-use Rattle.model.specs.Ready.{readyAt, place}
-use Rattle.model.specs.Run.{finishAt}
+use Rattle.model.specs.Ready.{place}
+use Rattle.model.specs.Run.{jobs, finishAt}
 use Rattle.model.specs.Demand.{aboveLoad, window}
 use Rattle.model.specs.Claims.{Trace, Finished, used, leftOver, isTask, isAbove}
 use Rattle.response.specs.VerdictSays.{Walked}
@@ -16,7 +16,7 @@ use Rattle.response.specs.VerdictSays.{Walked}
 unfoldable pub windowOf : Tasks → (ℕ → ℕ) → ℕ → ℕ → ℕ
 windowOf s k i q = elim (window s k i q) [ none ↦ 0 | some w ↦ w ]
 
--- a job at p of task i is finished W(q) ticks after a tick that is not after the ready tick of the job q places before it
+-- a job at p of task i is finished W(q) ticks after a tick that is not after the first in which the job q places before it may run
 pub record InWindow (s : Tasks) (k : ℕ → ℕ) (i : ℕ) (l : List Release) (last p : ℕ) : Type 0 where
   pub q : ℕ
   pub q-le : q ≤ last
@@ -25,7 +25,7 @@ pub record InWindow (s : Tasks) (k : ℕ → ℕ) (i : ℕ) (l : List Release) (
   pub lead-own : releaseAt l lead .task ≡ i
   pub places : place l p ≡ place l lead + q
   pub from : ℕ
-  pub from-le : from ≤ readyAt s k l lead
+  pub from-le : from ≤ jobs s k l .start lead
   pub finished : finishAt s k l p ≤ from + windowOf s k i q
 
 pub record TaskBounds (s : Tasks) (k : ℕ → ℕ) (i : ℕ) (l : List Release) : Type 0 where

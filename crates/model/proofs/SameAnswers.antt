@@ -12,6 +12,7 @@ use lib.ListN.{length, getD, List·getD-eq-default}
 use Rattle.model.specs.Search.{first}
 use Rattle.model.specs.Series.{table}
 use Rattle.model.specs.Limits.{maxTasks, maxTick}
+use Rattle.model.specs.Processor.{plain}
 use Rattle.model.specs.Tasks.{Tasks, Release, releaseAt, noRelease}
 use Rattle.model.specs.Arrival.{arrivals}
 use Rattle.model.specs.Gap.{own}
@@ -185,7 +186,14 @@ module _ (s s′ : Tasks) (same : SameTasks s s′) where
     finish-list-same k =
         ap
         (λ (f : ℕ → ℕ). table
-        (finishOf (record { count = length l; task = λ p. releaseAt l p .task; start = f; work = λ p. releaseAt l p .cost; ours = λ t. true }))
+        (finishOf
+        (record {
+          count = length l;
+          task = λ p. releaseAt l p .task;
+          start = λ p. plain .start (f p);
+          work = λ p. plain .work (releaseAt l p .cost);
+          ours = plain .ours;
+        }))
         (length l))
         (ready-same k)
 

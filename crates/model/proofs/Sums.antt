@@ -1,4 +1,4 @@
--- Document 01's twelve sums hold.
+-- Document 01's twelve sums and the figures of document 02 hold.
 use Prim.Native.Nat.{ℕ, zero, suc, _+_, _-_, _*_, _/_, _≤_, _<_}
 use mathlib.Core.Path.{_≡_, refl}
 use mathlib.Core.Bool.{true, false}
@@ -18,7 +18,7 @@ use Rattle.model.specs.Run.{pending, prefer, top, pick, less, leftAt, ru
 use Rattle.model.specs.Demand.{aboveLoad, demand, meets, window}
 use Rattle.model.specs.Bound.{maxZ, minZ, offset, bound}
 use Rattle.model.specs.Verdict.{horizon, boundOf, isLate, isLast, stops, boundAt, peak, judge, verdict}
-use Rattle.model.specs.Choice.{column}
+use Rattle.model.specs.Choice.{column, isFits, worstOf, leastKeep, choiceNext, choiceOf}
 use Rattle.model.proofs.SearchLaws.{first-hit, first-none}
 use Rattle.model.specs.Sums.{AllSums, busy, pad, sheet, task}
 
@@ -44,7 +44,7 @@ unfolding window
 full = at-zero _ _ 1 (first-none (meets (sheet (busy ∷ busy ∷ [])) (column (0 ∷ 0 ∷ [])) 1 0) horizonTick 1 (λ m l g. never m l))
 
 pub sums : AllSums pad
-unfolding arrivals ceilDiv gap after readyNext readyFrom readyAt readyList own table window meets demand aboveLoad sum most on first verdict stops judge isLate isLast boundOf boundAt bound offset maxZ minZ peak pending prefer top pick less leftAt runs runsIn endOf finishOf finishAt finishList
+unfolding arrivals ceilDiv gap after readyNext readyFrom readyAt readyList own table window meets demand aboveLoad sum most on first verdict stops judge isLate isLast boundOf boundAt bound offset maxZ minZ peak pending prefer top pick less leftAt runs runsIn endOf finishOf finishAt finishList isFits worstOf leastKeep choiceNext choiceOf
 sums = (
   (refl, tt),
   (
@@ -58,16 +58,16 @@ sums = (
           (
             (refl, tt),
             (
-              (refl, (refl, tt)),
+              (refl, (refl, (refl, tt))),
               (
                 (refl, (refl, tt)),
                 (
-                  (refl, (refl, tt)),
+                  (refl, (refl, (refl, tt))),
                   (
                     (refl, tt),
                     (
                       (refl, (full, tt)),
-                      (((refl, refl), ((refl, refl), tt)), tt),
+                      (((refl, refl), ((refl, refl), tt)), ((refl, (refl, (refl, ((refl, refl), (refl, (refl, tt)))))), tt)),
                     ),
                   ),
                 ),

@@ -12,7 +12,6 @@ use Rattle.model.specs.Limits.{maxTick}
 use Rattle.model.specs.Tasks.{Tasks, Release, releaseAt, load}
 use Rattle.model.specs.Arrival.{arrivals}
 use Rattle.model.specs.Gap.{Legal}
-use Rattle.model.specs.Ready.{readyAt}
 use Rattle.model.specs.Run.{Jobs, jobs, runs, finishAt, responseAt}
 use Rattle.model.specs.Demand.{aboveLoad}
 use Rattle.model.specs.Verdict.{verdict, late, fits}
@@ -40,9 +39,10 @@ abbrev pub ofTasks : (ℕ → Bool) → Jobs → Option ℕ → Bool
 ofTasks us j none = false
 ofTasks us j (some p) = us (j .task p)
 
--- every job of such a task that was ready before tick u is finished at u: its finish is not over u
+-- every job of such a task that may run before tick u is finished at u: its finish is not over u. That is so where every such job that was ready before u
+-- is finished at u, as document 01 has it (`ReadyFinished`, crate `guarantee`)
 abbrev pub Finished : Tasks → (ℕ → ℕ) → List Release → (ℕ → Bool) → ℕ → Type 0
-Finished s k l us u = (p : ℕ) → p < length l → us (releaseAt l p .task) ≡ true → readyAt s k l p < u → finishAt s k l p ≤ u
+Finished s k l us u = (p : ℕ) → p < length l → us (releaseAt l p .task) ≡ true → jobs s k l .start p < u → finishAt s k l p ≤ u
 
 -- of the t ticks from u on, those in which a job of such a task runs
 unfoldable pub used : Tasks → (ℕ → ℕ) → List Release → (ℕ → Bool) → ℕ → ℕ → ℕ
@@ -52,11 +52,11 @@ used s k l us u t = sum (λ n. on (ofTasks us (jobs s k l) (runs (jobs s k l) (u
 unfoldable pub leftOver : Tasks → (ℕ → ℕ) → List Release → (ℕ → Bool) → ℕ → ℕ → ℕ
 leftOver s k l us u t = sum (λ n. on (not (ofTasks us (jobs s k l) (runs (jobs s k l) (u + n)))) 1) t
 
--- "limit": from a tick at which its own jobs that were ready before it are finished, a task runs at most E × σ(t) of the next t ticks
+-- "limit": from a tick at which its own jobs that may run before it are finished, a task runs at most E × σ(t) of the next t ticks
 abbrev pub Limit : Tasks → (ℕ → ℕ) → ℕ → List Release → Type 0
 Limit s k i l = (u t : ℕ) → Finished s k l (isTask i) u → used s k l (isTask i) u t ≤ load s i * arrivals (s .period i) (k i) t
 
--- "share": from a tick at which every job of the tasks above that was ready before it is finished, the next t ticks leave over
+-- "share": from a tick at which every job of the tasks above that may run before it is finished, the next t ticks leave over
 -- at least the largest of n − (sum of E_j × σ_j(n)), n from 0 to t
 abbrev pub Share : Tasks → (ℕ → ℕ) → ℕ → List Release → Type 0
 Share s k i l = (u t : ℕ) → Finished s k l (isAbove i) u → most (λ n. n - aboveLoad s k i n) (suc t) ≤ leftOver s k l (isAbove i) u t

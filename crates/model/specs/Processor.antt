@@ -1,5 +1,5 @@
 -- The processor: what a run takes as given beside the task set and the releases.
-use Prim.Native.Nat.{ℕ}
+use Prim.Native.Nat.{ℕ, _+_}
 use mathlib.Core.Bool.{Bool, true}
 
 -- the first tick in which a job may run, given its ready tick; the ticks that a job takes, given its cost; the ticks in which the processor is ours
@@ -8,6 +8,11 @@ pub record Processor : Type 0 where
   pub work : ℕ → ℕ
   pub ours : ℕ → Bool
 
--- document 01's: a job may run from its ready tick on and takes its cost, and every tick is ours
+-- "pickup": the kernel looks at the ready list at tick ends only, so a job may run from the tick after its ready tick (document 02, R-2).
+-- R(q) grows by it too (Bound)
+abbrev pub pickup : ℕ
+pickup = 1
+
+-- the boards': a job may run from the tick after its ready tick and takes its cost, and every tick is ours
 abbrev pub plain : Processor
-plain = record { start = λ ready. ready; work = λ cost. cost; ours = λ t. true }
+plain = record { start = λ ready. ready + pickup; work = λ cost. cost; ours = λ t. true }

@@ -18,7 +18,7 @@ pub record Jobs : Type 0 where
   pub work : ℕ → ℕ
   pub ours : ℕ → Bool
 
--- a job is ready at or before tick t and unfinished; left is the work that each job has left
+-- a job may run in tick t and is unfinished; left is the work that each job has left
 unfoldable pub pending : Jobs → (ℕ → ℕ) → ℕ → ℕ → Bool
 pending j left t p = leb (j .start p) t && ltb 0 (left p)
 

@@ -1,6 +1,7 @@
--- Document 01's twelve sums as one table, and what it means that they hold; proofs/Sums.antt proves it (`sums`).
+-- Document 01's twelve sums, and the figures of document 02, as one table, and what it means that they hold; proofs/Sums.antt proves it (`sums`).
 use Prim.Native.Nat.{ℕ}
 use mathlib.Core.Path.{_≡_}
+use mathlib.Core.Bool.{Bool, true, false}
 use mathlib.Core.Option.{some}
 use mathlib.Core.List.{List, [], _∷_, map}
 use lib.ListN.{length, getD}
@@ -11,8 +12,8 @@ use Rattle.model.specs.Gap.{gap}
 use Rattle.model.specs.Ready.{readyTicks, readyList}
 use Rattle.model.specs.Run.{finishList}
 use Rattle.model.specs.Demand.{window}
-use Rattle.model.specs.Verdict.{Verdict, horizon, late, fits, verdict}
-use Rattle.model.specs.Choice.{column}
+use Rattle.model.specs.Verdict.{Verdict, horizon, late, fits, stops, verdict}
+use Rattle.model.specs.Choice.{column, Choice, unfit, chosen, choice}
 
 -- P, J, E and D of a task, as document 01 prints them
 pub record Entry : Type 0 where
@@ -48,6 +49,10 @@ pub data Row : Type 0 where
   windows : List Entry → List ℕ → ℕ → List ℕ → List ℕ → Row
   -- sheet, kept jitters and task: the verdict
   judged : List Entry → List ℕ → ℕ → Verdict → Row
+  -- sheet, kept jitters and task: whether the walk stops at some q
+  stopped : List Entry → List ℕ → ℕ → List ℕ → List Bool → Row
+  -- sheet: the choice
+  chose : List Entry → Choice → Row
   -- sheet, kept jitters and releases: ready and finish ticks of the run
   ran : List Entry → List ℕ → List Release → List ℕ → List ℕ → Row
 
@@ -57,6 +62,8 @@ Holds (gaps P K ks ns) = map (gap P K) ks ≡ ns
 Holds (readies P K l ns) = readyTicks P K l ≡ ns
 Holds (windows l ks i qs ns) = map (window (sheet l) (column ks) i) qs ≡ map some ns
 Holds (judged l ks i v) = verdict (sheet l) (column ks) i ≡ v
+Holds (stopped l ks i qs bs) = map (stops (sheet l) (column ks) i) qs ≡ bs
+Holds (chose l c) = choice (sheet l) ≡ c
 Holds (ran l ks rs es fs) = (readyList (sheet l) (column ks) rs ≡ es) × (finishList (sheet l) (column ks) rs ≡ fs)
 
 abbrev pub AllRows : List Row → Type 0
@@ -74,7 +81,12 @@ printed d = task 6 5 2 6 ∷ task 8 7 2 8 ∷ task 10 0 2 d ∷ []
 abbrev pub busy : Entry
 busy = task 1 0 1 1
 
--- the sums, in document 01's order
+-- the releases that document 01 prints
+abbrev pub printedReleases : List Release
+printedReleases = record { task = 0; tick = 0; cost = 2 } ∷ record { task = 2; tick = 0; cost = 2 } ∷ record { task = 0; tick = 1; cost = 2 } ∷ []
+
+-- the sums, in document 01's order, 7 to 12 with the pickup of document 02's R-2; then R-2's own figures: the choice on the printed sheet, which ends in 15 at task 2,
+-- of its tasks 0 and 1 alone and with D 11, the run with D 11, and the stop of the walk, which knows no pickup: W(0) = d_K(1), W(0) = d_K(1) + 1
 abbrev pub pad : List (List Row)
 pad =
     (counts 6 5 (0 ∷ 1 ∷ 2 ∷ 7 ∷ 8 ∷ []) (0 ∷ 1 ∷ 2 ∷ 2 ∷ 3 ∷ []) ∷ [])
@@ -83,10 +95,23 @@ pad =
     ∷ (readies 6 1 (0 ∷ 0 ∷ 0 ∷ []) (0 ∷ 5 ∷ 11 ∷ []) ∷ [])
     ∷ (readies 6 8 (0 ∷ 0 ∷ 0 ∷ []) (0 ∷ 0 ∷ 4 ∷ []) ∷ [])
     ∷ (windows (printed 10) (1 ∷ 3 ∷ 0 ∷ []) 1 (0 ∷ 1 ∷ []) (4 ∷ 8 ∷ []) ∷ [])
-    ∷ (judged (printed 10) (1 ∷ 2 ∷ 0 ∷ []) 1 (late 0 (pos 9)) ∷ judged (printed 10) (1 ∷ 3 ∷ 0 ∷ []) 1 (fits (pos 8) 0) ∷ [])
-    ∷ (windows (printed 10) (5 ∷ 7 ∷ 0 ∷ []) 1 (0 ∷ 1 ∷ []) (6 ∷ 10 ∷ []) ∷ judged (printed 10) (5 ∷ 7 ∷ 0 ∷ []) 1 (late 1 (pos 9)) ∷ [])
-    ∷ (judged (printed 10) (1 ∷ 3 ∷ 0 ∷ []) 2 (fits (pos 10) 0) ∷ judged (printed 9) (1 ∷ 3 ∷ 0 ∷ []) 2 (late 0 (pos 10)) ∷ [])
-    ∷ (judged (printed 10) (5 ∷ 7 ∷ 0 ∷ []) 2 (late 0 (pos 16)) ∷ [])
-    ∷ (judged (busy ∷ []) (0 ∷ []) 0 (fits (pos 1) 0) ∷ judged (busy ∷ busy ∷ []) (0 ∷ 0 ∷ []) 1 (horizon 0) ∷ [])
-    ∷ (ran (printed 10) (1 ∷ 3 ∷ 0 ∷ []) [] [] [] ∷ ran (printed 10) (1 ∷ 3 ∷ 0 ∷ []) (record { task = 0; tick = 3; cost = 2 } ∷ []) (3 ∷ []) (5 ∷ []) ∷ [])
+    ∷ (judged (printed 10) (1 ∷ 2 ∷ 0 ∷ []) 1 (late 0 (pos 10))
+    ∷ judged (printed 10) (1 ∷ 3 ∷ 0 ∷ []) 1 (late 0 (pos 9))
+    ∷ judged (printed 10) (1 ∷ 4 ∷ 0 ∷ []) 1 (fits (pos 8) 0)
+    ∷ [])
+    ∷ (windows (printed 10) (5 ∷ 7 ∷ 0 ∷ []) 1 (0 ∷ 1 ∷ []) (6 ∷ 10 ∷ []) ∷ judged (printed 10) (5 ∷ 7 ∷ 0 ∷ []) 1 (late 1 (pos 10)) ∷ [])
+    ∷ (judged (printed 10) (1 ∷ 3 ∷ 0 ∷ []) 2 (late 0 (pos 11))
+    ∷ judged (printed 9) (1 ∷ 3 ∷ 0 ∷ []) 2 (late 0 (pos 11))
+    ∷ judged (printed 11) (1 ∷ 3 ∷ 0 ∷ []) 2 (fits (pos 11) 0)
+    ∷ [])
+    ∷ (judged (printed 10) (5 ∷ 7 ∷ 0 ∷ []) 2 (late 0 (pos 17)) ∷ [])
+    ∷ (judged (busy ∷ []) (0 ∷ []) 0 (late 0 (pos 2)) ∷ judged (busy ∷ busy ∷ []) (0 ∷ 0 ∷ []) 1 (horizon 0) ∷ [])
+    ∷ (ran (printed 10) (1 ∷ 3 ∷ 0 ∷ []) [] [] [] ∷ ran (printed 10) (1 ∷ 3 ∷ 0 ∷ []) (record { task = 0; tick = 3; cost = 2 } ∷ []) (3 ∷ []) (6 ∷ []) ∷ [])
+    ∷ (chose (printed 10) (unfit 2)
+    ∷ chose (task 6 5 2 6 ∷ task 8 7 2 8 ∷ []) (chosen (2 ∷ 4 ∷ []) (pos 6 ∷ pos 8 ∷ []))
+    ∷ chose (printed 11) (chosen (2 ∷ 4 ∷ 0 ∷ []) (pos 6 ∷ pos 8 ∷ pos 11 ∷ []))
+    ∷ ran (printed 11) (2 ∷ 4 ∷ 0 ∷ []) printedReleases (0 ∷ 0 ∷ 4 ∷ []) (3 ∷ 5 ∷ 7 ∷ [])
+    ∷ stopped (task 1 0 1 2 ∷ []) (0 ∷ []) 0 (0 ∷ []) (true ∷ [])
+    ∷ stopped (task 8 7 2 8 ∷ []) (7 ∷ []) 0 (0 ∷ 1 ∷ []) (false ∷ true ∷ [])
+    ∷ [])
     ∷ []

@@ -1,10 +1,11 @@
--- A bound of every finish of document 01's run of a list.
+-- A bound of every finish of the run of a list.
 use Prim.Native.Nat.{ℕ, _+_, _-_, _*_, _≤_, _<_}
 use mathlib.Core.Path.{refl}
 use mathlib.Core.List.{List}
 use native.Mathlib.Nat.{mul-le-mul}
 use native.Mathlib.Omega.{arith}
 use lib.ListN.{length}
+use Rattle.model.specs.Processor.{pickup}
 use Rattle.model.specs.Tasks.{Tasks, Release, releaseAt}
 use Rattle.model.specs.Ready as Model
 use Rattle.model.specs.Run.{jobs, finishAt}
@@ -34,14 +35,17 @@ module _ (s : Tasks) (k : ℕ → ℕ) (l : List Release) (tr : Trace s l) (T X 
             mul-le-mul {n₁ = Model.place l p - Model.place l (c .from)} {n₂ = Model.place l p} (omega arith) (small (releaseAt l p .task) (tr .sound p h .known) .0),
           ))
 
--- every finish is at most T and X for each release
+-- every finish is at most T, the pickup, and X for each release
 pub finish-bound : FinishBounded
 unfolding finishAt
 finish-bound s k l tr T X ticks small p h =
     omega (
       arith,
-      finish-high (jobs s k l) T X (λ t. refl) cost-le (start-high (jobs s k l) T X (ready-bound s k l tr T X ticks small)) p h (tr .sound p h .cost-low),
+      finish-high (jobs s k l) (T + pickup) X (λ t. refl) cost-le (start-high (jobs s k l) (T + pickup) X start-le) p h (tr .sound p h .cost-low),
     )
   where
+    start-le : (q : ℕ) → q < length l → jobs s k l .start q ≤ T + pickup + X * place (λ n. releaseAt l n .task) (releaseAt l q .task) q
+    start-le q g = omega (arith, ready-bound s k l tr T X ticks small q g)
+
     cost-le : (q : ℕ) → q < length l → releaseAt l q .cost ≤ X
     cost-le q g = omega (arith, tr .sound q g .cost-high, small (releaseAt l q .task) (tr .sound q g .known) .1)

@@ -1,18 +1,18 @@
--- Document 01's processor is regular: pickup 0, load E, every tick ours; its demand and supply are document 01's.
+-- The boards' processor is regular: a pickup of 1, load E, every tick ours; its demand and supply are document 01's.
 use Prim.Native.Nat.{ℕ, zero, suc}
 use mathlib.Core.Path.{_≡_, refl}
 use native.Mathlib.Omega.{arith}
 use Rattle.model.specs.Series.{on, sum}
-use Rattle.model.specs.Processor.{plain}
+use Rattle.model.specs.Processor.{pickup, plain}
 use Rattle.model.specs.Tasks.{Tasks}
 use Rattle.model.specs.Demand.{aboveLoad, demand}
 use Rattle.processor.specs.ProcessorDemand.{Regular, aboveOn, demandOn, supplyOn}
 
--- document 01's processor: pickup 0, load E, every tick ours
+-- the boards' processor: its pickup, load E, every tick ours
 pub regular : Regular plain
-regular = record { pickup = 0; starts = λ ready. omega arith; rises = λ c d h. h; some-work = λ c h. h }
+regular = record { pickup = pickup; starts = λ ready. omega arith; rises = λ c d h. h; some-work = λ c h. h }
 
-pub pickup-plain : regular .pickup ≡ 0
+pub pickup-plain : regular .pickup ≡ pickup
 unfolding regular
 pickup-plain = refl
 

@@ -9,6 +9,7 @@ use lib.IntN.{pos, negsuc, subℕ, _+ℤ_, _-ℤ_}
 use lib.Signed.{ltZ}
 use lib.Dec.{ltb}
 use borrow.Author.Tests.{lt-ltb, le-ltb, ltb-true, ltb-false}
+use Rattle.model.specs.Processor.{pickup}
 use Rattle.model.specs.Bound.{maxZ, minZ, offset, bound}
 use Rattle.model.specs.Tasks.{Tasks}
 use Rattle.model.specs.Verdict.{boundOf, isLate}
@@ -56,14 +57,14 @@ module _ (n K w : ℕ) where
 
 module _ (P J K q w : ℕ) where
   -- R(q) where x = J − qP is not below 0
-  pub bound-up : q * P ≤ J → bound P J K q w ≡ pos (w + (J - (q * P + K)))
+  pub bound-up : q * P ≤ J → bound P J K q w ≡ pos (w + pickup + (J - (q * P + K)))
   unfolding bound offset
-  bound-up h = let e : J - q * P - K ≡ J - (q * P + K) = omega arith in rw (minus J (q * P), sub-ge J (q * P) h, up (J - q * P) K w, e)
+  bound-up h = let e : J - q * P - K ≡ J - (q * P + K) = omega arith in rw (minus J (q * P), sub-ge J (q * P) h, up (J - q * P) K (w + pickup), e)
 
   -- and where it is
-  pub bound-down : J < q * P → bound P J K q w ≡ subℕ w (q * P - J)
+  pub bound-down : J < q * P → bound P J K q w ≡ subℕ (w + pickup) (q * P - J)
   unfolding bound offset
-  bound-down h = let e : suc (q * P - suc J) ≡ q * P - J = omega arith in rw (minus J (q * P), sub-lt J (q * P) h, down (q * P - suc J) K w, e)
+  bound-down h = let e : suc (q * P - suc J) ≡ q * P - J = omega arith in rw (minus J (q * P), sub-lt J (q * P) h, down (q * P - suc J) K (w + pickup), e)
 
 -- the test of a bound
 same-test : (a b c d : ℕ) → (a < b → c < d) → (c < d → a < b) → ltb a b ≡ ltb c d
@@ -78,24 +79,27 @@ under D a b =
     (λ h. rw (sub-ge a b h) (same-test D (a - b) (D + b) a (λ k. omega arith) (λ k. omega arith)))
     (λ h. rw (sub-lt a b (omega arith), le-ltb (D + b) a (omega arith)))
 
--- R(q) > D without integers, x being J − qP: D + max(0, −x) < W(q) + max(0, x − K)
+-- R(q) > D without integers, x being J − qP: D + max(0, −x) < W(q) + pickup + max(0, x − K)
 module _ (s : Tasks) (k : ℕ → ℕ) (i q w : ℕ) where
-  pub late-test : isLate s k i q w ≡ ltb (s .deadline i + (q * s .period i - s .jitter i)) (w + (s .jitter i - (q * s .period i + k i)))
+  pub late-test
+      : isLate s k i q w ≡ ltb (s .deadline i + (q * s .period i - s .jitter i)) (w + pickup + (s .jitter i - (q * s .period i + k i)))
   unfolding isLate boundOf
   late-test =
       dite (decLe (q * s .period i) (s .jitter i))
       (λ h. ap (ltZ (pos (s .deadline i))) (bound-up (s .period i) (s .jitter i) (k i) q w h)
-      ∙ same-test (s .deadline i) (w + (s .jitter i - (q * s .period i + k i))) (s .deadline i + (q * s .period i - s .jitter i))
-      (w + (s .jitter i - (q * s .period i + k i))) (λ g. omega arith) (λ g. omega arith))
+      ∙ same-test (s .deadline i) (w + pickup + (s .jitter i - (q * s .period i + k i))) (s .deadline i + (q * s .period i - s .jitter i))
+      (w + pickup + (s .jitter i - (q * s .period i + k i))) (λ g. omega arith) (λ g. omega arith))
       (λ h. ap (ltZ (pos (s .deadline i))) (bound-down (s .period i) (s .jitter i) (k i) q w (omega arith))
-      ∙ under (s .deadline i) w (q * s .period i - s .jitter i)
-      ∙ same-test (s .deadline i + (q * s .period i - s .jitter i)) w (s .deadline i + (q * s .period i - s .jitter i))
-      (w + (s .jitter i - (q * s .period i + k i))) (λ g. omega arith) (λ g. omega arith))
+      ∙ under (s .deadline i) (w + pickup) (q * s .period i - s .jitter i)
+      ∙ same-test (s .deadline i + (q * s .period i - s .jitter i)) (w + pickup) (s .deadline i + (q * s .period i - s .jitter i))
+      (w + pickup + (s .jitter i - (q * s .period i + k i))) (λ g. omega arith) (λ g. omega arith))
 
   -- a q that is late
-  pub is-late : isLate s k i q w ≡ true → s .deadline i + (q * s .period i - s .jitter i) < w + (s .jitter i - (q * s .period i + k i))
+  pub is-late
+      : isLate s k i q w ≡ true → s .deadline i + (q * s .period i - s .jitter i) < w + pickup + (s .jitter i - (q * s .period i + k i))
   is-late h = ltb-true _ _ (sym late-test ∙ h)
 
   -- a q that is not
-  pub not-late : isLate s k i q w ≡ false → w + (s .jitter i - (q * s .period i + k i)) ≤ s .deadline i + (q * s .period i - s .jitter i)
+  pub not-late
+      : isLate s k i q w ≡ false → w + pickup + (s .jitter i - (q * s .period i + k i)) ≤ s .deadline i + (q * s .period i - s .jitter i)
   not-late h = ltb-false _ _ (sym late-test ∙ h)

@@ -6,6 +6,7 @@ use native.Mathlib.Omega.{arith}
 use lib.IntN.{ℤ, pos, negsuc}
 use lib.Signed.{ltZ}
 use borrow.Author.Tests.{ltb-true}
+use Rattle.model.specs.Processor.{pickup}
 use Rattle.model.specs.Tasks.{Tasks}
 use Rattle.model.specs.Verdict.{fits, boundOf, boundAt, peak, verdict}
 use Rattle.response.proofs.BoundLaws.{bound-up}
@@ -38,7 +39,7 @@ module _ (s : Tasks) (k : ℕ → ℕ) (i : ℕ) where
   first-positive : (p : Passed s k i 0) → Positive (boundAt s k i 0)
   unfolding boundAt boundOf
   first-positive p = (
-    p .w + (s .jitter i - (0 * s .period i + k i)) - 1,
+    p .w + pickup + (s .jitter i - (0 * s .period i + k i)) - 1,
     rw (boundAt, p .is)
         (bound-up (s .period i) (s .jitter i) (k i) 0 (p .w) (omega arith)
         ∙ ap pos (omega (arith, window-some s k i 0 (p .w) (p .is) .low))),

@@ -48,7 +48,7 @@ module _ (n tasks : ℕ) (task cost ready held : List ℕ) (r : Runnable n tasks
         few-tasks = r .few-tasks;
         known = r .known;
         some-work = r .cost-low;
-        in-order = r .in-order;
+        in-order = λ p q a b e. omega (arith, r .in-order p q a b e);
         soon = r .finish-high;
       }
 
@@ -123,7 +123,7 @@ module _ (n tasks : ℕ) (task cost ready held : List ℕ) (r : Runnable n tasks
         rests : (k : ℕ) → k < tasks → May (jobsOf n task cost ready) t head k → ⊥
         rests k l = may-no k (searched i e .before k (omega arith) (omega arith))
 
-        early : (p : ℕ) → p < n → getD ready p 0 < new → leftAt (jobsOf n task cost ready) t p ≡ 0
+        early : (p : ℕ) → p < n → jobsOf n task cost ready .start p < new → leftAt (jobsOf n task cost ready) t p ≡ 0
         early p l a =
             let z : leftAt (jobsOf n task cost ready) t p ≤ 0 = le-by (leftAt (jobsOf n task cost ready) t p) 0 none-left in
             omega arith
@@ -150,7 +150,7 @@ module _ (n tasks : ℕ) (task cost ready held : List ℕ) (r : Runnable n tasks
             inside : getD head k 0 < n
             inside = le-by (suc (getD head k 0)) n (λ a. h (x ∙ wake-out ready n (getD head k 0) (omega arith)))
 
-            at : new ≡ getD ready (getD head k 0) 0
+            at : new ≡ jobsOf n task cost ready .start (getD head k 0)
             at = x ∙ wake-in ready n (getD head k 0) inside
 
             before-end : new ≤ maxFinish

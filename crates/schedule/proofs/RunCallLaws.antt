@@ -7,6 +7,7 @@ use native.Mathlib.Omega.{arith}
 use lib.ListN.{length, getD, drop, length-append}
 use Rattle.model.specs.Limits.{maxTime, maxTick}
 use Rattle.model.specs.Series.{table}
+use Rattle.model.specs.Processor.{plain}
 use Rattle.model.specs.Tasks.{Tasks, Release, releaseAt}
 use Rattle.model.specs.Choice.{column}
 use Rattle.model.specs.Ready.{readyAt, readyList}
@@ -66,7 +67,7 @@ module _ (s : Tasks) (kept : List ℕ) (n : ℕ) (task tick cost ready finish : 
         same-all = λ t. refl;
         count = sym (length-releases n task tick cost);
         task = λ p h. sym (task-is n task tick cost p h);
-        start = slot;
+        start = λ p h. ap (plain .start) (slot p h);
         work = λ p h. sym (cost-is p h);
       }
 
@@ -142,7 +143,7 @@ module _ (s : Tasks) (kept : List ℕ) (n : ℕ) (task tick cost ready finish : 
           table-agree _ (finishAt s (column kept) (releasesOf n task tick cost)) n same-finish
           ∙ ap (table (finishAt s (column kept) (releasesOf n task tick cost))) (sym (length-releases n task tick cost))
 
--- where every check of a run passes, no ready tick of the list is over 2,023,000,000 and no finish over 2,024,000,000
+-- where every check of a run passes, no ready tick of the list is over 2,023,000,000 and no finish over 2,024,000,001
 pub run-bounds
     : (s : Tasks) (kept : List ℕ) (n : ℕ) (task tick cost ready finish : List ℕ)
     → none ≡ refusalOf (runInputs s kept n task tick cost ready finish)

@@ -21,9 +21,9 @@ jobsOf n task cost ready = record {
   ours = λ t. true;
 }
 
--- the largest finish tick of a list that passes the checks of a run: the largest release tick, and 1,000,000 ticks for each of 1,024 releases
+-- the largest finish tick of a list that passes the checks of a run: the largest release tick, the pickup, and 1,000,000 ticks for each of 1,024 releases
 abbrev pub maxFinish : ℕ
-maxFinish = 2024000000
+maxFinish = 2024000001
 
 -- the first of from, .., n - 1 at which the test holds, and n where there is none
 unfoldable pub orElse : ℕ → Option ℕ → ℕ

@@ -1,11 +1,13 @@
-// The run: in each tick, of the jobs that are ready and unfinished, the highest-priority task's oldest job runs.
+// The run: in each tick, of the jobs that were ready before it and are unfinished, the highest-priority task's oldest job runs.
 use taskset::Checked;
+use taskset::PICKUP;
 use taskset::TaskSet;
 ghost use mathlib.Core.Path.{_≡_};
 ghost use mathlib.Core.List.{_++_};
 ghost use Prim.Native.Nat.{_≤_, min};
 ghost use lib.ListN.{length, getD, drop};
 ghost use Rattle.model.specs.Series.{table};
+ghost use Rattle.model.specs.Processor.{plain};
 ghost use Rattle.model.specs.Choice.{column};
 ghost use Rattle.model.specs.Checks.{refusalOf};
 ghost use Rattle.model.specs.Ready.{readyList};
@@ -22,6 +24,13 @@ fn smaller(a: u64, b: u64) -> u64
     ensures { λ r. ⌜ r ≡ min a b ⌝ }
 {
     if b < a { b } else { a }
+}
+
+// The first tick in which a job may run, given its ready tick.
+fn start_of(ready: u32) -> u64
+    ensures { λ r. ⌜ r ≡ plain .start ready ⌝ }
+{
+    numbers::wide(ready) + PICKUP
 }
 
 // The first job of task i from a place on, and n where there is none.
@@ -45,7 +54,7 @@ fn wake_of(ready: &[u32], n: usize, p: usize) -> u64
     ensures { λ r. ⌜ r ≡ wakeOf (now (ready .entry)) n p ⌝ }
 {
     if p < n {
-        return numbers::wide(ready[p]);
+        return start_of(ready[p]);
     }
     NEVER
 }

@@ -7,6 +7,9 @@ ghost use Rattle.model.specs.Choice.{column};
 ghost use Rattle.model.specs.Checks.{inRange, checkTasks, checkKept};
 ghost use Rattle.taskset.specs.TaskSet.{viewOf, refusalIn};
 
+// "Pickup": the ticks from a job's ready tick to the first in which it may run. R(q) has as many more.
+pub const PICKUP: u64 = 1;
+
 // A task: period P, jitter J, cost E and deadline D.
 pub struct Task {
     pub period: u32,

@@ -8,6 +8,7 @@ pub mod LoadLaws
 pub mod UptoLaws
 pub mod FitsOfJobs
 pub mod EndLaws
+pub mod LaterLaws
 pub mod Facts
 pub mod LateOfJobs
 pub mod LimitOfJobs

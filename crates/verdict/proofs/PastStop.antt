@@ -8,6 +8,7 @@ use native.Mathlib.Decide.{decLe}
 use borrow.Author.Tests.{le-ltb}
 use lib.IntN.{pos, subℕ}
 use lib.Signed.{ltZ}
+use Rattle.model.specs.Processor.{pickup}
 use Rattle.model.specs.Tasks.{Tasks, load}
 use Rattle.model.specs.Gap.{gap}
 use Rattle.model.specs.Demand.{aboveLoad, demand}
@@ -31,11 +32,11 @@ module _ (s : Tasks) (k : ℕ → ℕ) (i : ℕ) (p : Periodic s i) where
   window-sub a b v w t f g h = le-by t (v + w) (λ l. omega (arith, f .met, g .met, h .least (v + w) (omega arith) l, above-sub v w))
 
 -- R(q) as one difference
-bound-is : (P J K q w : ℕ) → bound P J K q w ≡ subℕ (w + (J - (q * P + K))) (q * P - J)
+bound-is : (P J K q w : ℕ) → bound P J K q w ≡ subℕ (w + pickup + (J - (q * P + K))) (q * P - J)
 bound-is P J K q w =
     dite (decLe (q * P) J)
-    (λ h. bound-up P J K q w h ∙ sym (sub-ge (w + (J - (q * P + K))) (q * P - J) (omega arith) ∙ ap pos (omega arith)))
-    (λ h. let e : w ≡ w + (J - (q * P + K)) = omega arith in bound-down P J K q w (omega arith) ∙ ap (λ (x : ℕ). subℕ x (q * P - J)) e)
+    (λ h. bound-up P J K q w h ∙ sym (sub-ge (w + pickup + (J - (q * P + K))) (q * P - J) (omega arith) ∙ ap pos (omega arith)))
+    (λ h. let e : w + pickup ≡ w + pickup + (J - (q * P + K)) = omega arith in bound-down P J K q w (omega arith) ∙ ap (λ (x : ℕ). subℕ x (q * P - J)) e)
 
 -- a difference is not below another
 not-below : (a b c d : ℕ) → c + b ≤ a + d → ltZ (subℕ a b) (subℕ c d) ≡ false
@@ -55,7 +56,7 @@ shorter : (P J K a b v w t : ℕ)
     → 1 ≤ v
     → v ≤ suc a * P - K
     → t ≤ v + w
-    → t + (J - ((suc a + b) * P + K)) + (b * P - J) ≤ w + (J - (b * P + K)) + ((suc a + b) * P - J)
+    → t + pickup + (J - ((suc a + b) * P + K)) + (b * P - J) ≤ w + pickup + (J - (b * P + K)) + ((suc a + b) * P - J)
 shorter P J K a b v w t o l h = omega arith
 
 -- R(a + 1 + b) ≤ R(b) where W(a) ≤ d_K(a + 1)
@@ -68,6 +69,6 @@ pub past-stop : (s : Tasks) (k : ℕ → ℕ) (i : ℕ) → Periodic s i → (a 
 unfolding boundOf gap
 past-stop s k i p a b v w t f l g h =
     rw (bound-is (s .period i) (s .jitter i) (k i) b w, bound-is (s .period i) (s .jitter i) (k i) (suc a + b) t)
-    (not-below (w + (s .jitter i - (b * s .period i + k i))) (b * s .period i - s .jitter i) (t + (s .jitter i - ((suc a + b) * s .period i + k i)))
+    (not-below (w + pickup + (s .jitter i - (b * s .period i + k i))) (b * s .period i - s .jitter i) (t + pickup + (s .jitter i - ((suc a + b) * s .period i + k i)))
     ((suc a + b) * s .period i - s .jitter i)
     (shorter (s .period i) (s .jitter i) (k i) a b v w t (f .low) l (window-sub s k i p a b v w t f g h)))

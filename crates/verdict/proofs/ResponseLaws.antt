@@ -10,6 +10,7 @@ use lib.IntN.{ℤ, pos, _+ℤ_, _-ℤ_, _*ℤ_}
 use lib.Signed.{mag, ltZ}
 use mir.Syntax.{w64}
 use mir.Val.{SFits, toZ, ofZ}
+use Rattle.model.specs.Processor.{pickup}
 use Rattle.model.specs.Bound.{maxZ, minZ, offset, bound}
 use Rattle.response.proofs.BoundLaws.{bound-up, bound-down}
 use Rattle.verdict.specs.Walking.{Met}
@@ -55,7 +56,7 @@ module _ (P J q : ℕ) (p : P ≤ 1000000) (j : J < 4294967296) (h : q ≤ 10000
 
 -- R(q) as a natural number
 abbrev pub responseOf : ℕ → ℕ → ℕ → ℕ → ℕ → ℕ
-responseOf P J K q w = w + (J - (q * P + K)) - (q * P - J)
+responseOf P J K q w = w + pickup + (J - (q * P + K)) - (q * P - J)
 
 module _ (P J K q w : ℕ) (m : Met P J K q w) where
   -- it is the definition's
@@ -63,28 +64,29 @@ module _ (P J K q w : ℕ) (m : Met P J K q w) where
   response-is =
       dite (decLe (q * P) J)
       (λ h. bound-up P J K q w h ∙ ap pos (omega arith))
-      (λ h. bound-down P J K q w (omega arith) ∙ rw (le-ltb w (q * P - J) (omega (arith, m .behind, m .keep-high))) (ap pos (omega arith)))
+      (λ h. bound-down P J K q w (omega arith) ∙ rw (le-ltb (w + pickup) (q * P - J) (omega (arith, m .behind, m .keep-high))) (ap pos (omega arith)))
 
   -- at least 1
   pub response-low : 1 ≤ responseOf P J K q w
   response-low = omega (arith, m .behind, m .keep-high)
 
   -- and far below 32 bits
-  pub response-high : responseOf P J K q w ≤ 11000000
+  pub response-high : responseOf P J K q w ≤ 11000001
   response-high = omega (arith, m .w-high, m .jitter-high)
 
-  -- as the code computes it, x, min(0, x) and the larger being given
-  pub response-sum : (x y z : ℤ)
+  -- as the code computes it, x, min(0, x), the larger, and W(q) with the pickup being given
+  pub response-sum : (x y z : ℤ) (n : ℕ)
       → mag x < 9223372036854775808
       → mag y < 9223372036854775808
       → mag z < 9223372036854775808
       → x ≡ offset P J q
       → y ≡ minZ (pos 0) (toZ w64 (ofZ w64 x))
       → z ≡ maxZ (toZ w64 (ofZ w64 (toZ w64 (ofZ w64 x) -ℤ toZ w64 K))) (toZ w64 (ofZ w64 y))
-      → toZ w64 w +ℤ toZ w64 (ofZ w64 z) ≡ pos (responseOf P J K q w)
+      → n ≡ w + pickup
+      → toZ w64 n +ℤ toZ w64 (ofZ w64 z) ≡ pos (responseOf P J K q w)
   unfolding bound
-  response-sum x y z hx hy hz ex ey ez =
-      ap₂ _+ℤ_ (plain w (omega arith)) (back z hz ∙ ez ∙ ap₂ maxZ less (back y hy ∙ ey ∙ ap (minZ (pos 0)) (back x hx ∙ ex))) ∙ response-is
+  response-sum x y z n hx hy hz ex ey ez en =
+      ap₂ _+ℤ_ (plain n (omega arith) ∙ ap pos en) (back z hz ∙ ez ∙ ap₂ maxZ less (back y hy ∙ ey ∙ ap (minZ (pos 0)) (back x hx ∙ ex))) ∙ response-is
     where
       less : toZ w64 (ofZ w64 (toZ w64 (ofZ w64 x) -ℤ toZ w64 K)) ≡ offset P J q -ℤ pos K
       less =

@@ -11,6 +11,7 @@ ghost use Rattle.demand.specs.Columns.{flatTasks};
 ghost use Rattle.verdict.specs.VerdictAnswer.{verdictIn};
 ghost use Rattle.verdict.specs.Walking.{Walkable, Met, IsResponse, betterOf};
 use taskset::Checked;
+use taskset::PICKUP;
 use taskset::TaskSet;
 
 // What the call "verdict of one task" answers: horizon with q; late with q and R(q); fits with the largest R met and the first q that had it;
@@ -62,14 +63,15 @@ fn offset(period: u32, jitter: u32, q: u32) -> i64
     jitter as i64 - (q as i64) * (period as i64)
 }
 
-// R(q) = W(q) + max(x − K, min(0, x)), w being W(q).
+// R(q) = W(q) + pickup + max(x − K, min(0, x)), w being W(q).
 fn response(period: u32, jitter: u32, keep: u32, q: u32, w: u32) -> u32
     requires { ⌜ Met period jitter keep q w ⌝ }
     ensures { λ r. ⌜ IsResponse period jitter keep q w r ⌝ }
 {
     let x = offset(period, jitter, q);
     let shift = larger(x - keep as i64, smaller(0, x));
-    (w as i64 + shift) as u32
+    let picked = numbers::wide(w) + PICKUP;
+    (picked as i64 + shift) as u32
 }
 
 // The walk over q = 0, 1, .. of a task whose loads, periods and kept jitters, and those of the tasks above it, stand in columns.

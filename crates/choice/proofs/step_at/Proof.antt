@@ -1,7 +1,8 @@
 -- The answer of a step, by its two tests.
-use Prim.Native.Nat.{_+_, _-_, max}
+use Prim.Native.Nat.{ℕ, _+_, _-_, max}
 use mathlib.Core.Path.{_≡_, ap, ap₂, _∙_}
 use native.Mathlib.Omega.{arith}
+use Rattle.model.specs.Processor.{pickup}
 use Rattle.choice.specs.Choices.{nextHigh}
 use Rattle.choice.proofs.ChoiceStepLaws.{step-over, step-keep, step-next}
 use borrow.Author.Needs.{needs}
@@ -11,7 +12,7 @@ use Rattle.choice.proofs.step_at.Tie as tie
 abbrev start : tie.After-larger → tie.Start
 start c = c .before .before .before .before .before .before .before .before .before .before
 
--- the largest W(q) + J − qP so far
+-- the largest W(q) + pickup + J − qP so far
 next-is
     : (c : tie.After-larger)
     → c .larger .result ≡ nextHigh (start c .args .period) (start c .args .jitter) (start c .args .high) (start c .args .q) (start c .args .w)
@@ -19,7 +20,8 @@ next-is c =
     let low = c .before .before .before .before .before .before .before in
     c .larger .ensures
     ∙ ap₂ max (c .before .before .before .wide4 .ensures)
-    (c .before .less2 .ensures ∙ ap₂ _-_ (ap₂ _+_ (low .before .before .wide .ensures) (c .before .before .wide5 .ensures)) (low .product .ensures .is))
+    (c .before .less2 .ensures
+    ∙ ap₂ _-_ (ap₂ _+_ (ap (λ (x : ℕ). x + pickup) (low .before .before .wide .ensures)) (c .before .before .wide5 .ensures)) (low .product .ensures .is))
 
 -- the least K so far
 kept : (c : tie.After-less3) → c .less3 .result ≡ c .before .larger .result - start (c .before) .args .deadline
@@ -28,6 +30,9 @@ kept c =
 
 wide-requires : tie.Need-wide-requires
 wide-requires c κs = search needs
+
+add-picked : tie.Need-add-picked
+add-picked c = search needs
 
 wide-requires-2 : tie.Need-wide-requires-2
 wide-requires-2 c κs = search needs
@@ -77,19 +82,19 @@ gap-requires c κs = search needs
 wide-requires-6 : tie.Need-wide-requires-6
 wide-requires-6 c κs = search needs
 
-sub-t20 : tie.Need-sub-t20
-sub-t20 c = search needs
+sub-t21 : tie.Need-sub-t21
+sub-t21 c = search needs
 
-cast-t21 : tie.Need-cast-t21
-cast-t21 c = search needs
+cast-t22 : tie.Need-cast-t22
+cast-t22 c = search needs
 
 returns-2 : tie.Need-returns-2
 returns-2 c =
     step-keep _ _ _ _ _ _ (omega arith) _ _ _ (next-is (c .before .before .before .before)) (kept (c .before .before .before)) (omega arith)
     (omega (arith, c .before .before .gap .ensures))
 
-cast-t18 : tie.Need-cast-t18
-cast-t18 c = search needs
+cast-t19 : tie.Need-cast-t19
+cast-t19 c = search needs
 
 returns-3 : tie.Need-returns-3
 returns-3 c =
@@ -100,6 +105,7 @@ step-at-spec =
     tie.close
     (tie.spec
     wide-requires
+    add-picked
     wide-requires-2
     product-requires
     wide-requires-3
@@ -116,8 +122,8 @@ step-at-spec =
     add-gap
     gap-requires
     wide-requires-6
-    sub-t20
-    cast-t21
+    sub-t21
+    cast-t22
     returns-2
-    cast-t18
+    cast-t19
     returns-3)

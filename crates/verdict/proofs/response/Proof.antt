@@ -1,11 +1,13 @@
 -- The sum is R(q), which is a natural number here.
-use mathlib.Core.Path.{_≡_, _∙_, sym}
+use Prim.Native.Nat.{ℕ, _+_}
+use mathlib.Core.Path.{_≡_, _∙_, sym, ap}
 use borrow.Author.Needs.{needs}
 use native.Mathlib.Omega.{arith}
 use lib.IntN.{pos, _+ℤ_}
 use mir.Syntax.{w64}
 use mir.Val.{toZ, ofZ}
 use mir.ValLaws.{toZ-ofZ}
+use Rattle.model.specs.Processor.{pickup}
 use Rattle.verdict.proofs.SignedLaws.{back, plain}
 use Rattle.verdict.proofs.ResponseLaws.{offset-less-mag, responseOf, response-is, response-low, response-high, response-sum}
 use Rattle.verdict.proofs.response.Statement.{statement}
@@ -31,35 +33,54 @@ smaller-requires c κs = search needs
 larger-requires : tie.Need-larger-requires
 larger-requires c κs = search needs
 
-cast-result : tie.Need-cast-result
-cast-result c = search needs
+wide-requires : tie.Need-wide-requires
+wide-requires c κs = search needs
 
-summed : (c : tie.After-larger)
-    → toZ w64 (c .before .before .before .args .w) +ℤ toZ w64 (ofZ w64 (c .larger .result))
-    ≡ pos (responseOf (c .before .before .before .args .period) (c .before .before .before .args .jitter) (c .before .before .before .args .keep)
-    (c .before .before .before .args .q) (c .before .before .before .args .w))
+abbrev start : tie.After-wide → tie.Start
+start c = c .before .before .before .before
+
+add-picked : tie.Need-add-picked
+add-picked c = omega (arith, c .wide .ensures, start c .pre .w-high)
+
+cast-result : tie.Need-cast-result
+cast-result c = omega (arith, c .wide .ensures, start c .pre .w-high)
+
+summed : (c : tie.After-wide)
+    → toZ w64 (c .wide .result + pickup) +ℤ toZ w64 (ofZ w64 (c .before .larger .result))
+    ≡ pos (responseOf (start c .args .period) (start c .args .jitter) (start c .args .keep) (start c .args .q) (start c .args .w))
 summed c =
-    response-sum _ _ _ _ _ (c .before .before .before .pre) _ _ _ (c .before .before .offset .ok) (c .before .smaller .ok) (c .larger .ok)
-    (c .before .before .offset .ensures)
-    (c .before .smaller .ensures)
-    (c .larger .ensures)
+    response-sum _ _ _ _ _ (start c .pre) _ _ _ _ (c .before .before .before .offset .ok) (c .before .before .smaller .ok) (c .before .larger .ok)
+    (c .before .before .before .offset .ensures)
+    (c .before .before .smaller .ensures)
+    (c .before .larger .ensures)
+    (ap (λ (n : ℕ). n + pickup) (c .wide .ensures))
 
 add-result : tie.Need-add-result
-add-result c = rw (summed c) (record { sfits = omega (arith, response-high _ _ _ _ _ (c .before .before .before .pre)) })
+add-result c = rw (summed c) (record { sfits = omega (arith, response-high _ _ _ _ _ (start c .pre)) })
 
-whole : (c : tie.After-larger)
-    → toZ w64 (ofZ w64 (toZ w64 (c .before .before .before .args .w) +ℤ toZ w64 (ofZ w64 (c .larger .result))))
-    ≡ pos (responseOf (c .before .before .before .args .period) (c .before .before .before .args .jitter) (c .before .before .before .args .keep)
-    (c .before .before .before .args .q) (c .before .before .before .args .w))
+whole : (c : tie.After-wide)
+    → toZ w64 (ofZ w64 (toZ w64 (c .wide .result + pickup) +ℤ toZ w64 (ofZ w64 (c .before .larger .result))))
+    ≡ pos (responseOf (start c .args .period) (start c .args .jitter) (start c .args .keep) (start c .args .q) (start c .args .w))
 whole c = toZ-ofZ w64 _ (add-result c) ∙ summed c
 
 cast-result-2 : tie.Need-cast-result-2
-cast-result-2 c = rw (whole c) (tt, omega (arith, response-high _ _ _ _ _ (c .before .before .before .pre)))
+cast-result-2 c = rw (whole c) (tt, omega (arith, response-high _ _ _ _ _ (start c .pre)))
 
 returns : tie.Need-returns
-returns c = rw (whole c) (record { is = sym (response-is _ _ _ _ _ (c .before .before .before .pre)); low = response-low _ _ _ _ _ (c .before .before .before .pre) })
+returns c = rw (whole c) (record { is = sym (response-is _ _ _ _ _ (start c .pre)); low = response-low _ _ _ _ _ (start c .pre) })
 
 pub response-spec : {M : Type 1} → statement M
 response-spec =
     tie.close
-    (tie.spec offset-requires cast-larger sub-larger smaller-requires larger-requires cast-result add-result cast-result-2 returns)
+    (tie.spec
+    offset-requires
+    cast-larger
+    sub-larger
+    smaller-requires
+    larger-requires
+    wide-requires
+    add-picked
+    cast-result
+    add-result
+    cast-result-2
+    returns)
