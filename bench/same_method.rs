@@ -7,6 +7,9 @@ use crate::reference::{number_at, record_at, task_at, Refusal, Task, HORIZON, MA
 
 type Checked = Result<(), Refusal>;
 
+/// The ticks from a job's ready tick to the first in which it may run. R(q) has as many more.
+const PICKUP: u64 = 1;
+
 fn refuse<T>(number: u32, place: usize) -> Result<T, Refusal> {
     Err(Refusal { number, place: place as u64 })
 }
@@ -132,7 +135,7 @@ pub fn verdict(tasks: &[Task], task: usize, kept: &[u32]) -> Result<[u64; 3], Re
             return Ok([0, q as u64, 0]);
         };
         let x = j - q * p;
-        let r = w as i64 + (x - k).max(x.min(0));
+        let r = (w + PICKUP) as i64 + (x - k).max(x.min(0));
         if r > d {
             return Ok([1, q as u64, r as u64]);
         }
@@ -152,11 +155,12 @@ fn least_keep(f: &Flat, kept: &[u32], i: usize, t: &Task) -> Option<(u32, u32)> 
     let (mut q, mut high, mut from) = (0u64, 0u64, 1u64);
     loop {
         let w = window(f, kept, i, (q + 1) * t.e as u64, from)?;
+        let picked = w + PICKUP;
         let base = q * p;
-        if d + base.saturating_sub(j) < w {
+        if d + base.saturating_sub(j) < picked {
             return None;
         }
-        high = high.max((w + j).saturating_sub(base));
+        high = high.max((picked + j).saturating_sub(base));
         let keep = high.saturating_sub(d);
         if w <= ((q + 1) * p).saturating_sub(keep) {
             return Some((keep as u32, high.min(d) as u32));
@@ -255,7 +259,7 @@ pub fn run(tasks: &[Task], kept: &[u32], n: usize, list: Columns, ready: &mut [u
     for i in 0..tasks.len() {
         head[i] = next_of(list.task, n, i as u32, 0);
     }
-    let wake_of = |p: usize, ready: &[u32]| if p < n { ready[p] as u64 } else { u64::MAX };
+    let wake_of = |p: usize, ready: &[u32]| if p < n { ready[p] as u64 + PICKUP } else { u64::MAX };
     let (mut t, mut wake) = (0u64, 0u64);
     loop {
         if t >= wake {

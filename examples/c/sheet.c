@@ -1,5 +1,5 @@
 /*
- * The printed sheet of document 01 from C: choice, verdicts, arrival count, trace check, ready ticks, run, write, read and load.
+ * The sheet of examples/folder.sheet from C: choice, verdicts, arrival count, trace check, ready ticks, run, write, read and load.
  * Build, after ./install:
  *   cc -O2 examples/c/sheet.c -lnolkrada -o sheet
  * or, without installing, after `rt staticlib nolkrada`:
@@ -13,7 +13,7 @@
 #define LENGTH(a) (sizeof(a) / sizeof((a)[0]))
 
 /* P, J, E, D of each task, task 0 first. */
-static const uint32_t sheet[] = {6, 5, 2, 6, 8, 7, 2, 8, 10, 0, 2, 10};
+static const uint32_t sheet[] = {6, 5, 2, 6, 8, 7, 2, 8, 10, 0, 2, 11};
 #define TASKS 3
 
 /* Three releases: task 0 at tick 0, task 2 at tick 0, task 0 at tick 1, all of cost 2. */
@@ -82,7 +82,7 @@ static int print_file(void) {
 }
 
 static int print_text(void) {
-    static const char text[] = "6,5,2,6\n8,7,2,8\n10,0,2,10\n";
+    static const char text[] = "6,5,2,6\n8,7,2,8\n10,0,2,11\n";
     static uint32_t loaded[NOLKRADA_SHEET_NUMBERS];
     uint64_t count[1];
     if (refused("load", nolkrada_load((const uint8_t *)text, strlen(text), loaded, LENGTH(loaded), count, 1))) return 1;
@@ -101,7 +101,8 @@ int main(void) {
     if (print_run(kept)) return 1;
     if (print_file()) return 1;
     if (print_text()) return 1;
-    kept[1] = 2;
+    /* One less than the choice. */
+    kept[1] = 3;
     if (print_verdict(kept, 1)) return 1;
     /* More than the task's jitter. */
     kept[1] = 8;

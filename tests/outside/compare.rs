@@ -7,7 +7,7 @@ mod reference;
 mod sums;
 
 use generator::*;
-use reference::{Budget, Refusal, Release, Sheet, Verdict, MAX_TICK};
+use reference::{Budget, Refusal, Release, Sheet, Task, Verdict, MAX_TICK, MAX_TIME};
 
 const SEED: u64 = 20_240_601;
 
@@ -404,7 +404,8 @@ fn check_reference_windows(r: &mut Random, cases: u32) {
     }
 }
 
-/// The two ways in which the reference finds the finish ticks agree.
+/// The two ways in which the reference finds the finish ticks agree, and each is one tick later than where a job may run in its
+/// ready tick.
 fn check_reference_run(r: &mut Random, cases: u32) {
     for _ in 0..cases {
         let sheet = small_sheet(r);
@@ -412,7 +413,9 @@ fn check_reference_run(r: &mut Random, cases: u32) {
         let list = list_for(r, &sheet, n, 8);
         let kept = kept_for(r, &sheet);
         let ready = reference::ready_ticks(&sheet, &kept, &list);
-        assert_eq!(reference::finish_ticks(&list, &ready), reference::finish_ticks_by_tick(&list, &ready));
+        let finish = reference::finish_ticks(&list, &ready);
+        assert_eq!(finish, reference::finish_ticks_by_tick(&list, &ready));
+        assert_eq!(finish, reference::finish_from(&list, &ready).iter().map(|t| t + 1).collect::<Vec<i64>>());
     }
 }
 
@@ -483,6 +486,20 @@ fn late_ticks(r: &mut Random, tally: &mut Tally, cases: u32) {
         let case = Case::sound(r, &sheet, &list);
         compare_list_calls(r, tally, &case);
     }
+}
+
+/// The largest finish tick: 1,024 jobs of the largest cost and period, all released at the limit.
+fn largest_finish(r: &mut Random, tally: &mut Tally) {
+    let sheet = Sheet::of(&[Task { p: MAX_TIME, j: 0, e: MAX_TIME, d: MAX_TIME }]);
+    let case = Case::sound(r, &sheet, &[Release { task: 0, tick: MAX_TICK, cost: MAX_TIME }; 1024]);
+    let expected = reference::run(&case.sheet(), &case.kept, 1024, &case.reference_list(), 1024, 1024).unwrap();
+    assert_eq!((expected.0[1023], expected.1[1023]), (2_023_000_000, 2_024_000_001));
+    let (mut ready, mut finish) = (numbers(r, 1024), numbers(r, 1024));
+    let got = library::run(
+        &case.numbers, case.count, &case.kept, case.n, case.library_list(), &mut ready.now, &mut finish.now,
+    );
+    let same = ready.holds(Some(&expected.0)) && finish.holds(Some(&expected.1));
+    tally.note(5, None, got, same, || format!("last ready {} finish {}", ready.now[1023], finish.now[1023]));
 }
 
 /// Sound files cut at every byte and with every byte changed; random records; files at the limits.
@@ -599,12 +616,12 @@ fn full_texts(r: &mut Random, tally: &mut Tally) {
 /// Walks that reach the horizon or take many q, and jitters for which every K in 0..J can only just be tried.
 fn long_walks(r: &mut Random, tally: &mut Tally) {
     let sheets: [&[[u32; 4]]; 6] = [
-        &[[1, 0, 1, 1], [1, 0, 1, 1]],
+        &[[1, 0, 1, 2], [1, 0, 1, 2]],
         &[[2, 0, 1, 2], [2, 1, 1, 1_000_000]],
         &[[3, 2, 1, 9], [3, 2, 1, 90], [3, 1_000_000, 1, 1_000_000]],
         &[[1_000_000, 1_000_000, 1_000_000, 1_000_000], [1_000_000, 0, 1, 1_000_000]],
         &[[10, 9, 3, 30], [1_000_000, 1_000_000, 400_000, 1_000_000], [1_000_000, 999_999, 200_000, 990_000]],
-        &[[2, 1, 1, 1], [2, 999_990, 1, 1_000_000]],
+        &[[2, 1, 1, 2], [2, 999_990, 1, 1_000_000]],
     ];
     for sheet in sheets {
         let flat: Vec<u32> = sheet.iter().flatten().copied().collect();
@@ -641,13 +658,14 @@ fn compare_choice_by_verdicts(tally: &mut Tally, case: &Case) {
     }
 }
 
-/// Document 01's printed sheet and releases.
+/// Document 01's printed sheet and releases, and the sheet with the deadline at which it fits.
 fn printed(r: &mut Random, tally: &mut Tally) {
-    let sheet = sums::printed_sheet();
-    let case = Case::sound(r, &sheet, &sums::printed_releases());
-    for _ in 0..50 {
-        compare_sheet_calls(r, tally, &case, 1_000_000);
-        compare_list_calls(r, tally, &case);
+    for sheet in [sums::printed_sheet(), sums::folder_sheet()] {
+        let case = Case::sound(r, &sheet, &sums::printed_releases());
+        for _ in 0..50 {
+            compare_sheet_calls(r, tally, &case, 1_000_000);
+            compare_list_calls(r, tally, &case);
+        }
     }
 }
 
@@ -776,7 +794,7 @@ fn main() {
     let r = &mut Random::seeded(seed);
     let tally = &mut Tally::default();
     println!("seed {}", seed);
-    println!("reference: {} sums and examples of document 01 agree", sums::check());
+    println!("reference: {} sums and examples of documents 01 and 02 agree", sums::check());
     timed("reference: W(q) by step and by tick", || check_reference_windows(r, 2_000));
     timed("reference: run by event and by tick", || check_reference_run(r, 2_000));
     timed("reference: texts there and back", || check_reference_texts(r, 20_000));
@@ -788,6 +806,7 @@ fn main() {
     timed("full sheets", || loaded(r, tally, 400, &[31, 32]));
     timed("long lists", || long_lists(r, tally, 60));
     timed("ticks at the limit", || late_ticks(r, tally, 3));
+    timed("largest finish tick", || largest_finish(r, tally));
     timed("files, cut and changed at every byte", || files(r, tally, 1_000));
     timed("full files", || full_files(r, tally));
     timed("texts, cut and changed at every byte", || texts(r, tally, 200));

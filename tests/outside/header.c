@@ -24,7 +24,7 @@ static const char version[] =
     TEXT(NOLKRADA_VERSION_MAJOR) "." TEXT(NOLKRADA_VERSION_MINOR) "." TEXT(NOLKRADA_VERSION_PATCH);
 
 static const uint32_t printed[] = {6, 5, 2, 6, 8, 7, 2, 8, 10, 0, 2, 10};
-static const uint32_t unfit[] = {2, 1, 1, 1, 2, 0, 2, 2};
+static const uint32_t unfit[] = {2, 1, 1, 2, 2, 0, 2, 2};
 
 static uint32_t sheet[NOLKRADA_SHEET_NUMBERS], task[NOLKRADA_MAX_RELEASES], tick[NOLKRADA_MAX_RELEASES], cost[NOLKRADA_MAX_RELEASES];
 static uint64_t answer[3];
@@ -118,7 +118,7 @@ static void refusals(void) {
 
 /* The verdicts of the printed sheet's second task, and of a task under a full load. */
 static void verdicts(void) {
-    static const uint32_t busy[] = {1, 0, 1, 1, 1, 0, 1, 1}, kept[3] = {1, 3, 0}, less[3] = {1, 2, 0};
+    static const uint32_t busy[] = {1, 0, 1, 1, 1, 0, 1, 1}, kept[3] = {1, 4, 0}, less[3] = {1, 3, 0};
     expect("fits", nolkrada_verdict(printed, 12, 3, 1, kept, 3, answer, 3), 0, 0);
     if (answer[0] != NOLKRADA_FITS || answer[2] != 8) wrong = 1;
     expect("late", nolkrada_verdict(printed, 12, 3, 1, less, 3, answer, 3), 0, 0);
@@ -127,12 +127,21 @@ static void verdicts(void) {
     if (answer[0] != NOLKRADA_HORIZON || answer[1] != 0 || answer[2] != 0) wrong = 1;
 }
 
+/* A job that is alone may run NOLKRADA_PICKUP ticks after its ready tick, and is finished when it has run for its cost. */
+static void runs(void) {
+    static const uint32_t zero[1], three[1] = {3}, two[1] = {2}, kept[3] = {2, 4, 0};
+    uint32_t ready[1], finish[1];
+    expect("run", nolkrada_run(printed, 12, 3, kept, 3, 1, zero, 1, three, 1, two, 1, ready, 1, finish, 1), 0, 0);
+    if (ready[0] != 3 || finish[0] != 3 + NOLKRADA_PICKUP + 2) wrong = 1;
+}
+
 int main(void) {
     if (strcmp(version, NOLKRADA_VERSION) != 0) wrong = 1;
     sizes();
     text_sizes();
     refusals();
     verdicts();
-    puts(wrong ? "header: something is not as it says" : "header: limits, sizes, refusals and verdicts as it says");
+    runs();
+    puts(wrong ? "header: something is not as it says" : "header: limits, sizes, refusals, verdicts and pickup as it says");
     return wrong;
 }

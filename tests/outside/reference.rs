@@ -1,5 +1,5 @@
-//! An implementation of document 01, and of document 02's text sheets, for comparison, written from their words alone. It shares no code and no method with the
-//! library: ready ticks and the trace check look at every pair of jobs, W(q) is found by walking over the ticks at which
+//! An implementation of document 01 with document 02's text sheets and pickup, for comparison, written from their words alone. It shares no code and
+//! no method with the library: ready ticks and the trace check look at every pair of jobs, W(q) is found by walking over the ticks at which
 //! the demand steps, the choice tries every K in rising order, and a text is split into whole lines and fields.
 
 pub const MAX_TASKS: usize = 32;
@@ -7,6 +7,9 @@ pub const MAX_RELEASES: usize = 1024;
 pub const MAX_TICK: u32 = 1_000_000_000;
 pub const MAX_TIME: u32 = 1_000_000;
 pub const HORIZON: i64 = 10_000_000;
+/// Pickup: the kernel looks at the ready list at tick ends only, so a job may run from the tick after its ready tick, and R(q)
+/// grows by 1.
+pub const PICKUP: i64 = 1;
 
 #[derive(Clone, Copy, Debug, PartialEq, Eq)]
 pub struct Task {
@@ -127,21 +130,32 @@ pub fn ready_ticks(sheet: &Sheet, kept: &[u32], list: &[Release]) -> Vec<i64> {
     ready
 }
 
-/// The job that runs at tick t: of those ready at or before t and unfinished, the highest-priority task's oldest.
-fn job_at(list: &[Release], ready: &[i64], left: &[i64], t: i64) -> Option<usize> {
-    (0..list.len()).filter(|&p| ready[p] <= t && left[p] > 0).min_by_key(|&p| (list[p].task, p))
+/// The first tick in which each job may run.
+fn first_ticks(ready: &[i64]) -> Vec<i64> {
+    ready.iter().map(|&r| r + PICKUP).collect()
 }
 
-/// Finish ticks of the run, from event to event: a job runs until it is finished or the next job gets ready.
+/// The job that runs at tick t: of those that may run in it and are unfinished, the highest-priority task's oldest.
+fn job_at(list: &[Release], first: &[i64], left: &[i64], t: i64) -> Option<usize> {
+    (0..list.len()).filter(|&p| first[p] <= t && left[p] > 0).min_by_key(|&p| (list[p].task, p))
+}
+
+/// Finish ticks of the run.
 pub fn finish_ticks(list: &[Release], ready: &[i64]) -> Vec<i64> {
+    finish_from(list, &first_ticks(ready))
+}
+
+/// Finish ticks of jobs that may run from these ticks on, from event to event: a job runs until it is finished or the next job
+/// may run.
+pub fn finish_from(list: &[Release], first: &[i64]) -> Vec<i64> {
     let mut left: Vec<i64> = list.iter().map(|r| r.cost as i64).collect();
     let mut finish = vec![0; list.len()];
     let mut t = 0;
     loop {
-        let next_ready = (0..list.len()).filter(|&p| ready[p] > t).map(|p| ready[p]).min();
-        match (job_at(list, ready, &left, t), next_ready) {
+        let next_first = (0..list.len()).filter(|&p| first[p] > t).map(|p| first[p]).min();
+        match (job_at(list, first, &left, t), next_first) {
             (None, None) => return finish,
-            (None, Some(r)) => t = r,
+            (None, Some(f)) => t = f,
             (Some(p), next) => {
                 let end = std::cmp::min(t + left[p], next.unwrap_or(i64::MAX));
                 left[p] -= end - t;
@@ -156,11 +170,12 @@ pub fn finish_ticks(list: &[Release], ready: &[i64]) -> Vec<i64> {
 
 /// Finish ticks of the run, tick by tick.
 pub fn finish_ticks_by_tick(list: &[Release], ready: &[i64]) -> Vec<i64> {
+    let first = first_ticks(ready);
     let mut left: Vec<i64> = list.iter().map(|r| r.cost as i64).collect();
     let mut finish = vec![0; list.len()];
     let mut t = 0;
     while left.iter().any(|&l| l > 0) {
-        if let Some(p) = job_at(list, ready, &left, t) {
+        if let Some(p) = job_at(list, &first, &left, t) {
             left[p] -= 1;
             finish[p] = t + 1;
         }
@@ -222,7 +237,7 @@ impl<'a> Windows<'a> {
     }
 }
 
-/// The walk over q of a task with kept jitter K.
+/// The walk over q of a task with kept jitter K: R(q) has the pickup, the stop has not.
 fn walk(task: Task, keep: u32, windows: &mut Windows) -> Result<Verdict, Exhausted> {
     let (p, j, d, k) = (task.p as i64, task.j as i64, task.d as i64, keep as i64);
     let mut best: Option<(i64, i64)> = None;
@@ -233,7 +248,7 @@ fn walk(task: Task, keep: u32, windows: &mut Windows) -> Result<Verdict, Exhaust
             return Ok(Verdict::Horizon { q });
         };
         let x = j - q * p;
-        let r = w + std::cmp::max(x - k, std::cmp::min(0, x));
+        let r = w + PICKUP + std::cmp::max(x - k, std::cmp::min(0, x));
         if r > d {
             return Ok(Verdict::Late { q, r });
         }

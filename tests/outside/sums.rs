@@ -1,4 +1,5 @@
-//! The reference implementation on the twelve sums and the two printed examples of document 01.
+//! The reference implementation on the twelve sums and the two printed examples of document 01, 7 to 12 and the examples as document
+//! 02's R-2 has them, and on R-2's own figures.
 
 use crate::reference::*;
 
@@ -6,9 +7,19 @@ fn task(p: u32, j: u32, e: u32, d: u32) -> Task {
     Task { p, j, e, d }
 }
 
-/// The sheet printed in document 01.
+/// The sheet printed in document 01, with another deadline of task 2.
+fn printed_with(d: u32) -> Sheet {
+    Sheet::of(&[task(6, 5, 2, 6), task(8, 7, 2, 8), task(10, 0, 2, d)])
+}
+
+/// The sheet printed in document 01. No K fits its task 2.
 pub fn printed_sheet() -> Sheet {
-    Sheet::of(&[task(6, 5, 2, 6), task(8, 7, 2, 8), task(10, 0, 2, 10)])
+    printed_with(10)
+}
+
+/// The same with the deadline at which it fits.
+pub fn folder_sheet() -> Sheet {
+    printed_with(11)
 }
 
 /// The releases printed in document 01.
@@ -38,8 +49,19 @@ fn ready_of(p: u32, keep: u32, ticks: &[u32]) -> Vec<i64> {
     ready_ticks(&sheet, &[keep], &list)
 }
 
+fn choice_for(sheet: &Sheet) -> Result<(Vec<u32>, Vec<u32>), Refusal> {
+    choice(sheet, 32, 32, &mut Budget::of(u64::MAX)).ok().unwrap()
+}
+
+fn refusal_line(r: Refusal) -> String {
+    format!("refused {} at {}\n", r.number, r.place)
+}
+
 fn lines_of_choice(sheet: &Sheet) -> String {
-    let (kept, worst) = choice(sheet, 32, 32, &mut Budget::of(u64::MAX)).ok().unwrap().unwrap();
+    let (kept, worst) = match choice_for(sheet) {
+        Err(r) => return refusal_line(r),
+        Ok(columns) => columns,
+    };
     let mut text = String::from("task period jitter cost deadline keep worst\n");
     for i in 0..sheet.count {
         let t = sheet.task(i);
@@ -49,7 +71,10 @@ fn lines_of_choice(sheet: &Sheet) -> String {
 }
 
 fn lines_of_run(sheet: &Sheet, list: &[Release]) -> String {
-    let (kept, _) = choice(sheet, 32, 32, &mut Budget::of(u64::MAX)).ok().unwrap().unwrap();
+    let kept = match choice_for(sheet) {
+        Err(r) => return refusal_line(r),
+        Ok((kept, _)) => kept,
+    };
     let ready = ready_ticks(sheet, &kept, list);
     let finish = finish_ticks(list, &ready);
     let mut text = String::from("job task release ready finish response\n");
@@ -74,31 +99,50 @@ pub fn check() -> usize {
     assert_eq!(ready_of(6, 8, &[0, 0, 0]), [0, 0, 4]);
     // 6 to 8
     assert_eq!(windows(&s, &[1, 0, 0], 1, 2), [4, 8]);
-    assert_eq!(verdict_for(&s, &[1, 2, 0], 1), Verdict::Late { q: 0, r: 9 });
-    assert!(matches!(verdict_for(&s, &[1, 3, 0], 1), Verdict::Fits { r: 8, .. }));
+    assert_eq!(verdict_for(&s, &[1, 2, 0], 1), Verdict::Late { q: 0, r: 10 });
+    assert_eq!(verdict_for(&s, &[1, 3, 0], 1), Verdict::Late { q: 0, r: 9 });
+    assert!(matches!(verdict_for(&s, &[1, 4, 0], 1), Verdict::Fits { r: 8, .. }));
     assert_eq!(windows(&s, &full, 1, 2), [6, 10]);
-    assert_eq!(verdict_for(&s, &full, 1), Verdict::Late { q: 1, r: 9 });
+    assert_eq!(verdict_for(&s, &full, 1), Verdict::Late { q: 1, r: 10 });
     // 9 and 10
-    let mut tight = s.clone();
-    tight.tasks[2].d = 9;
-    assert!(matches!(verdict_for(&s, &[1, 3, 0], 2), Verdict::Fits { r: 10, .. }));
-    assert_eq!(verdict_for(&tight, &[1, 3, 0], 2), Verdict::Late { q: 0, r: 10 });
-    assert_eq!(verdict_for(&s, &full, 2), Verdict::Late { q: 0, r: 16 });
+    assert_eq!(verdict_for(&s, &[1, 3, 0], 2), Verdict::Late { q: 0, r: 11 });
+    assert_eq!(verdict_for(&printed_with(9), &[1, 3, 0], 2), Verdict::Late { q: 0, r: 11 });
+    assert!(matches!(verdict_for(&folder_sheet(), &[1, 3, 0], 2), Verdict::Fits { r: 11, .. }));
+    assert_eq!(verdict_for(&s, &full, 2), Verdict::Late { q: 0, r: 17 });
     // 11
     let busy = Sheet::of(&[task(1, 0, 1, 1), task(1, 0, 1, 1)]);
-    assert!(matches!(verdict_for(&busy, &[0, 0], 0), Verdict::Fits { r: 1, .. }));
+    assert_eq!(verdict_for(&busy, &[0, 0], 0), Verdict::Late { q: 0, r: 2 });
     assert_eq!(verdict_for(&busy, &[0, 0], 1), Verdict::Horizon { q: 0 });
     // 12
     assert!(finish_ticks(&[], &[]).is_empty());
     assert_eq!(ready_of(6, 1, &[3]), [3]);
+    for cost in 1..=6 {
+        let one = [Release { task: 0, tick: 3, cost }];
+        assert_eq!(finish_ticks(&one, &[3]), [4 + cost as i64]);
+        assert_eq!(finish_ticks_by_tick(&one, &[3]), [4 + cost as i64]);
+    }
     // the printed examples
+    let list = printed_releases();
+    assert_eq!(lines_of_choice(&s), "refused 15 at 2\n");
+    assert_eq!(lines_of_run(&s, &list), "refused 15 at 2\n");
+    // the same with D 11
     assert_eq!(
-        lines_of_choice(&s),
-        "task period jitter cost deadline keep worst\n0 6 5 2 6 1 6\n1 8 7 2 8 3 8\n2 10 0 2 10 0 10\nfits\n"
+        lines_of_choice(&folder_sheet()),
+        "task period jitter cost deadline keep worst\n0 6 5 2 6 2 6\n1 8 7 2 8 4 8\n2 10 0 2 11 0 11\nfits\n"
     );
     assert_eq!(
-        lines_of_run(&s, &printed_releases()),
-        "job task release ready finish response\n0 0 0 0 2 2\n1 2 0 0 4 4\n2 0 1 5 7 6\n"
+        lines_of_run(&folder_sheet(), &list),
+        "job task release ready finish response\n0 0 0 0 3 3\n1 2 0 0 5 5\n2 0 1 4 7 6\n"
     );
-    14
+    // tasks 0 and 1 of the printed sheet alone
+    assert_eq!(choice_for(&Sheet::of(&s.tasks[..2])), Ok((vec![2, 4], vec![6, 8])));
+    // the stop of the walk knows no pickup: W(0) = d_0(1) = 1, and W(0) = 2 over d_7(1) = 1
+    assert_eq!(verdict_for(&Sheet::of(&[task(1, 0, 1, 2)]), &[0], 0), Verdict::Fits { r: 2, q: 0 });
+    assert_eq!(verdict_for(&Sheet::of(&[task(8, 7, 2, 8)]), &[7], 0), Verdict::Fits { r: 4, q: 1 });
+    // each finish is one tick later than in a run that lets a job run in its ready tick
+    let ready = ready_ticks(&s, &[2, 4, 0], &list);
+    let at_once: Vec<i64> = finish_from(&list, &ready).iter().map(|t| t + 1).collect();
+    assert_eq!(finish_ticks(&list, &ready), at_once);
+    // twelve sums, two examples, these with D 11, and three figures more
+    12 + 2 + 2 + 3
 }

@@ -200,7 +200,7 @@ fn stub_tree(name: &str) -> Tree {
     let root = std::env::current_dir().unwrap().join("target/programs/trees").join(name);
     let _ = fs::remove_dir_all(&root);
     let tree = Tree { path: format!("{}:{}", root.join("bin").display(), std::env::var("PATH").unwrap()), root };
-    let examples = ["examples/printed.sheet", "examples/overload.sheet", "examples/printed.csv", "examples/overload.csv"];
+    let examples = ["examples/folder.sheet", "examples/overload.sheet", "examples/folder.csv", "examples/overload.csv"];
     for file in ["run", "install", "tools/build.sh", "include/nolkrada.h", "crates.txt"].into_iter().chain(examples) {
         let to = tree.root.join(file);
         fs::create_dir_all(to.parent().unwrap()).unwrap();
@@ -238,10 +238,10 @@ fn stored(name: &str) -> String {
 }
 
 fn example(end: &str) -> String {
-    format!("example: examples/printed.sheet\n{}", stored(&format!("printed.{end}")))
+    format!("example: examples/folder.sheet\n{}", stored(&format!("folder.{end}")))
 }
 
-const NO_FILE: &str = "run: no file was given: this is the example, examples/printed.sheet\n";
+const NO_FILE: &str = "run: no file was given: this is the example, examples/folder.sheet\n";
 const NOT_READ: &str = "standard input was not read";
 
 // ---- A terminal --------------------------------------------------------------------------------------------------------
@@ -283,10 +283,10 @@ fn at_terminal(tree: &Tree, words: &[&str]) -> (Child, File) {
 
 /// The file named, standard input, or the example: for the two programs on files.
 fn inputs(tree: &Tree) {
-    let printed = "examples/printed.sheet";
+    let folder = "examples/folder.sheet";
     for (option, end) in [(None, "choose"), (Some("--replay"), "replay")] {
         let words = |last: Option<&'static str>| -> Vec<&str> { option.into_iter().chain(last).collect() };
-        for name in ["printed", "press", "overload"] {
+        for name in ["folder", "printed", "press", "overload"] {
             let (file, text) = (format!("examples/{name}.sheet"), stored(&format!("{name}.{end}")));
             let code = if text.starts_with("refused ") { 1 } else { 0 };
             let absolute = fs::canonicalize(&file).unwrap();
@@ -302,7 +302,7 @@ fn inputs(tree: &Tree) {
         let said = tree.with_pipe(&none, &fs::read("examples/overload.sheet").unwrap());
         said.is(0, &example(end), "no file, a pipe").says(NO_FILE).says(NOT_READ).says_lines(2);
         said.says(option.map_or("./run - reads it, ./run --csv - as text", |_| "./run --replay - reads it"));
-        tree.with_file(&none, printed).says(NOT_READ).says_lines(2);
+        tree.with_file(&none, folder).says(NOT_READ).says_lines(2);
         // A pipe on which nothing comes and that does not end.
         let mut c = tree.command("run", &none);
         let mut child = c.stdin(Stdio::piped()).spawn().unwrap();
@@ -322,7 +322,7 @@ fn inputs(tree: &Tree) {
 
 /// A text, named, on standard input or in pieces.
 fn texts(tree: &Tree) {
-    for name in ["printed", "press", "overload"] {
+    for name in ["folder", "printed", "press", "overload"] {
         let (file, text) = (format!("examples/{name}.csv"), stored(&format!("{name}.choose")));
         let code = if text.starts_with("refused ") { 1 } else { 0 };
         let absolute = fs::canonicalize(&file).unwrap();
@@ -338,8 +338,8 @@ fn texts(tree: &Tree) {
     }
     tree.with_pipe(&["--csv", "-"], b"").is(1, "refused 5 at 0\n", "an empty text").says_lines(0);
     let (child, mut keyboard) = at_terminal(tree, &["--csv", "-"]);
-    keyboard.write_all(b"6,5,2,6\n8,7,2,8\n10,0,2,10\n\x04").unwrap();
-    finish(child, "./run --csv - at a terminal").is(0, &stored("printed.choose"), "typed").says_lines(0);
+    keyboard.write_all(b"6,5,2,6\n8,7,2,8\n10,0,2,11\n\x04").unwrap();
+    finish(child, "./run --csv - at a terminal").is(0, &stored("folder.choose"), "typed").says_lines(0);
     for write in [1, 2, 7] {
         in_writes(tree.command("run", &["--csv", "-"]), write);
         in_writes(Command::new("target/built/choose_csv"), write);
@@ -353,12 +353,12 @@ fn in_writes(mut c: Command, bytes: usize) {
     c.stdin(Stdio::piped()).stdout(Stdio::piped()).stderr(Stdio::piped());
     let mut child = c.spawn().unwrap();
     let mut stdin = child.stdin.take().unwrap();
-    for part in fs::read("examples/printed.csv").unwrap().chunks(bytes) {
+    for part in fs::read("examples/folder.csv").unwrap().chunks(bytes) {
         stdin.write_all(part).unwrap();
         std::thread::sleep(Duration::from_millis(1));
     }
     drop(stdin);
-    finish(child, "a text in small writes").is(0, &stored("printed.choose"), "small writes").says_lines(0);
+    finish(child, "a text in small writes").is(0, &stored("folder.choose"), "small writes").says_lines(0);
 }
 
 /// An answer that is decided ends the reading: the pipe stays open, and nothing more comes.
@@ -431,9 +431,9 @@ fn names(tree: &Tree) {
             let mut c = tree.command("run", &[&format!("./{name}")]);
             finish(c.current_dir(&folder).spawn().unwrap(), name).is(1, &expected, name).says_lines(0);
         }
-        fs::copy("examples/printed.csv", folder.join(name)).unwrap();
+        fs::copy("examples/folder.csv", folder.join(name)).unwrap();
         let mut c = tree.command("run", &["--csv", &format!("./{name}")]);
-        finish(c.current_dir(&folder).spawn().unwrap(), name).is(0, &stored("printed.choose"), name).says_lines(0);
+        finish(c.current_dir(&folder).spawn().unwrap(), name).is(0, &stored("folder.choose"), name).says_lines(0);
     }
     std::os::unix::fs::symlink(tree.root.join("run"), folder.join("link")).unwrap();
     finish(tree.command("folder/link", &[]).spawn().unwrap(), "a link").is(0, &example("choose"), "a link");
@@ -441,17 +441,17 @@ fn names(tree: &Tree) {
 
 fn wrong_calls(tree: &Tree) {
     let wrong: [&[&str]; 20] = [
-        &[""], &["a", "b"], &["-", "-"], &["examples/printed.sheet", "--replay"], &["-x"], &["--"], &["--replay", ""],
+        &[""], &["a", "b"], &["-", "-"], &["examples/folder.sheet", "--replay"], &["-x"], &["--"], &["--replay", ""],
         &["--replay", "a", "b"], &["--replay", "--replay"], &["--csv"], &["--csv", ""], &["--csv", "--csv"], &["--csv", "-x"],
-        &["--csv", "a", "b"], &["examples/printed.csv", "--csv"], &["-", "--csv"], &["a.csv", "b.csv"], &["-x.csv"], &["--CSV", "-"],
-        &["--csv", "examples/printed.csv", "--replay"],
+        &["--csv", "a", "b"], &["examples/folder.csv", "--csv"], &["-", "--csv"], &["a.csv", "b.csv"], &["-x.csv"], &["--CSV", "-"],
+        &["--csv", "examples/folder.csv", "--replay"],
     ];
     for words in wrong {
         tree.call(words).is(2, "", &format!("{words:?}")).says("usage: ./run").says("run: ");
     }
     let no_releases: [&[&str]; 7] = [
-        &["--replay", "examples/printed.csv"], &["--replay", "none.CSV"], &["--replay", "--csv", "examples/printed.csv"],
-        &["--replay", "--csv", "-"], &["--replay", "--csv"], &["--csv", "--replay"], &["--csv", "--replay", "examples/printed.csv"],
+        &["--replay", "examples/folder.csv"], &["--replay", "none.CSV"], &["--replay", "--csv", "examples/folder.csv"],
+        &["--replay", "--csv", "-"], &["--replay", "--csv"], &["--csv", "--replay"], &["--csv", "--replay", "examples/folder.csv"],
     ];
     for words in no_releases {
         tree.call(words).is(2, "", &format!("{words:?}")).says("usage: ./run").says("run: a text has no releases");
@@ -564,36 +564,36 @@ fn freshness() {
 fn failures() {
     let tree = stub_tree("fails");
     tree.plan("status=1");
-    let said = tree.call(&["examples/printed.sheet"]);
+    let said = tree.call(&["examples/folder.sheet"]);
     said.is(3, "", "not proved").says("rt: answers NOT PROVED: the goal of line 7").says("ended with status 1");
     tree.plan("");
-    tree.call(&["examples/printed.sheet"]).is(0, &stored("printed.choose"), "proved after a failure");
+    tree.call(&["examples/folder.sheet"]).is(0, &stored("folder.choose"), "proved after a failure");
     tree.write("crates/model/specs/Gap.antt", "no gap\n");
     tree.plan("status=1");
-    tree.call(&["examples/printed.sheet"]).is(3, "", "not proved any more").says("NOT PROVED");
+    tree.call(&["examples/folder.sheet"]).is(3, "", "not proved any more").says("NOT PROVED");
     tree.plan("spoil=crates/model/specs/Gap.antt");
-    tree.call(&["examples/printed.sheet"]).is(3, "", "sources that change").says("the sources changed");
+    tree.call(&["examples/folder.sheet"]).is(3, "", "sources that change").says("the sources changed");
     tree.plan("silent=yes");
-    tree.call(&["examples/printed.sheet"]).is(3, "", "no program").says("cannot copy");
+    tree.call(&["examples/folder.sheet"]).is(3, "", "no program").says("cannot copy");
     tree.write("odd", "#!/bin/sh\necho task one\n");
     tree.plan("program=odd");
-    tree.call(&["examples/printed.sheet"]).is(3, "", "an odd program").says("no whole answer");
-    tree.call(&["examples/printed.csv"]).is(3, "", "an odd program").says("choose_csv printed no whole answer");
+    tree.call(&["examples/folder.sheet"]).is(3, "", "an odd program").says("no whole answer");
+    tree.call(&["examples/folder.csv"]).is(3, "", "an odd program").says("choose_csv printed no whole answer");
     tree.write("odd", "#!/bin/sh\necho task one\nkill -9 $$\n");
     tree.write("crates/model/specs/Gap.antt", "gap\n");
-    tree.call(&["examples/printed.sheet"]).is(3, "", "a program that is killed").says("ended with status 137");
-    tree.call(&["examples/printed.csv"]).is(3, "", "a program that is killed").says("choose_csv ended with status 137");
+    tree.call(&["examples/folder.sheet"]).is(3, "", "a program that is killed").says("ended with status 137");
+    tree.call(&["examples/folder.csv"]).is(3, "", "a program that is killed").says("choose_csv ended with status 137");
 
     let tree = stub_tree("none");
     let bare = Tree { root: tree.root.clone(), path: path_without_rt(&tree) };
-    bare.call(&["examples/printed.sheet"]).is(3, "", "no rt").says("rt, the command of the Rattle kit, is not on the path").says_lines(1);
+    bare.call(&["examples/folder.sheet"]).is(3, "", "no rt").says("rt, the command of the Rattle kit, is not on the path").says_lines(1);
     tree.write("target", "");
-    tree.call(&["examples/printed.sheet"]).is(3, "", "no place to write").says("cannot write").says_lines(1);
+    tree.call(&["examples/folder.sheet"]).is(3, "", "no place to write").says("cannot write").says_lines(1);
     tree.remove("target");
     if unsafe { geteuid() } != 0 {
         fs::create_dir(tree.root.join("target")).unwrap();
         fs::set_permissions(tree.root.join("target"), fs::Permissions::from_mode(0o555)).unwrap();
-        tree.call(&["examples/printed.sheet"]).is(3, "", "another user's folder").says("cannot write").says_lines(1);
+        tree.call(&["examples/folder.sheet"]).is(3, "", "another user's folder").says("cannot write").says_lines(1);
     }
 }
 
@@ -601,14 +601,14 @@ fn failures() {
 fn at_once() {
     let tree = stub_tree("at_once");
     tree.plan("wait=$(sed -n 2p order)");
-    let children: Vec<Child> = (0..4).map(|_| tree.command("run", &["examples/printed.sheet"]).spawn().unwrap()).collect();
+    let children: Vec<Child> = (0..4).map(|_| tree.command("run", &["examples/folder.sheet"]).spawn().unwrap()).collect();
     let start = Instant::now();
     while !tree.exists("waiting") && start.elapsed() < PATIENCE {
         std::thread::sleep(Duration::from_millis(2));
     }
     tree.write("go", "");
     for child in children {
-        finish(child, "one of four calls").is(0, &stored("printed.choose"), "four calls at once");
+        finish(child, "one of four calls").is(0, &stored("folder.choose"), "four calls at once");
     }
     assert_eq!(tree.calls(), 1, "four calls at once asked rt more than once");
 }
@@ -713,7 +713,7 @@ fn install() {
         assert_eq!(fs::read(direct.join(file)).unwrap(), fs::read(stage.join("opt").join(file)).unwrap(), "{file}");
     }
     for (program, input, output) in [
-        ("choose", "printed.sheet", "printed.choose"), ("replay", "printed.sheet", "printed.replay"), ("choose-csv", "printed.csv", "printed.choose"),
+        ("choose", "folder.sheet", "folder.choose"), ("replay", "folder.sheet", "folder.replay"), ("choose-csv", "folder.csv", "folder.choose"),
     ] {
         let mut c = Command::new(direct.join(format!("bin/nolkrada-{program}")));
         c.stdin(File::open(format!("examples/{input}")).unwrap()).stdout(Stdio::piped());

@@ -147,7 +147,7 @@ fn sheet(tasks: &[[u32; 4]]) -> Vec<Task> {
 
 /// One file for each refusal of a file, and the files at the limits.
 fn worked() -> Vec<(&'static str, Vec<u8>)> {
-    let tasks = sheet(&[[6, 5, 2, 6], [8, 7, 2, 8], [10, 0, 2, 10]]);
+    let tasks = sheet(&[[6, 5, 2, 6], [8, 7, 2, 8], [10, 0, 2, 11]]);
     let rel = |task, tick, cost| Release { task, tick, cost };
     let whole = encode(&tasks, &[rel(0, 0, 2), rel(2, 0, 2), rel(0, 1, 2)]);
     let many = encode(&vec![tasks[0]; 33], &[]);
@@ -163,7 +163,8 @@ fn worked() -> Vec<(&'static str, Vec<u8>)> {
         ("cost", encode(&tasks, &[rel(0, 5, 3)])),
         ("over 1,024 releases", encode(&tasks, &vec![rel(0, 0, 1); 1025])),
         ("no releases", encode(&tasks, &[])),
-        ("no kept jitter fits", encode(&sheet(&[[2, 1, 1, 1], [2, 999_990, 1, 1_000_000]]), &[])),
+        ("no kept jitter fits", encode(&sheet(&[[6, 5, 2, 6], [8, 7, 2, 8], [10, 0, 2, 10]]), &[])),
+        ("no kept jitter fits up to the horizon", encode(&sheet(&[[2000, 1, 1000, 1001], [2000, 1500, 1000, 1_000_000]]), &[])),
     ];
     let mut late_task = whole[..whole.len() - 1].to_vec();
     late_task.extend_from_slice(&whole[..17]);
@@ -182,7 +183,7 @@ fn worked() -> Vec<(&'static str, Vec<u8>)> {
 fn texts(r: &mut Random) -> usize {
     let mut n = 0;
     let mut all = Vec::new();
-    for text in [&b"6,5,2,6\n8,7,2,8\n10,0,2,10\n"[..], b"1000000,1000000,1,1000000\n7,0,1,7\n"] {
+    for text in [&b"6,5,2,6\n8,7,2,8\n10,0,2,11\n"[..], b"1000000,1000000,1,1000000\n7,0,1,7\n"] {
         all.extend(damaged_texts(text));
         all.extend(other_line_ends(text));
     }

@@ -99,39 +99,96 @@ fn worked_tasks(v: &mut Vectors) {
         let c = about(sheet, task, kept, 0);
         v.worked(&format!("verdict, {label}"), &verdict_blocks(&c), &verdict_answer(&c), line);
     };
-    // With K = J = 7, R(0) is W(0) and R(1) is W(1) − 1: 4 and 7.
-    add("sum 6, W(0)", &with_deadline(1, 3), 1, &[1, 7, 0], " late q 0 R 4");
-    add("sum 6, W(1)", &with_deadline(1, 6), 1, &[1, 7, 0], " late q 1 R 7");
-    add("sum 7, K 2", &s, 1, &[1, 2, 0], " late q 0 R 9");
-    add("sum 7, K 3", &s, 1, &[1, 3, 0], " fits R 8 q 0");
-    add("sum 8, W(0)", &with_deadline(1, 5), 1, &[5, 7, 0], " late q 0 R 6");
-    add("sum 8", &s, 1, &[5, 7, 0], " late q 1 R 9");
-    add("sum 9", &s, 2, &[1, 3, 0], " fits R 10 q 0");
-    add("sum 9, D 9", &with_deadline(2, 9), 2, &[1, 3, 0], " late q 0 R 10");
-    add("sum 10", &s, 2, &[5, 7, 0], " late q 0 R 16");
+    // With K = J = 7, R(0) is W(0) + 1 and R(1) is W(1): 5 and 8.
+    add("sum 6, W(0)", &with_deadline(1, 4), 1, &[1, 7, 0], " late q 0 R 5");
+    add("sum 6, W(1)", &with_deadline(1, 7), 1, &[1, 7, 0], " late q 1 R 8");
+    add("sum 7, K 2", &s, 1, &[1, 2, 0], " late q 0 R 10");
+    add("sum 7, K 3", &s, 1, &[1, 3, 0], " late q 0 R 9");
+    add("sum 7, K 4", &s, 1, &[1, 4, 0], " fits R 8 q 0");
+    add("sum 8, W(0)", &with_deadline(1, 6), 1, &[5, 7, 0], " late q 0 R 7");
+    add("sum 8", &s, 1, &[5, 7, 0], " late q 1 R 10");
+    add("sum 9", &s, 2, &[1, 3, 0], " late q 0 R 11");
+    add("sum 9, D 9", &with_deadline(2, 9), 2, &[1, 3, 0], " late q 0 R 11");
+    add("sum 9, D 11", &with_deadline(2, 11), 2, &[1, 3, 0], " fits R 11 q 0");
+    add("sum 10", &s, 2, &[5, 7, 0], " late q 0 R 17");
     let busy = sheet(&[(1, 0, 1, 1), (1, 0, 1, 1)]);
-    add("sum 11, task 0", &busy, 0, &[0, 0], " fits R 1 q 0");
+    add("sum 11, task 0", &busy, 0, &[0, 0], " late q 0 R 2");
     add("sum 11, task 1", &busy, 1, &[0, 0], " horizon q 0");
 }
 
-/// The printed choice, and choices that follow from the sums.
+/// R-2's figures on the printed sheet; R(q) at D and one over it; and the stop of the walk, which knows no pickup.
+fn picked_up_tasks(v: &mut Vectors) {
+    let mut add = |label: &str, sheet: &Sheet, task: u32, kept: &[u32], line: &str| {
+        let c = about(sheet, task, kept, 0);
+        v.worked(&format!("verdict, pickup, {label}"), &verdict_blocks(&c), &verdict_answer(&c), line);
+    };
+    let s = printed_sheet();
+    // W(0) is 2, R(0) is 2 + 1 + 5 − K.
+    add("task 0, K 1", &s, 0, &[1, 0, 0], " late q 0 R 7");
+    add("task 0, K 2", &s, 0, &[2, 0, 0], " fits R 6 q 0");
+    // W(0) is 4, R(0) is 4 + 1 + 7 − K.
+    add("task 1, K 3", &s, 1, &[2, 3, 0], " late q 0 R 9");
+    add("task 1, K 4", &s, 1, &[2, 4, 0], " fits R 8 q 0");
+    // W(0) is 10.
+    add("task 2", &s, 2, &[2, 4, 0], " late q 0 R 11");
+    add("task 2, D 11", &with_deadline(2, 11), 2, &[2, 4, 0], " fits R 11 q 0");
+    // W(0) is 3.
+    add("R(0) is D", &sheet(&[(10, 0, 3, 4)]), 0, &[0], " fits R 4 q 0");
+    add("R(0) is D + 1", &sheet(&[(10, 0, 3, 3)]), 0, &[0], " late q 0 R 4");
+    add("D 1", &sheet(&[(10, 0, 1, 1)]), 0, &[0], " late q 0 R 2");
+    add("D 2", &sheet(&[(10, 0, 1, 2)]), 0, &[0], " fits R 2 q 0");
+    // W is 2, 4. With K 7 R is 3, 4, and d_7 is 1, 9: W(0) is over d_7(1) by 1. With K 6 R(0) is 4, and W(0) is d_6(1).
+    add("R(1) is D", &sheet(&[(8, 7, 2, 4)]), 0, &[7], " fits R 4 q 1");
+    add("R(1) is D + 1", &sheet(&[(8, 7, 2, 3)]), 0, &[7], " late q 1 R 4");
+    add("W(0) is d(1) + 1", &sheet(&[(8, 7, 2, 8)]), 0, &[7], " fits R 4 q 1");
+    add("W(0) is d(1), K 6", &sheet(&[(8, 7, 2, 8)]), 0, &[6], " fits R 4 q 0");
+    // W(q) is d_0(q + 1) for every q: a walk that does not stop at q 0 goes up to the horizon.
+    add("W(0) is d(1), period 1", &sheet(&[(1, 0, 1, 2)]), 0, &[0], " fits R 2 q 0");
+    add("W(0) is d(1), period 5", &sheet(&[(5, 0, 5, 6)]), 0, &[0], " fits R 6 q 0");
+    add("W(0) is d(1), a task above", &sheet(&[(4, 0, 2, 4), (8, 0, 4, 9)]), 1, &[0, 0], " fits R 9 q 0");
+    // W is 7, 10, d_0 is 5, 10, R is 8, 6.
+    add("W(1) is d(2)", &sheet(&[(10, 0, 4, 10), (5, 0, 3, 8)]), 1, &[0, 0], " fits R 8 q 0");
+    add("W(1) is d(2), D one less", &sheet(&[(10, 0, 4, 10), (5, 0, 3, 7)]), 1, &[0, 0], " late q 0 R 8");
+    // W is 7, 10, d_5 is 3, 11, R is 8, 8.
+    add("R(0) is R(1)", &sheet(&[(100, 0, 4, 100), (8, 5, 3, 8)]), 1, &[0, 5], " fits R 8 q 0");
+    // W(0) is the horizon and J the largest.
+    let largest = sheet(&[(MILLION, 0, 999_999, MILLION), (MILLION, MILLION, 10, MILLION)]);
+    add("largest R", &largest, 1, &[0, 0], " late q 0 R 11000001");
+}
+
+/// The choice of the printed sheet, and choices that follow from the sums.
 fn worked_choices(v: &mut Vectors) {
     let mut add = |label: &str, sheet: &Sheet, line: &str| {
         let c = choosing(sheet);
         v.worked(&format!("choice, {label}"), &choice_blocks(&c), &choice_answer(&c), line);
     };
-    add("printed sheet", &printed_sheet(), " fine, 1 3 0 - -, 6 8 10 - -");
+    add("printed sheet", &printed_sheet(), " refused 15 at 2, - - - - -, - - - - -");
+    add("printed sheet, D 11", &folder_sheet(), " fine, 2 4 0 - -, 6 8 11 - -");
     add("printed sheet, D 9", &with_deadline(2, 9), " refused 15 at 2, - - - - -, - - - - -");
-    add("sum 11, one task", &sheet(&[(1, 0, 1, 1)]), " fine, 0 - -, 1 - -");
-    add("sum 11, two tasks", &sheet(&[(1, 0, 1, 1), (1, 0, 1, 1)]), " refused 15 at 1, - - - -, - - - -");
+    add("printed sheet, tasks 0 and 1", &sheet(&[(6, 5, 2, 6), (8, 7, 2, 8)]), " fine, 2 4 - -, 6 8 - -");
+    add("sum 11, one task", &sheet(&[(1, 0, 1, 1)]), " refused 15 at 0, - - -, - - -");
+    add("sum 11, two tasks", &sheet(&[(1, 0, 1, 1), (1, 0, 1, 1)]), " refused 15 at 0, - - - -, - - - -");
+    add("sum 11, one task, D 2", &sheet(&[(1, 0, 1, 2)]), " fine, 0 - -, 2 - -");
+    add("sum 11, two tasks, D 2", &sheet(&[(1, 0, 1, 2), (1, 0, 1, 2)]), " refused 15 at 1, - - - -, - - - -");
+    // R(0) is 3 + 1 + 4 − K.
+    add("pickup, K 2", &sheet(&[(10, 4, 3, 6)]), " fine, 2 - -, 6 - -");
+    add("pickup, K 0 and R is D", &sheet(&[(10, 4, 3, 8)]), " fine, 0 - -, 8 - -");
+    add("pickup, K is J", &sheet(&[(10, 4, 3, 4)]), " fine, 4 - -, 4 - -");
+    add("pickup, R over D at every K", &sheet(&[(10, 4, 3, 3)]), " refused 15 at 0, - - -, - - -");
+    // W is 2, 4. R(0) is 2 + 1 + 7 − K; with K 7 R(1) is 4 + 1 − 1. W(0) is d_6(1).
+    add("pickup, W(0) is d(1)", &sheet(&[(8, 7, 2, 4)]), " fine, 6 - -, 4 - -");
+    add("pickup, R(1) over D", &sheet(&[(8, 7, 2, 3)]), " refused 15 at 0, - - -, - - -");
+    // W is 2, 4. R(0) is 2 + 1 + 7 − K. With K 5 and more W(0) is over d_K(1), and R(1) is 4 + 1.
+    add("pickup, R(1) is D", &sheet(&[(6, 7, 2, 5)]), " fine, 5 - -, 5 - -");
+    add("pickup, R(1) is D + 1", &sheet(&[(6, 7, 2, 4)]), " refused 15 at 0, - - -, - - -");
 }
 
 /// Choices that the reference is too slow for, since it walks to the horizon for each of a million K.
 fn worked_by_hand_alone(v: &mut Vectors) {
-    // Task 0 keeps 1 (R(0) = 1 + 1 − K, D 1), so that for task 1 W(q) is 2q + 3. That is over d_K(q + 1) ≤ 2q + 2 for every K and q.
-    let c = choosing(&sheet(&[(2, 1, 1, 1), (2, 999_990, 1, MILLION)]));
+    // Task 0 keeps 1 (R(0) = 1 + 1 + 1 − K, D 2), so that for task 1 W(q) is 2q + 3. That is over d_K(q + 1) ≤ 2q + 2 for every K and q.
+    let c = choosing(&sheet(&[(2, 1, 1, 2), (2, 999_990, 1, MILLION)]));
     v.case("choice, no K fits up to the horizon", &choice_blocks(&c), " refused 15 at 1, - - - -, - - - -");
-    // W(q) is q + 1. At K 0 R(0) is 1,000,001; at any other K W(q) is over d_K(q + 1) for every q.
+    // W(q) is q + 1. At K 0 and 1 R(0) is over 1,000,000; at any other K W(q) is over d_K(q + 1) for every q.
     let c = choosing(&sheet(&[(1, MILLION, 1, MILLION)]));
     v.case("choice, period 1, largest jitter", &choice_blocks(&c), " refused 15 at 0, - - -, - - -");
 }
@@ -152,21 +209,31 @@ fn edges() -> Vec<(&'static str, Sheet)> {
         ("J over P", sheet(&[(10, 35, 3, 40), (20, 70, 3, 90), (50, 120, 10, 200)])),
         ("D over P", sheet(&[(10, 4, 4, 30), (14, 5, 5, 60), (25, 3, 5, 100)])),
         ("E is P", sheet(&[(5, 0, 5, 5)])),
+        ("E is P, D one more", sheet(&[(5, 0, 5, 6)])),
         ("E is P, D over P", sheet(&[(5, 3, 5, 20)])),
-        ("E is P, J over P", sheet(&[(5, 11, 5, 16)])),
+        ("E is P, J over P", sheet(&[(5, 11, 5, 17)])),
+        ("E is P, J over P, D one less", sheet(&[(5, 11, 5, 16)])),
         ("E is D", sheet(&[(9, 0, 4, 4), (20, 0, 5, 13)])),
         ("E is D, J 1", sheet(&[(9, 1, 4, 4), (20, 0, 5, 13)])),
-        ("whole processor", sheet(&[(4, 0, 2, 4), (8, 0, 2, 8), (16, 0, 4, 16)])),
-        ("whole processor and one more", sheet(&[(4, 0, 2, 4), (8, 0, 2, 8), (16, 0, 4, 16), (1000, 0, 1, 1000)])),
+        ("D is E + 1", sheet(&[(9, 0, 4, 5), (20, 0, 5, 14)])),
+        ("D is E + 1, J 1", sheet(&[(9, 1, 4, 5), (20, 0, 5, 14)])),
+        ("whole processor", sheet(&[(4, 0, 2, 4), (8, 0, 2, 8), (16, 0, 4, 17)])),
+        ("whole processor, D is P", sheet(&[(4, 0, 2, 4), (8, 0, 2, 8), (16, 0, 4, 16)])),
+        ("whole processor and one more", sheet(&[(4, 0, 2, 4), (8, 0, 2, 8), (16, 0, 4, 17), (1000, 0, 1, 1000)])),
         ("over the whole processor", sheet(&[(4, 0, 2, 4), (8, 0, 4, 16), (16, 0, 1, 64)])),
         ("least numbers", sheet(&[(1, 0, 1, 1)])),
+        ("least numbers that fit", sheet(&[(1, 0, 1, 2)])),
         ("period 1, J is D", sheet(&[(1, 60, 1, 60)])),
-        ("period 1, J below D", sheet(&[(1, 60, 1, 61)])),
+        ("period 1, D is J + 1", sheet(&[(1, 60, 1, 61)])),
+        ("period 1, D is J + 2", sheet(&[(1, 60, 1, 62)])),
         ("largest numbers", sheet(&[(MILLION, MILLION, MILLION, MILLION)])),
+        ("largest numbers, E one less", sheet(&[(MILLION, MILLION, 999_999, MILLION)])),
         ("largest numbers, J 0", sheet(&[(MILLION, 0, MILLION, MILLION)])),
+        ("largest numbers, J 0, E one less", sheet(&[(MILLION, 0, 999_999, MILLION)])),
         ("largest P, J and D, E 1", sheet(&[(MILLION, MILLION, 1, MILLION)])),
         ("D 1", sheet(&[(MILLION, MILLION, 1, 1)])),
-        ("no K is enough", sheet(&[(6, 5, 2, 2)])),
+        ("D 2", sheet(&[(MILLION, MILLION, 1, 2)])),
+        ("no K is enough", sheet(&[(6, 5, 2, 3)])),
     ]
 }
 
@@ -182,16 +249,18 @@ fn horizon(v: &mut Vectors) {
     let far = sheet(&[(MILLION, 0, 999_999, MILLION), (50, 9, 11, MILLION)]);
     add_verdict(v, "W(0) far over the horizon", &about(&far, 1, &[0, 0], 0));
     // W(q) = (q + 1)P + (99 − q), so that the stop is met at q 99 first, where W is the horizon.
-    let stop = sheet(&[(100_000, 101, 100, 100), (100_000, 0, 99_899, 200_000)]);
+    let stop = sheet(&[(100_000, 101, 100, 101), (100_000, 0, 99_899, 200_000)]);
     add_verdict(v, "fits with W(99) at the horizon", &about(&stop, 1, &[101, 0], 0));
     add_choice(v, "fits with W(99) at the horizon", &choosing(&stop));
-    let beyond = sheet(&[(100_000, 102, 101, 101), (100_000, 0, 99_898, 200_000)]);
+    let beyond = sheet(&[(100_000, 102, 101, 102), (100_000, 0, 99_898, 200_000)]);
     add_verdict(v, "W(99) one over the horizon", &about(&beyond, 1, &[102, 0], 0));
     add_choice(v, "W(99) one over the horizon", &choosing(&beyond));
-    let late_q = sheet(&[(2000, 1, 1000, 1001), (2000, 1500, 1000, MILLION)]);
+    let late_q = sheet(&[(2000, 1, 1000, 1002), (2000, 1500, 1000, MILLION)]);
     add_verdict(v, "horizon at a late q", &about(&late_q, 1, &[1, 1500], 0));
     add_verdict(v, "horizon at a late q, K 0", &about(&late_q, 1, &[1, 0], 0));
     add_choice(v, "horizon at a late q", &choosing(&late_q));
+    let kept = sheet(&[(2000, 1, 1000, 1001), (2000, 1500, 1000, MILLION)]);
+    add_choice(v, "horizon at a late q, K 1 above", &choosing(&kept));
 }
 
 /// 32 tasks that load a part of the processor.
@@ -248,7 +317,7 @@ fn small(v: &mut Vectors) {
 /// The refusals of a call about one task.
 fn task_refusals() -> Vec<(&'static str, TaskCall)> {
     let of = |change: fn(&mut TaskCall)| {
-        let mut c = about(&printed_sheet(), 1, &[1, 3, 0], 8);
+        let mut c = about(&printed_sheet(), 1, &[2, 4, 0], 8);
         change(&mut c);
         c
     };
@@ -293,7 +362,7 @@ fn task_refusals() -> Vec<(&'static str, TaskCall)> {
 /// The refusals of the choice.
 fn choice_refusals() -> Vec<(&'static str, ChoiceCall)> {
     let of = |change: fn(&mut ChoiceCall)| {
-        let mut c = choosing(&printed_sheet());
+        let mut c = choosing(&folder_sheet());
         change(&mut c);
         c
     };
@@ -316,17 +385,17 @@ fn choice_refusals() -> Vec<(&'static str, ChoiceCall)> {
             c.kept.clear();
         })),
         ("13 before 15", of(|c| {
-            c.sheet.tasks[0].d = 2;
+            c.sheet.tasks[0].d = 3;
             c.worst.truncate(1);
         })),
-        ("no K fits task 0", of(|c| c.sheet.tasks[0].d = 2)),
-        ("no K fits task 1", of(|c| c.sheet.tasks[1].d = 3)),
+        ("no K fits task 0", of(|c| c.sheet.tasks[0].d = 3)),
+        ("no K fits task 1", of(|c| c.sheet.tasks[1].d = 4)),
         ("slots hold numbers, accepted", of(|c| {
             c.kept = vec![11, 22, 33, 44];
             c.worst = vec![55, 66, 77, 88];
         })),
         ("slots hold numbers, 15", of(|c| {
-            c.sheet.tasks[2].d = 9;
+            c.sheet.tasks[2].d = 10;
             c.kept = vec![11, 22, 33, 44];
             c.worst = vec![55, 66, 77, 88];
         })),
@@ -337,6 +406,7 @@ fn choice_refusals() -> Vec<(&'static str, ChoiceCall)> {
 pub fn vectors() -> Vectors {
     let mut v = Vectors::new();
     worked_tasks(&mut v);
+    picked_up_tasks(&mut v);
     worked_choices(&mut v);
     worked_by_hand_alone(&mut v);
     arrivals(&mut v);

@@ -26,7 +26,7 @@ impl Vectors {
         self.stdout += &format!("{label}:{answer}\n");
     }
 
-    /// Adds a case of document 01 with the line worked out by hand, which the reference has to give too.
+    /// Adds a case of documents 01 and 02 with the line worked out by hand, which the reference has to give too.
     pub fn worked(&mut self, label: &str, blocks: &[Vec<u8>], answer: &str, by_hand: &str) {
         assert_eq!(answer, by_hand, "{label}");
         self.case(label, blocks, by_hand);
@@ -87,13 +87,18 @@ pub fn list(releases: &[(u32, u32, u32)]) -> Vec<Release> {
     releases.iter().map(|&(task, tick, cost)| Release { task, tick, cost }).collect()
 }
 
-/// The sheet and the releases printed in document 01.
+/// The sheet and the releases printed in document 01. No K fits task 2 of the sheet.
 pub fn printed_sheet() -> Sheet {
     sheet(&[(6, 5, 2, 6), (8, 7, 2, 8), (10, 0, 2, 10)])
 }
 
 pub fn printed_list() -> Vec<Release> {
     list(&[(0, 0, 2), (2, 0, 2), (0, 1, 2)])
+}
+
+/// The printed sheet with the deadline at which it fits.
+pub fn folder_sheet() -> Sheet {
+    sheet(&[(6, 5, 2, 6), (8, 7, 2, 8), (10, 0, 2, 11)])
 }
 
 /// Numbers that look random, the same at each run.

@@ -1,6 +1,6 @@
 //! Writes the stored vectors: for each program its standard input, and the output that it has to write. The answers come from
 //! tests/outside/reference.rs, an implementation of documents 01 and 02 that shares no code with the library; the worked cases of
-//! document 01 and of texts are written out by hand besides.
+//! both documents are written out by hand besides.
 //!
 //! Usage: generate FOLDER. Files: FOLDER/NAME/stdin and FOLDER/NAME/stdout.
 

@@ -21,14 +21,51 @@ fn blocks(c: &ListCall) -> Vec<Vec<u8>> {
     all
 }
 
-/// The printed example and sum 12.
+/// The printed example, with the kept jitters that document 01 prints and with D 11, and sum 12.
 fn worked(v: &mut Vectors) {
     let mut add = |label: &str, c: &ListCall, line: &str| v.worked(label, &blocks(c), &answer(c), line);
     let printed = ListCall::of(&printed_sheet(), &[1, 3, 0], &printed_list());
-    add("printed example", &printed, " fine, 0 0 5 - -, 2 4 7 - -");
+    add("printed example", &printed, " fine, 0 0 5 - -, 3 5 8 - -");
+    let folder = ListCall::of(&folder_sheet(), &[2, 4, 0], &printed_list());
+    add("printed example, D 11", &folder, " fine, 0 0 4 - -, 3 5 7 - -");
     add("sum 12, no release", &ListCall::of(&printed_sheet(), &[1, 3, 0], &[]), " fine, - -, - -");
-    let one = ListCall::of(&sheet(&[(6, 1, 1, 6)]), &[1], &list(&[(0, 3, 1)]));
-    add("sum 12, one release", &one, " fine, 3 - -, 4 - -");
+    let one = |c: u32| ListCall::of(&sheet(&[(6, 1, 4, 6)]), &[1], &list(&[(0, 3, c)]));
+    add("sum 12, one release", &one(1), " fine, 3 - -, 5 - -");
+    add("sum 12, one release of cost 4", &one(4), " fine, 3 - -, 8 - -");
+}
+
+/// A job may run from the tick after its ready tick. The kept jitters let three jobs of a task be ready at once, so that ready is
+/// release.
+fn picked_up(v: &mut Vectors) {
+    let three = sheet(&[(50, 200, 20, 50), (60, 200, 20, 90), (70, 200, 20, 99)]);
+    let mut add = |label: &str, releases: &[(u32, u32, u32)], line: &str| {
+        let c = ListCall::of(&three, &[200, 200, 200], &list(releases));
+        v.worked(&format!("pickup, {label}"), &blocks(&c), &answer(&c), line);
+    };
+    add("nothing runs in tick 0", &[(0, 0, 1)], " fine, 0 - -, 2 - -");
+    // One after the other without an idle tick: ticks 1 and 2, 3 and 4, 5 and 6.
+    add("three tasks at tick 0", &[(2, 0, 2), (1, 0, 2), (0, 0, 2)], " fine, 0 0 0 - -, 7 5 3 - -");
+    add("three jobs of a task at tick 0", &[(1, 0, 2), (1, 0, 2), (1, 0, 2)], " fine, 0 0 0 - -, 3 5 7 - -");
+    // Task 2 runs in tick 1, task 0 in ticks 2 and 3, task 2 in ticks 4 and 5.
+    add("ready in the tick in which a lower one starts", &[(2, 0, 3), (0, 1, 2)], " fine, 0 1 - -, 6 4 - -");
+    // Task 2 runs in ticks 1 and 2, task 0 in ticks 3 and 4, task 2 in tick 5.
+    add("ready while a lower one runs", &[(2, 0, 3), (0, 2, 2)], " fine, 0 2 - -, 6 5 - -");
+    // Task 2 runs in ticks 1 to 3, and is not preempted any more.
+    add("ready in the last tick of a lower one", &[(2, 0, 3), (0, 3, 2)], " fine, 0 3 - -, 4 6 - -");
+    // Tick 4 is idle.
+    add("ready at the finish of a lower one", &[(2, 0, 3), (0, 4, 2)], " fine, 0 4 - -, 4 7 - -");
+    add("ready in the last tick of a higher one", &[(0, 0, 3), (2, 3, 2)], " fine, 0 3 - -, 4 6 - -");
+    add("ready at the finish of a higher one", &[(0, 0, 3), (2, 4, 2)], " fine, 0 4 - -, 4 7 - -");
+    add("ready in the last tick of the job before", &[(1, 0, 3), (1, 3, 2)], " fine, 0 3 - -, 4 6 - -");
+    add("ready at the finish of the job before", &[(1, 0, 3), (1, 4, 2)], " fine, 0 4 - -, 4 7 - -");
+    // Task 1 runs in ticks 1, 4 and 7, each time between two jobs of task 0.
+    add("between two higher ones", &[(1, 0, 3), (0, 1, 2), (0, 4, 2)], " fine, 0 1 4 - -, 8 4 7 - -");
+    // Task 1 may run from tick 6, task 0 from tick 7.
+    add("a higher one a tick later", &[(1, 5, 2), (0, 6, 2)], " fine, 5 6 - -, 10 9 - -");
+    add("a higher one in the same tick", &[(1, 5, 2), (0, 5, 2)], " fine, 5 5 - -, 10 8 - -");
+    // Held: with K 0 the second job of task 0 is ready at 50, where task 2 has run in tick 50 alone.
+    let held = ListCall::of(&three, &[0, 0, 0], &list(&[(0, 0, 5), (0, 1, 5), (2, 49, 3)]));
+    v.worked("pickup, held", &blocks(&held), &answer(&held), " fine, 0 50 49 - -, 6 56 58 - -");
 }
 
 /// Runs of a few jobs.
@@ -40,7 +77,8 @@ fn short() -> Vec<(&'static str, ListCall)> {
     vec![
         ("chain of preemptions", of(&[(4, 0, 9), (3, 1, 9), (2, 2, 9), (1, 3, 9), (0, 4, 9)])),
         ("chain, each over before the next", of(&[(4, 0, 1), (3, 1, 1), (2, 2, 1), (1, 3, 1), (0, 4, 1)])),
-        ("chain, each finished as the next gets ready", of(&[(0, 0, 5), (1, 5, 5), (2, 10, 5), (3, 15, 5), (4, 20, 5)])),
+        ("chain, each finished as the next gets ready", of(&[(0, 0, 5), (1, 6, 5), (2, 12, 5), (3, 18, 5), (4, 24, 5)])),
+        ("chain, each finished as the next may run", of(&[(0, 0, 5), (1, 5, 5), (2, 10, 5), (3, 15, 5), (4, 20, 5)])),
         ("equal ticks, lowest priority first in the list", of(&[(4, 7, 3), (3, 7, 3), (2, 7, 3), (1, 7, 3), (0, 7, 3)])),
         ("equal ticks, highest priority first in the list", of(&[(0, 7, 3), (1, 7, 3), (2, 7, 3), (3, 7, 3), (4, 7, 3)])),
         ("preempted again and again", of(&[(4, 0, 20), (0, 3, 2), (1, 6, 2), (0, 53, 2), (2, 54, 20), (3, 55, 20), (0, 103, 20)])),
@@ -95,6 +133,7 @@ fn finish_refusals() -> Vec<(&'static str, ListCall)> {
 pub fn vectors() -> Vectors {
     let mut v = Vectors::new();
     worked(&mut v);
+    picked_up(&mut v);
     for (label, c) in short().iter().chain(&long()) {
         if c.tick.iter().all(|&t| t < 100_000) {
             let all: Vec<Release> =

@@ -60,6 +60,8 @@ fn worked(v: &mut Vectors) {
     both("sum 12, one release", &single(6, 1, 1, &[3]), " fine, 3 - -", " legal");
     let printed = ListCall::of(&printed_sheet(), &[1, 3, 0], &printed_list());
     both("printed example", &printed, " fine, 0 0 5 - -", " legal");
+    let folder = ListCall::of(&folder_sheet(), &[2, 4, 0], &printed_list());
+    both("printed example, D 11", &folder, " fine, 0 0 4 - -", " legal");
 }
 
 /// Bursts and gaps of one task and of several.
