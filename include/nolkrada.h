@@ -29,6 +29,11 @@
  *   n releases, at most 1024, in three arrays of at least n slots each, each with its own length: task (its number), tick
  *   (0 to 1000000000, never falling along the list) and cost (1 to the task's E).
  *
+ * PROCESSOR
+ *   In each tick the highest-priority task's oldest job runs, of the jobs that were ready before that tick and are unfinished: the
+ *   kernel looks at the ready list at tick ends only, so a job may run from the tick after its ready tick (NOLKRADA_PICKUP).
+ *   Verdicts, choices and runs are about that processor. R(q) = W(q) + 1 + max(x - K, min(0, x)) with x = J - q * P.
+ *
  * TEXT
  *   A sheet as text: a line P,J,E,D for each task, task 0 first, in decimal digits without signs, blanks or leading zeros (0 itself
  *   is allowed), each line, the last one too, ended by a line feed (byte 10; a carriage return before it is not allowed).
@@ -71,14 +76,16 @@ extern "C" {
 
 /* The version of this interface. The archive has no symbol for it: take header and archive of one build. */
 #define NOLKRADA_VERSION_MAJOR 0
-#define NOLKRADA_VERSION_MINOR 2
+#define NOLKRADA_VERSION_MINOR 3
 #define NOLKRADA_VERSION_PATCH 0
-#define NOLKRADA_VERSION "0.2.0"
+#define NOLKRADA_VERSION "0.3.0"
 
 /* Tasks of a sheet, numbers of a sheet that is read or loaded (P, J, E, D of 32 tasks), releases of a list. */
 #define NOLKRADA_MAX_TASKS 32
 #define NOLKRADA_SHEET_NUMBERS 128
 #define NOLKRADA_MAX_RELEASES 1024
+/* Ticks from a job's ready tick to the first in which it may run. */
+#define NOLKRADA_PICKUP 1
 /* Bytes of the largest file: 17 for each task, 10 for each release, 1 for the end. nolkrada_write writes no more. */
 #define NOLKRADA_MAX_FILE 10785
 /* Bytes that decide a read: none past these changes what it answers. Make a buffer that is filled from an input this long: one of
@@ -146,7 +153,8 @@ uint64_t nolkrada_ready(const uint32_t *sheet, size_t sheet_length, uint32_t cou
                         uint32_t n, const uint32_t *task, size_t task_length, const uint32_t *tick, size_t tick_length,
                         const uint32_t *cost, size_t cost_length, uint32_t *ready, size_t ready_length);
 
-/* Run: ready and finish tick of each job, from tick 0 with no earlier job. Response is finish - tick.
+/* Run: ready and finish tick of each job, from tick 0 with no earlier job. Finish is the last tick in which the job ran, plus 1;
+ * response is finish - tick. No finish is over 2024000001.
  * ready, finish: n slots each, written.                                                   Refuses 5 4 6 10 13 12 7 8 9. */
 uint64_t nolkrada_run(const uint32_t *sheet, size_t sheet_length, uint32_t count, const uint32_t *kept, size_t kept_length,
                       uint32_t n, const uint32_t *task, size_t task_length, const uint32_t *tick, size_t tick_length,
