@@ -260,10 +260,11 @@ pub fn run(tasks: &[Task], kept: &[u32], n: usize, list: Columns, ready: &mut [u
         head[i] = next_of(list.task, n, i as u32, 0);
     }
     let wake_of = |p: usize, ready: &[u32]| if p < n { ready[p] as u64 + PICKUP } else { u64::MAX };
+    let may_run = |p: usize, ready: &[u32], t: u64| p < n && ready[p] as u64 + PICKUP <= t;
     let (mut t, mut wake) = (0u64, 0u64);
     loop {
         if t >= wake {
-            match (0..tasks.len()).find(|&i| wake_of(head[i], ready) <= t) {
+            match (0..tasks.len()).find(|&i| may_run(head[i], ready, t)) {
                 None => {
                     wake = (0..tasks.len()).map(|i| wake_of(head[i], ready)).min().unwrap_or(u64::MAX);
                     if wake == u64::MAX {

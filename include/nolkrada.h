@@ -8,8 +8,8 @@
  *
  * Every call ends, but not always soon. A verdict or a choice takes microseconds on most sheets; where the tasks load the processor
  * whole or a little more, it may walk over millions of q: with 31 tasks (62,0,1,1000000) above (2,1,1,1000000), kept at 1, the
- * verdict of the lowest takes seconds. A run goes tick by tick: 0.4 s for one release at tick 1000000000. docs/BENCHMARK.md has
- * the figures.
+ * verdict of the lowest takes seconds. A run goes tick by tick: some 0.4 s for one release at tick 1000000000.
+ * docs/BENCHMARK.md has the figures.
  *
  * WHAT A CALL RETURNS
  *   0 where it answered. Otherwise a refusal, number * 2^32 + place; nolkrada_number and nolkrada_place take it apart.

@@ -136,7 +136,7 @@ pub fn check() -> usize {
     );
     // tasks 0 and 1 of the printed sheet alone
     assert_eq!(choice_for(&Sheet::of(&s.tasks[..2])), Ok((vec![2, 4], vec![6, 8])));
-    // the stop of the walk knows no pickup: W(0) = d_0(1) = 1, and W(0) = 2 over d_7(1) = 1
+    // the stop of the walk has no pickup: W(0) = d_0(1) = 1, and W(0) = 2 over d_7(1) = 1
     assert_eq!(verdict_for(&Sheet::of(&[task(1, 0, 1, 2)]), &[0], 0), Verdict::Fits { r: 2, q: 0 });
     assert_eq!(verdict_for(&Sheet::of(&[task(8, 7, 2, 8)]), &[7], 0), Verdict::Fits { r: 4, q: 1 });
     // each finish is one tick later than in a run that lets a job run in its ready tick

@@ -116,7 +116,7 @@ fn worked_tasks(v: &mut Vectors) {
     add("sum 11, task 1", &busy, 1, &[0, 0], " horizon q 0");
 }
 
-/// R-2's figures on the printed sheet; R(q) at D and one over it; and the stop of the walk, which knows no pickup.
+/// R-2's figures on the printed sheet; R(q) at D and one over it; and the stop of the walk, which has no pickup.
 fn picked_up_tasks(v: &mut Vectors) {
     let mut add = |label: &str, sheet: &Sheet, task: u32, kept: &[u32], line: &str| {
         let c = about(sheet, task, kept, 0);

@@ -58,7 +58,7 @@ fn picked_up(v: &mut Vectors) {
     add("ready at the finish of a higher one", &[(0, 0, 3), (2, 4, 2)], " fine, 0 4 - -, 4 7 - -");
     add("ready in the last tick of the job before", &[(1, 0, 3), (1, 3, 2)], " fine, 0 3 - -, 4 6 - -");
     add("ready at the finish of the job before", &[(1, 0, 3), (1, 4, 2)], " fine, 0 4 - -, 4 7 - -");
-    // Task 1 runs in ticks 1, 4 and 7, each time between two jobs of task 0.
+    // Task 1 runs in ticks 1, 4 and 7: before, between and after the two jobs of task 0.
     add("between two higher ones", &[(1, 0, 3), (0, 1, 2), (0, 4, 2)], " fine, 0 1 4 - -, 8 4 7 - -");
     // Task 1 may run from tick 6, task 0 from tick 7.
     add("a higher one a tick later", &[(1, 5, 2), (0, 6, 2)], " fine, 5 6 - -, 10 9 - -");
@@ -76,7 +76,7 @@ fn short() -> Vec<(&'static str, ListCall)> {
     let single = |p, k, releases: &[(u32, u32, u32)]| ListCall::of(&sheet(&[(p, k, p.min(4), 100)]), &[k], &list(releases));
     vec![
         ("chain of preemptions", of(&[(4, 0, 9), (3, 1, 9), (2, 2, 9), (1, 3, 9), (0, 4, 9)])),
-        ("chain, each over before the next", of(&[(4, 0, 1), (3, 1, 1), (2, 2, 1), (1, 3, 1), (0, 4, 1)])),
+        ("chain, each over before the next", of(&[(4, 0, 1), (3, 2, 1), (2, 4, 1), (1, 6, 1), (0, 8, 1)])),
         ("chain, each finished as the next gets ready", of(&[(0, 0, 5), (1, 6, 5), (2, 12, 5), (3, 18, 5), (4, 24, 5)])),
         ("chain, each finished as the next may run", of(&[(0, 0, 5), (1, 5, 5), (2, 10, 5), (3, 15, 5), (4, 20, 5)])),
         ("equal ticks, lowest priority first in the list", of(&[(4, 7, 3), (3, 7, 3), (2, 7, 3), (1, 7, 3), (0, 7, 3)])),

@@ -1,4 +1,4 @@
--- Laws of the definitions: searches, sums and tables, checks and their order, traces; the twelve sums proved. From the ground up.
+-- Laws of the definitions: searches, sums and tables, checks and their order, traces; the sums and figures of the documents proved. From the ground up.
 pub mod SearchLaws
 pub mod CheckLaws
 pub mod OrderLaws

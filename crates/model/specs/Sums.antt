@@ -86,7 +86,7 @@ abbrev pub printedReleases : List Release
 printedReleases = record { task = 0; tick = 0; cost = 2 } ∷ record { task = 2; tick = 0; cost = 2 } ∷ record { task = 0; tick = 1; cost = 2 } ∷ []
 
 -- the sums, in document 01's order, 7 to 12 with the pickup of document 02's R-2; then R-2's own figures: the choice on the printed sheet, which ends in 15 at task 2,
--- of its tasks 0 and 1 alone and with D 11, the run with D 11, and the stop of the walk, which knows no pickup: W(0) = d_K(1), W(0) = d_K(1) + 1
+-- of its tasks 0 and 1 alone and with D 11, the run with D 11, and the stop of the walk, which has no pickup: W(0) = d_K(1), W(0) = d_K(1) + 1
 abbrev pub pad : List (List Row)
 pad =
     (counts 6 5 (0 ∷ 1 ∷ 2 ∷ 7 ∷ 8 ∷ []) (0 ∷ 1 ∷ 2 ∷ 2 ∷ 3 ∷ []) ∷ [])

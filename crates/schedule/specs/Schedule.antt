@@ -1,14 +1,14 @@
 -- What the functions of the run answer, over columns of 32-bit numbers.
-use Prim.Native.Nat.{ℕ, zero, suc, _-_, _≤_, _<_, min}
+use Prim.Native.Nat.{ℕ, zero, suc, _+_, _-_, _*_, _≤_, _<_, min}
 use mathlib.Core.Path.{_≡_}
 use mathlib.Core.Bool.{Bool, true, cond}
 use mathlib.Core.Option.{Option, some, none}
 use mathlib.Core.List.{List}
 use lib.ListN.{length, getD}
 use lib.Dec.{leb, ltb, eqb}
-use Rattle.model.specs.Limits.{maxTasks, maxReleases}
+use Rattle.model.specs.Limits.{maxTasks, maxTime, maxReleases, maxTick}
 use Rattle.model.specs.Search.{first}
-use Rattle.model.specs.Processor.{plain}
+use Rattle.model.specs.Processor.{pickup, plain}
 use Rattle.model.specs.Run.{Jobs, finishOf}
 
 -- the jobs of n releases, given in columns with their ready ticks
@@ -21,9 +21,10 @@ jobsOf n task cost ready = record {
   ours = λ t. true;
 }
 
--- the largest finish tick of a list that passes the checks of a run: the largest release tick, the pickup, and 1,000,000 ticks for each of 1,024 releases
+-- the largest finish tick of a list that passes the checks of a run: the largest release tick, the pickup, and 1,000,000 ticks for each of
+-- 1,024 releases: 2,024,000,001
 abbrev pub maxFinish : ℕ
-maxFinish = 2024000001
+maxFinish = maxTick + pickup + maxTime * maxReleases
 
 -- the first of from, .., n - 1 at which the test holds, and n where there is none
 unfoldable pub orElse : ℕ → Option ℕ → ℕ

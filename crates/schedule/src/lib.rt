@@ -5,6 +5,7 @@ use taskset::TaskSet;
 ghost use mathlib.Core.Path.{_≡_};
 ghost use mathlib.Core.List.{_++_};
 ghost use Prim.Native.Nat.{_≤_, min};
+ghost use lib.Dec.{leb};
 ghost use lib.ListN.{length, getD, drop};
 ghost use Rattle.model.specs.Series.{table};
 ghost use Rattle.model.specs.Processor.{plain};
@@ -59,6 +60,17 @@ fn wake_of(ready: &[u32], n: usize, p: usize) -> u64
     NEVER
 }
 
+// Whether the job at p may run in tick t: wake_of(ready, n, p) <= t. Written out, the test needs no sum.
+fn may_run(ready: &[u32], n: usize, p: usize, t: u64) -> bool
+    requires { ⌜ n ≤ length (now ready) ⌝ }
+    ensures { λ r. ⌜ r ≡ leb (wakeOf (now (ready .entry)) n p) t ⌝ }
+{
+    if p < n {
+        return start_of(ready[p]) <= t;
+    }
+    NEVER <= t
+}
+
 // The highest-priority task whose oldest unfinished job may run in tick t; tasks where there is none.
 fn top_ready(head: &[usize; 32], ready: &[u32], n: usize, tasks: usize, t: u64) -> usize
     requires { ⌜ (tasks ≤ 32) × (n ≤ length (now ready)) ⌝ }
@@ -66,7 +78,7 @@ fn top_ready(head: &[usize; 32], ready: &[u32], n: usize, tasks: usize, t: u64) 
 {
     let mut i = 0;
     while i < tasks {
-        if wake_of(ready, n, head[i]) <= t {
+        if may_run(ready, n, head[i], t) {
             return i;
         }
         i += 1;

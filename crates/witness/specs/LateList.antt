@@ -11,7 +11,7 @@ use Rattle.processor.specs.ProcessorDemand.{Regular}
 use Rattle.processor.specs.ProcessorClaims.{LateOn, MissedOn}
 use Rattle.witness.specs.Scenario.{scenario}
 
--- the own jobs before the window, x being J − qP: none where x ≤ K, for then the first own job is ready as the window begins;
+-- the own jobs before the window, x being J − qP: none where x ≤ K, for then the first own job may run as the window begins;
 -- else so many that the release of the last one is held back by x − K
 unfoldable pub leadOf : ℕ → ℕ → ℕ → ℕ → ℕ
 leadOf P J K q = elim (leb J (q * P + K)) [ true ↦ 0 | false ↦ suc (J / P) ]

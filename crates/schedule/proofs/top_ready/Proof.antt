@@ -1,7 +1,7 @@
 -- The loop has passed every task whose oldest unfinished job may not run yet.
 use Prim.Native.Nat.{_-_}
+use mathlib.Core.Path.{sym, _∙_}
 use borrow.Author.Needs.{needs}
-use borrow.Author.Tests.{le-leb, lt-leb}
 use native.Mathlib.Omega.{arith}
 use lib.ListN.{getD}
 use lib.Dec.{leb}
@@ -19,19 +19,19 @@ abbrev μ-loop : tie.MeasureT-loop
 loop-holds : tie.Need-loop-holds Inv-loop μ-loop
 loop-holds c = passed-none _ _ _ (omega arith)
 
-mul-wake-of : tie.Need-mul-wake-of Inv-loop μ-loop
-mul-wake-of c = omega arith
+mul-may-run : tie.Need-mul-may-run Inv-loop μ-loop
+mul-may-run c = omega arith
 
-element-copy-out-wake-of : tie.Need-element-copy-out-wake-of Inv-loop μ-loop
-element-copy-out-wake-of c = omega arith
+element-copy-out-may-run : tie.Need-element-copy-out-may-run Inv-loop μ-loop
+element-copy-out-may-run c = omega arith
 
-wake-of-requires : tie.Need-wake-of-requires Inv-loop μ-loop
-wake-of-requires c κs = search needs
+may-run-requires : tie.Need-may-run-requires Inv-loop μ-loop
+may-run-requires c κs = search needs
 
 returns : tie.Need-returns Inv-loop μ-loop
 returns c =
     passed-here _ _ _ _ (c .before .before .before .before .loop .inv) (c .before .before .before .loop-test .taken)
-    (rw (← c .before .wake-of .ensures) (le-leb _ _ (c .if1 .taken)))
+    (sym (c .before .may-run .ensures) ∙ c .if1 .taken)
 
 add-i : tie.Need-add-i Inv-loop μ-loop
 add-i c = omega arith
@@ -42,7 +42,7 @@ loop-less c = omega arith
 loop-again : tie.Need-loop-again Inv-loop μ-loop
 loop-again c =
     passed-next _ _ _ _ (c .before .before .before .before .loop .inv) (c .before .before .before .loop-test .taken)
-    (rw (← c .before .wake-of .ensures) (lt-leb _ _ (c .if1 .left)))
+    (sym (c .before .may-run .ensures) ∙ c .if1 .left)
 
 returns-2 : tie.Need-returns-2 Inv-loop μ-loop
 returns-2 c = passed-all _ _ _ _ (c .before .loop .inv) (c .loop-test .left)
@@ -54,9 +54,9 @@ top-ready-spec =
     Inv-loop
     μ-loop
     loop-holds
-    mul-wake-of
-    element-copy-out-wake-of
-    wake-of-requires
+    mul-may-run
+    element-copy-out-may-run
+    may-run-requires
     returns
     add-i
     loop-less
