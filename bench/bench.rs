@@ -1,5 +1,5 @@
 //! Times the archive against the same methods in plain Rust and against the reference implementation, and shows how the cost
-//! grows with tasks and releases. All three are optimised and called in turn. Each figure is the median of several
+//! grows with tasks, releases and ticks. All three are optimised and called in turn. Each figure is the median of several
 //! repetitions, in processor time of the thread, so that other work on the machine counts little.
 
 #[path = "../tests/outside/generator.rs"]
@@ -155,6 +155,13 @@ fn late_list() -> List {
     list
 }
 
+/// Two releases, at tick 0 and at this one.
+fn two_releases(tick: u32) -> List {
+    let mut list = list_of(2);
+    list.tick = vec![0, tick];
+    list
+}
+
 impl List {
     fn n(&self) -> u32 {
         self.task.len() as u32
@@ -271,6 +278,28 @@ fn time_run(l: &List) -> Vec<f64> {
     ])
 }
 
+fn time_jump(l: &List) -> Vec<f64> {
+    let numbers = numbers_of(&l.sheet);
+    let (mut a, mut b, mut c, mut d) = (vec![0u32; 1024], vec![0u32; 1024], vec![0u32; 1024], vec![0u32; 1024]);
+    let mut answer = [0u64; 1];
+    assert_eq!(library::jump(&numbers, 32, &l.kept, l.n(), l.library(), &mut a, &mut b, &mut answer), 0);
+    assert_eq!(same_method::jump(&l.sheet.tasks, &l.kept, l.n() as usize, l.same(), &mut c, &mut d).unwrap(), answer[0]);
+    assert_eq!((&a, &b), (&c, &d));
+    medians(&mut [
+        &mut || {
+            let lent = (black_box(&mut a), black_box(&mut b), black_box(&mut answer));
+            black_box(library::jump(black_box(&numbers), 32, &l.kept, l.n(), l.library(), lent.0, lent.1, lent.2));
+        },
+        &mut || {
+            let (n, lent) = (l.n() as usize, (black_box(&mut c), black_box(&mut d)));
+            black_box(same_method::jump(black_box(&l.sheet.tasks), &l.kept, n, l.same(), lent.0, lent.1).is_ok());
+        },
+        &mut || {
+            black_box(reference::jump(black_box(&l.sheet), &l.kept, l.n() as usize, &l.reference(), 1024, 1024).is_ok());
+        },
+    ])
+}
+
 fn time_read(l: &List) -> Vec<f64> {
     let file = reference::write(&l.sheet, l.n() as usize, &l.reference(), 1 << 20).unwrap();
     let (mut sheet, mut answer) = ([0u32; 128], [0u64; 2]);
@@ -366,7 +395,9 @@ fn full_size() {
     let list = list_of(1024);
     line("ready ticks of 1,024 releases", &time_ready(&list));
     line("run of 1,024 releases", &time_run(&list));
+    line("jumping run of 1,024 releases", &time_jump(&list));
     line("run of one release at tick 1,000,000,000", &time_run(&late_list()));
+    line("jumping run of two releases, at 0 and 1,000,000,000", &time_jump(&two_releases(reference::MAX_TICK)));
     line("read of 10,785 bytes", &time_read(&list));
     line("write of 10,785 bytes", &time_write(&list));
     line("load of a text of 1,024 bytes", &time_load(&longest_text()));
@@ -388,8 +419,15 @@ fn growth() {
         line(&format!("trace check of {}", n), &time_trace(&legal_list_of(n)));
         line(&format!("ready ticks of {}", n), &time_ready(&list));
         line(&format!("run of {}", n), &time_run(&list));
+        line(&format!("jumping run of {}", n), &time_jump(&list));
         line(&format!("read of {}", n), &time_read(&list));
         line(&format!("write of {}", n), &time_write(&list));
+    }
+    head("Two releases, the first at 0");
+    for tick in [1_000, 1_000_000, reference::MAX_TICK] {
+        let list = two_releases(tick);
+        line(&format!("run to the second at {}", tick), &time_run(&list));
+        line(&format!("jumping run to the second at {}", tick), &time_jump(&list));
     }
 }
 

@@ -1,6 +1,6 @@
 //! The calls in plain Rust with the methods of the library: the rising search for W(q), one walk over q for the choice, a
-//! shaper of two numbers for each task, a run tick by tick with one queue for each task, a reader in two passes, a writer in one,
-//! a loader that looks once at each byte.
+//! shaper of two numbers for each task, a run tick by tick with one queue for each task, a run from one start or finish to the
+//! next, a reader in two passes, a writer in one, a loader that looks once at each byte.
 //! Each makes the checks of its call. Used as the measure of the archive's speed.
 
 use crate::reference::{number_at, record_at, task_at, Refusal, Task, HORIZON, MAX_RELEASES, MAX_TASKS, MAX_TICK, MAX_TIME};
@@ -282,6 +282,57 @@ pub fn run(tasks: &[Task], kept: &[u32], n: usize, list: Columns, ready: &mut [u
             }
         }
         t += 1;
+    }
+}
+
+/// Over every tick in which a job may start: no job is to come.
+const NEVER: u64 = 1 << 32;
+
+/// The run that jumps; returns its stops. Of each task: the oldest unfinished job, the work that is left of it, and the first job
+/// whose start is to come. `wake` is the least of these starts.
+pub fn jump(tasks: &[Task], kept: &[u32], n: usize, list: Columns, ready: &mut [u32], finish: &mut [u32]) -> Result<u64, Refusal> {
+    check_call(tasks, kept, n, list, ready.len().min(finish.len()))?;
+    fill_ready(tasks, kept, n, list, ready);
+    let (mut head, mut left, mut coming) = ([n; 32], [0u32; 32], [n; 32]);
+    for i in 0..tasks.len() {
+        let p = next_of(list.task, n, i as u32, 0);
+        (head[i], coming[i]) = (p, p);
+        left[i] = if p < n { list.cost[p] } else { 0 };
+    }
+    let start_of = |p: usize, ready: &[u32]| if p < n { ready[p] as u64 + PICKUP } else { NEVER };
+    let (mut t, mut wake, mut stops) = (0u64, 0u64, 0u64);
+    loop {
+        if wake <= t {
+            wake = NEVER;
+            for i in 0..tasks.len() {
+                while start_of(coming[i], ready) <= t {
+                    coming[i] = next_of(list.task, n, i as u32, coming[i] + 1);
+                }
+                wake = wake.min(start_of(coming[i], ready));
+            }
+        }
+        match (0..tasks.len()).find(|&i| start_of(head[i], ready) <= t) {
+            None => {
+                if wake == NEVER {
+                    return Ok(stops);
+                }
+                t = wake;
+            }
+            Some(i) => {
+                let end = t + left[i] as u64;
+                if wake < end {
+                    left[i] -= (wake - t) as u32;
+                    t = wake;
+                } else {
+                    let p = head[i];
+                    finish[p] = end as u32;
+                    head[i] = next_of(list.task, n, i as u32, p + 1);
+                    left[i] = if head[i] < n { list.cost[head[i]] } else { 0 };
+                    t = end;
+                }
+            }
+        }
+        stops += 1;
     }
 }
 

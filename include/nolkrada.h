@@ -8,8 +8,9 @@
  *
  * Every call ends, but not always soon. A verdict or a choice takes microseconds on most sheets; where the tasks load the processor
  * whole or a little more, it may walk over millions of q: with 31 tasks (62,0,1,1000000) above (2,1,1,1000000), kept at 1, the
- * verdict of the lowest takes seconds. A run goes tick by tick: some 0.4 s for one release at tick 1000000000.
- * docs/BENCHMARK.md has the figures.
+ * verdict of the lowest takes seconds. A run goes tick by tick: some 0.4 s for one release at tick 1000000000. A run that jumps
+ * (nolkrada_jump) goes from one ready or finish moment to the next: microseconds for a few releases, whatever their ticks, and
+ * below a millisecond for 1024. docs/BENCHMARK.md has the figures.
  *
  * WHAT A CALL RETURNS
  *   0 where it answered. Otherwise a refusal, number * 2^32 + place; nolkrada_number and nolkrada_place take it apart.
@@ -76,9 +77,9 @@ extern "C" {
 
 /* The version of this interface. The archive has no symbol for it: take header and archive of one build. */
 #define NOLKRADA_VERSION_MAJOR 0
-#define NOLKRADA_VERSION_MINOR 3
+#define NOLKRADA_VERSION_MINOR 4
 #define NOLKRADA_VERSION_PATCH 0
-#define NOLKRADA_VERSION "0.3.0"
+#define NOLKRADA_VERSION "0.4.0"
 
 /* Tasks of a sheet, numbers of a sheet that is read or loaded (P, J, E, D of 32 tasks), releases of a list. */
 #define NOLKRADA_MAX_TASKS 32
@@ -86,6 +87,8 @@ extern "C" {
 #define NOLKRADA_MAX_RELEASES 1024
 /* Ticks from a job's ready tick to the first in which it may run. */
 #define NOLKRADA_PICKUP 1
+/* The most stops of a run that jumps: a ready tick plus 1 and a finish for each release. */
+#define NOLKRADA_MAX_STOPS 2048
 /* Bytes of the largest file: 17 for each task, 10 for each release, 1 for the end. nolkrada_write writes no more. */
 #define NOLKRADA_MAX_FILE 10785
 /* Bytes that decide a read: none past these changes what it answers. Make a buffer that is filled from an input this long: one of
@@ -160,6 +163,15 @@ uint64_t nolkrada_run(const uint32_t *sheet, size_t sheet_length, uint32_t count
                       uint32_t n, const uint32_t *task, size_t task_length, const uint32_t *tick, size_t tick_length,
                       const uint32_t *cost, size_t cost_length, uint32_t *ready, size_t ready_length, uint32_t *finish,
                       size_t finish_length);
+
+/* Run that jumps: the ready and finish ticks of nolkrada_run, and its refusals, for every sheet and list. It goes from one tick
+ * that is a ready tick plus 1 or a finish to the next, so its time grows with releases and tasks and not with the ticks.
+ * ready, finish: n slots each, written. answer: 1 slot, the stops: how many different ticks are a ready tick plus 1 or a finish,
+ * 0 without a release, at most NOLKRADA_MAX_STOPS.                                        Refuses 5 4 6 10 13 12 7 8 9. */
+uint64_t nolkrada_jump(const uint32_t *sheet, size_t sheet_length, uint32_t count, const uint32_t *kept, size_t kept_length,
+                       uint32_t n, const uint32_t *task, size_t task_length, const uint32_t *tick, size_t tick_length,
+                       const uint32_t *cost, size_t cost_length, uint32_t *ready, size_t ready_length, uint32_t *finish,
+                       size_t finish_length, uint64_t *answer, size_t answer_length);
 
 /* Read a file. Lend it whole, or its first NOLKRADA_READ_BYTES bytes.
  * sheet: NOLKRADA_SHEET_NUMBERS slots, all written; entries past the count are 0. task, tick, cost: a slot for each release,

@@ -1,4 +1,5 @@
-//! Compares the archive with the reference implementation: every answer, every lent slot, refusals with their place.
+//! Compares the archive with the reference implementation: every answer, every lent slot, refusals with their place; and the run
+//! that jumps with the ticking run of the archive, where the ticks are not too many.
 //! One argument may give another seed. The last line says how many calls were compared and how many differed.
 
 mod generator;
@@ -7,7 +8,7 @@ mod reference;
 mod sums;
 
 use generator::*;
-use reference::{Budget, Refusal, Release, Sheet, Task, Verdict, MAX_TICK, MAX_TIME};
+use reference::{Budget, Refusal, Release, Sheet, Task, Verdict, MAX_RELEASES, MAX_TICK, MAX_TIME};
 
 const SEED: u64 = 20_240_601;
 
@@ -128,15 +129,19 @@ impl Case {
 
 #[derive(Default)]
 struct Tally {
-    calls: [u64; 9],
+    calls: [u64; 10],
     refusals: [u64; 17],
     verdicts: [u64; 3],
     too_close: u64,
+    /// Of the runs that jump: the most stops, and how many have fewer than two for each release.
+    most_stops: u64,
+    shared_stops: u64,
     passed_over: u64,
     differences: u64,
 }
 
-const NAMES: [&str; 9] = ["arrival count", "verdict", "choice", "trace check", "ready ticks", "run", "read", "write", "load"];
+const NAMES: [&str; 10] =
+    ["arrival count", "verdict", "choice", "trace check", "ready ticks", "run", "read", "write", "load", "jumping run"];
 
 impl Tally {
     fn note(&mut self, call: usize, expected: Option<Refusal>, got: u64, slots: bool, show: impl Fn() -> String) {
@@ -273,6 +278,52 @@ fn compare_run(r: &mut Random, tally: &mut Tally, case: &Case) {
     });
 }
 
+/// The run that jumps: ready ticks, the finish ticks that the reference allots job by job, and the stops that it counts from them.
+fn compare_jump(r: &mut Random, tally: &mut Tally, case: &Case) {
+    let needed = case.n.min(1030) as usize;
+    let (a, b, w) = (around(r, needed), around(r, needed), around(r, 1));
+    let (mut ready, mut finish, mut answer) = (numbers(r, a), numbers(r, b), words(r, w));
+    let given = reference::jump(&case.sheet(), &case.kept, case.n as usize, &case.reference_list(), a, b);
+    let expected = in_words(w, 1, given);
+    let got = library::jump(
+        &case.numbers, case.count, &case.kept, case.n, case.library_list(), &mut ready.now, &mut finish.now, &mut answer.now,
+    );
+    let jumped = expected.as_ref().ok();
+    let stops = jumped.map(|j| [j.stops]);
+    let same = ready.holds(jumped.map(|j| &j.ready[..]))
+        && finish.holds(jumped.map(|j| &j.finish[..]))
+        && answer.holds(stops.as_ref().map(|s| &s[..]));
+    if let Some([stops]) = stops {
+        tally.most_stops = tally.most_stops.max(stops);
+        tally.shared_stops += (stops < 2 * case.n as u64) as u64;
+    }
+    tally.note(9, expected.as_ref().err().copied(), got, same, || {
+        format!("ready {:?} finish {:?} answer {:?} expected {:?} {}", ready.now, finish.now, answer.now, expected, case.show())
+    });
+}
+
+/// The run that jumps and the ticking run, both of the archive, with lent slots that held the same: the same code, and the same in
+/// every slot. The answer has its slot, so that both refuse the same.
+fn compare_jump_with_run(r: &mut Random, tally: &mut Tally, case: &Case) {
+    let needed = case.n.min(1030) as usize;
+    let (a, b) = (around(r, needed), around(r, needed));
+    let (mut ready, mut finish, mut answer) = (numbers(r, a), numbers(r, b), words(r, 1));
+    let (mut ticked_ready, mut ticked_finish) = (ready.held.clone(), finish.held.clone());
+    let got = library::jump(
+        &case.numbers, case.count, &case.kept, case.n, case.library_list(), &mut ready.now, &mut finish.now, &mut answer.now,
+    );
+    let ticked = library::run(
+        &case.numbers, case.count, &case.kept, case.n, case.library_list(), &mut ticked_ready, &mut ticked_finish,
+    );
+    let same = got == ticked
+        && (&ready.now, &finish.now) == (&ticked_ready, &ticked_finish)
+        && (got == 0 || answer.holds(None));
+    tally.note(9, None, 0, same, || {
+        let ticked = (ticked, &ticked_ready, &ticked_finish);
+        format!("jumped {:?} ticked {:?} {}", (got, &ready.now, &finish.now), ticked, case.show())
+    });
+}
+
 fn compare_read(r: &mut Random, tally: &mut Tally, file: &[u8]) {
     let releases = reference::decode(file).map_or(0, |(_, list)| list.len());
     let slots = [around(r, releases), around(r, releases), around(r, releases)];
@@ -349,6 +400,8 @@ fn compare_list_calls(r: &mut Random, tally: &mut Tally, case: &Case) {
     compare_trace_check(r, tally, case);
     compare_ready(r, tally, case);
     compare_run(r, tally, case);
+    compare_jump(r, tally, case);
+    compare_jump_with_run(r, tally, case);
     compare_write(r, tally, case);
 }
 
@@ -404,8 +457,9 @@ fn check_reference_windows(r: &mut Random, cases: u32) {
     }
 }
 
-/// The two ways in which the reference finds the finish ticks agree, and each is one tick later than where a job may run in its
-/// ready tick.
+/// The three ways in which the reference finds the finish ticks agree, and each is one tick later than where a job may run in its
+/// ready tick. Its stops are those that a look at every tick counts, at least one more than there are jobs, since no two finishes
+/// are equal and the first start is before them.
 fn check_reference_run(r: &mut Random, cases: u32) {
     for _ in 0..cases {
         let sheet = small_sheet(r);
@@ -415,7 +469,36 @@ fn check_reference_run(r: &mut Random, cases: u32) {
         let ready = reference::ready_ticks(&sheet, &kept, &list);
         let finish = reference::finish_ticks(&list, &ready);
         assert_eq!(finish, reference::finish_ticks_by_tick(&list, &ready));
+        assert_eq!(finish, reference::finish_ticks_by_job(&list, &ready));
         assert_eq!(finish, reference::finish_from(&list, &ready).iter().map(|t| t + 1).collect::<Vec<i64>>());
+        let end = finish.iter().max().map_or(0, |&f| f);
+        let stops = (0..=end).filter(|t| finish.contains(t) || ready.contains(&(t - 1))).count();
+        assert_eq!(stops as u64, reference::stops(&ready, &finish));
+        assert!(if n == 0 { stops == 0 } else { (n + 1..=2 * n).contains(&stops) });
+    }
+}
+
+/// The same of lists of each form, and of ticks that are too late to be looked at one by one: by event and by job.
+fn check_reference_jump(r: &mut Random, cases: u32) {
+    for _ in 0..cases {
+        for form in FORMS {
+            let n = r.within(1, 40) as usize;
+            let (sheet, list) = form(r, n);
+            let kept = kept_for(r, &sheet);
+            let ready = reference::ready_ticks(&sheet, &kept, &list);
+            let finish = reference::finish_ticks_by_job(&list, &ready);
+            assert_eq!(finish, reference::finish_ticks(&list, &ready));
+            if finish.iter().all(|&f| f < 3_000) {
+                assert_eq!(finish, reference::finish_ticks_by_tick(&list, &ready));
+            }
+        }
+        let (tasks, top) = (r.of(&[1, 3, 32]), r.of(&[40, 1_000, 1_000_000]));
+        let sheet = loaded_sheet(r, tasks, top);
+        let n = r.within(1, 60) as usize;
+        let list = gapped_list_for(r, &sheet, n);
+        let kept = kept_for(r, &sheet);
+        let ready = reference::ready_ticks(&sheet, &kept, &list);
+        assert_eq!(reference::finish_ticks_by_job(&list, &ready), reference::finish_ticks(&list, &ready));
     }
 }
 
@@ -488,18 +571,81 @@ fn late_ticks(r: &mut Random, tally: &mut Tally, cases: u32) {
     }
 }
 
-/// The largest finish tick: 1,024 jobs of the largest cost and period, all released at the limit.
+/// The largest finish tick, in both runs: 1,024 jobs of the largest cost and period, all released at the limit. Each but the last
+/// is finished where the next one starts, hence the stops.
 fn largest_finish(r: &mut Random, tally: &mut Tally) {
     let sheet = Sheet::of(&[Task { p: MAX_TIME, j: 0, e: MAX_TIME, d: MAX_TIME }]);
     let case = Case::sound(r, &sheet, &[Release { task: 0, tick: MAX_TICK, cost: MAX_TIME }; 1024]);
     let expected = reference::run(&case.sheet(), &case.kept, 1024, &case.reference_list(), 1024, 1024).unwrap();
     assert_eq!((expected.0[1023], expected.1[1023]), (2_023_000_000, 2_024_000_001));
+    let jumped = reference::jump(&case.sheet(), &case.kept, 1024, &case.reference_list(), 1024, 1024).unwrap();
+    assert_eq!((&jumped.ready, &jumped.finish, jumped.stops), (&expected.0, &expected.1, 1_025));
     let (mut ready, mut finish) = (numbers(r, 1024), numbers(r, 1024));
     let got = library::run(
         &case.numbers, case.count, &case.kept, case.n, case.library_list(), &mut ready.now, &mut finish.now,
     );
     let same = ready.holds(Some(&expected.0)) && finish.holds(Some(&expected.1));
     tally.note(5, None, got, same, || format!("last ready {} finish {}", ready.now[1023], finish.now[1023]));
+    for _ in 0..20 {
+        compare_jump(r, tally, &case);
+    }
+}
+
+/// Jumping runs of lists of each form: bursts, chains of preemption, equal ready ticks, idle gaps, finishes at starts. With some
+/// kept jitters, with full ones, by which nothing is held back, and with none.
+fn formed_lists(r: &mut Random, tally: &mut Tally, cases: u32, sizes: &[usize]) {
+    for _ in 0..cases {
+        for form in FORMS {
+            let n = r.of(sizes);
+            let (sheet, list) = form(r, n);
+            let mut case = Case::sound(r, &sheet, &list);
+            let full = sheet.tasks.iter().map(|t| t.j).collect();
+            for kept in [case.kept.clone(), full, vec![0; sheet.count]] {
+                case.kept = kept;
+                compare_jump(r, tally, &case);
+                compare_jump_with_run(r, tally, &case);
+            }
+        }
+    }
+}
+
+/// Jumping runs over long gaps, up to the last tick allowed; with the reference alone, since the ticks are too many for a run that
+/// goes through them.
+fn long_gaps(r: &mut Random, tally: &mut Tally, cases: u32, sizes: &[usize]) {
+    for _ in 0..cases {
+        let (tasks, top) = (r.of(&[1, 2, 3, 8, 32]), r.of(&[40, 1_000, 1_000_000]));
+        let sheet = loaded_sheet(r, tasks, top);
+        let n = r.of(sizes);
+        let mut list = gapped_list_for(r, &sheet, n);
+        if r.once_in(10) {
+            damage_list(r, &sheet, &mut list);
+        }
+        let mut case = Case::sound(r, &sheet, &list);
+        if r.once_in(10) {
+            case.damage(r);
+        }
+        compare_jump(r, tally, &case);
+    }
+}
+
+/// Jumping runs of two releases, the first at 0 and the second up to the limit: of one task and of two, in both orders. With the
+/// ticking run too, but at the limit once alone.
+fn two_releases(r: &mut Random, tally: &mut Tally) {
+    let sheet = sums::printed_sheet();
+    for tick in [0, 1, 2, 3, 4, 5, 6, 1_000, 1_000_000, MAX_TICK - 1, MAX_TICK] {
+        for tasks in [[0, 0], [0, 2], [2, 0]] {
+            for cost in [1, 2] {
+                let list = [(tasks[0], 0), (tasks[1], tick)].map(|(task, tick)| Release { task, tick, cost });
+                let case = Case::sound(r, &sheet, &list);
+                for _ in 0..20 {
+                    compare_jump(r, tally, &case);
+                }
+                if tick <= 1_000_000 || (tick, tasks, cost) == (MAX_TICK, [0, 0], 2) {
+                    compare_jump_with_run(r, tally, &case);
+                }
+            }
+        }
+    }
 }
 
 /// Sound files cut at every byte and with every byte changed; random records; files at the limits.
@@ -722,6 +868,61 @@ fn short_answers(r: &mut Random, tally: &mut Tally) {
         }
     }
 
+    // a run that jumps of two releases, in columns of three slots: the change, the slots of ready and finish, what it refuses with
+    // no slot for its answer, and what it refuses with one, as the run does
+    let jumps: [(fn(&mut Case), [usize; 2], (u32, u64), Option<(u32, u64)>); 29] = [
+        (|_| (), [2, 2], (13, 1), None),
+        (|c| c.count = 0, [2, 2], (5, 0), Some((5, 0))),
+        (|c| c.count = 33, [2, 2], (4, 32), Some((4, 32))),
+        (|c| c.numbers[6] = 0, [2, 2], (6, 1), Some((6, 1))),
+        (|c| c.n = 1025, [2, 2], (10, 1024), Some((10, 1024))),
+        (|c| c.kept.truncate(2), [2, 2], (13, 3), Some((13, 3))),
+        (|c| c.task.truncate(1), [2, 2], (13, 2), Some((13, 2))),
+        (|c| c.tick.truncate(1), [2, 2], (13, 2), Some((13, 2))),
+        (|c| c.cost.truncate(1), [2, 2], (13, 2), Some((13, 2))),
+        (|_| (), [1, 2], (13, 2), Some((13, 2))),
+        (|_| (), [2, 1], (13, 2), Some((13, 2))),
+        (|c| c.kept[1] = 8, [2, 2], (13, 1), Some((12, 1))),
+        (|c| c.task[1] = 3, [2, 2], (13, 1), Some((7, 1))),
+        (|c| c.tick[1] = MAX_TICK + 1, [2, 2], (13, 1), Some((8, 1))),
+        (|c| c.tick[0] = 1, [2, 2], (13, 1), Some((8, 1))),
+        (|c| c.cost[0] = 0, [2, 2], (13, 1), Some((9, 0))),
+        (|c| c.cost[1] = 3, [2, 2], (13, 1), Some((9, 1))),
+        // two things besides the answer
+        (|c| (c.count, c.n) = (0, 1025), [2, 2], (5, 0), Some((5, 0))),
+        (|c| (c.numbers[6], c.n) = (0, 1025), [0, 0], (6, 1), Some((6, 1))),
+        (|c| (c.n, c.kept) = (1025, vec![]), [0, 0], (10, 1024), Some((10, 1024))),
+        (|c| (c.kept, c.task) = (vec![], vec![]), [0, 0], (13, 3), Some((13, 3))),
+        (|c| c.kept[1] = 8, [1, 2], (13, 2), Some((13, 2))),
+        (|c| c.task[0] = 3, [2, 1], (13, 2), Some((13, 2))),
+        (|c| (c.kept[2], c.task[0]) = (1, 3), [2, 2], (13, 1), Some((12, 2))),
+        (|c| (c.kept[0], c.cost[0]) = (6, 0), [2, 2], (13, 1), Some((12, 0))),
+        (|c| (c.task[1], c.cost[0]) = (3, 3), [2, 2], (13, 1), Some((9, 0))),
+        (|c| (c.task[1], c.tick[1], c.cost[1]) = (3, MAX_TICK + 1, 0), [2, 2], (13, 1), Some((7, 1))),
+        (|c| (c.tick[0], c.cost[1]) = (1, 0), [2, 2], (13, 1), Some((8, 1))),
+        (|c| (c.n, c.task, c.tick, c.cost) = (0, vec![], vec![], vec![]), [0, 0], (13, 1), None),
+    ];
+    for (change, [a, b], none, one) in jumps {
+        let mut case = Case { kept: vec![1, 3, 0], n: 2, ..sound.clone() };
+        change(&mut case);
+        let (mut ready, mut finish, mut answer) = (numbers(r, a), numbers(r, b), words(r, 1));
+        for (slots, expected) in [(0, Some(none)), (1, one)] {
+            let Some((number, place)) = expected else {
+                continue;
+            };
+            let lent = (&mut ready.now[..], &mut finish.now[..], &mut answer.now[..slots]);
+            let got = library::jump(&case.numbers, case.count, &case.kept, case.n, case.library_list(), lent.0, lent.1, lent.2);
+            let same = ready.holds(None) && finish.holds(None) && answer.holds(None);
+            tally.note(9, refused(number, place), got, same, || format!("{} slots for the answer {}", slots, case.show()));
+        }
+        let got = library::run(
+            &case.numbers, case.count, &case.kept, case.n, case.library_list(), &mut ready.now, &mut finish.now,
+        );
+        let expected = one.and_then(|(number, place)| refused(number, place));
+        let same = expected.is_none() || (ready.holds(None) && finish.holds(None));
+        tally.note(5, expected, got, same, || case.show());
+    }
+
     // files: the slots of the sheet, of the columns and of the answer, and what decides
     let sheet = sums::printed_sheet();
     let file = reference::encode(&sheet.tasks[..sheet.count], &sums::printed_releases());
@@ -796,7 +997,8 @@ fn main() {
     println!("seed {}", seed);
     println!("reference: {} sums and examples of documents 01 and 02 agree", sums::check());
     timed("reference: W(q) by step and by tick", || check_reference_windows(r, 2_000));
-    timed("reference: run by event and by tick", || check_reference_run(r, 2_000));
+    timed("reference: run by event, tick and job", || check_reference_run(r, 4_000));
+    timed("reference: forms and late ticks", || check_reference_jump(r, 500));
     timed("reference: texts there and back", || check_reference_texts(r, 20_000));
     timed("printed sheet", || printed(r, tally));
     timed("answers that are too short", || short_answers(r, tally));
@@ -807,6 +1009,11 @@ fn main() {
     timed("long lists", || long_lists(r, tally, 60));
     timed("ticks at the limit", || late_ticks(r, tally, 3));
     timed("largest finish tick", || largest_finish(r, tally));
+    timed("jumps: bursts, chains, equal ticks, gaps", || formed_lists(r, tally, 1_500, &[2, 5, 33, 100]));
+    timed("jumps: the same with 1,024 releases", || formed_lists(r, tally, 30, &[1024]));
+    timed("jumps: long gaps", || long_gaps(r, tally, 20_000, &[1, 2, 3, 10, 60]));
+    timed("jumps: long gaps, 1,024 releases", || long_gaps(r, tally, 300, &[1024]));
+    timed("jumps: two releases", || two_releases(r, tally));
     timed("files, cut and changed at every byte", || files(r, tally, 1_000));
     timed("full files", || full_files(r, tally));
     timed("texts, cut and changed at every byte", || texts(r, tally, 200));
@@ -819,10 +1026,12 @@ fn main() {
     println!("refusals by number  {}", each.join("  "));
     let [horizon, late, fits] = tally.verdicts;
     println!("verdicts  horizon {}  late {}  fits {}; too close {}; passed over {}", horizon, late, fits, tally.too_close, tally.passed_over);
+    println!("jumping runs  most stops {}; fewer than two stops for each release {}", tally.most_stops, tally.shared_stops);
     println!("outside comparison: {} calls, {} differences", tally.calls.iter().sum::<u64>(), tally.differences);
-    let missing = (1..17).any(|n| tally.refusals[n] == 0) || tally.verdicts.contains(&0);
+    let stops = tally.most_stops == 2 * MAX_RELEASES as u64 && tally.shared_stops > 0;
+    let missing = (1..17).any(|n| tally.refusals[n] == 0) || tally.verdicts.contains(&0) || !stops;
     if missing {
-        println!("some refusal or verdict never came up");
+        println!("some refusal, verdict or number of stops never came up");
     }
     std::process::exit(if tally.differences == 0 && !missing { 0 } else { 1 });
 }

@@ -1,6 +1,6 @@
 //! Seeded cases: sheets, kept jitters, lists of releases, files and texts, sound and damaged.
 
-use crate::reference::{encode, text_of, Release, Sheet, Task, MAX_TICK};
+use crate::reference::{encode, finish_ticks_by_job, text_of, Release, Sheet, Task, MAX_TICK, MAX_TIME};
 
 /// SplitMix64.
 pub struct Random {
@@ -214,6 +214,119 @@ pub fn random_file(r: &mut Random) -> Vec<u8> {
         file.push(3);
     }
     file
+}
+
+// ---- Lists of a chosen form --------------------------------------------------------------------------------------------
+
+/// Tasks of one period, below 978, and of any cost up to it. With full jitters kept nothing is held back in 1,024 releases, since
+/// 1,023 periods are below that jitter. With 0 kept, jobs of a task that are released together are ready P ticks apart.
+fn open_sheet(n: u32, p: u32) -> Sheet {
+    Sheet::of(&vec![Task { p, j: MAX_TIME, e: p, d: MAX_TIME }; n as usize])
+}
+
+/// Bursts: many jobs at one tick, then a gap.
+fn bursts(r: &mut Random, n: usize) -> (Sheet, Vec<Release>) {
+    let (tasks, p, gap) = (r.of(&[1, 3, 32]), r.of(&[8, 60, 500]), r.of(&[1, 10, 300, 4_000]));
+    let mut tick = 0;
+    let list = (0..n)
+        .map(|_| {
+            if r.once_in(n as u32 / 3 + 1) {
+                tick += r.within(1, gap);
+            }
+            Release { task: r.within(0, tasks - 1), tick, cost: r.within(1, 8) }
+        })
+        .collect();
+    (open_sheet(tasks, p), list)
+}
+
+/// Chains of preemption: from the lowest task up, each job is released while the one below it has work left.
+fn chains(r: &mut Random, n: usize) -> (Sheet, Vec<Release>) {
+    let (tasks, step, gap) = (r.of(&[2, 5, 32]), r.within(1, 3), r.of(&[1, 40, 3_000]));
+    let mut tick = 0;
+    let list = (0..n as u32)
+        .map(|k| {
+            if k > 0 {
+                tick += if k % tasks == 0 { r.within(1, gap) } else { step };
+            }
+            Release { task: tasks - 1 - k % tasks, tick, cost: r.within(step + 1, 9) }
+        })
+        .collect();
+    (open_sheet(tasks, 60), list)
+}
+
+/// Equal ready ticks of several tasks: all released at 0, so that the shapers give them ready ticks P apart, or task after task at
+/// multiples of P.
+fn equal_ticks(r: &mut Random, n: usize) -> (Sheet, Vec<Release>) {
+    let (tasks, p, at_once) = (r.of(&[2, 7, 32]), r.of(&[4, 30, 250]), r.once_in(2));
+    let list = (0..n as u32)
+        .map(|k| {
+            let tick = if at_once { 0 } else { k / tasks * p };
+            Release { task: k % tasks, tick, cost: r.within(1, p.min(5)) }
+        })
+        .collect();
+    (open_sheet(tasks, p), list)
+}
+
+/// Each job alone, with idle ticks before it: with full jitters kept every start and every finish is a tick of its own.
+fn jobs_apart(r: &mut Random, n: usize) -> (Sheet, Vec<Release>) {
+    let (tasks, p, gap) = (r.of(&[1, 4, 32]), r.of(&[3, 20]), r.of(&[1, 2, 50, 1_000]));
+    let mut tick = r.within(0, gap);
+    let list = (0..n)
+        .map(|_| {
+            let one = Release { task: r.within(0, tasks - 1), tick, cost: r.within(1, p) };
+            tick += one.cost + r.within(1, gap);
+            one
+        })
+        .collect();
+    (open_sheet(tasks, p), list)
+}
+
+/// Jobs that start in the tick in which the one before is finished, some a tick sooner or later.
+fn jobs_touching(r: &mut Random, n: usize) -> (Sheet, Vec<Release>) {
+    let (tasks, p) = (r.of(&[1, 2, 32]), r.of(&[2, 9, 300]));
+    let mut tick = r.within(0, 3);
+    let list = (0..n)
+        .map(|_| {
+            let one = Release { task: r.within(0, tasks - 1), tick, cost: r.within(1, p) };
+            tick += one.cost + r.of(&[1, 1, 1, 1, 0, 2]) - 1;
+            one
+        })
+        .collect();
+    (open_sheet(tasks, p), list)
+}
+
+/// Up to 40 jobs, each of which starts at a finish that the list has without it, a tick sooner or a tick later.
+fn jobs_meeting(r: &mut Random, n: usize) -> (Sheet, Vec<Release>) {
+    let (tasks, p) = (r.of(&[2, 3, 8]), r.of(&[4, 15]));
+    let mut list = vec![Release { task: tasks - 1, tick: 0, cost: r.within(1, p) }];
+    while list.len() < n.min(40) {
+        let ready: Vec<i64> = list.iter().map(|x| x.tick as i64).collect();
+        let finish = r.of(&finish_ticks_by_job(&list, &ready)) as u32;
+        let before = list[list.len() - 1].tick;
+        let tick = (finish + r.of(&[1, 1, 0, 2]) - 2).max(before);
+        list.push(Release { task: r.within(0, tasks - 1), tick, cost: r.within(1, p) });
+    }
+    (open_sheet(tasks, p), list)
+}
+
+/// A sheet and n releases, or up to 40 where so stated, of each form.
+pub const FORMS: [fn(&mut Random, usize) -> (Sheet, Vec<Release>); 6] =
+    [bursts, chains, equal_ticks, jobs_apart, jobs_touching, jobs_meeting];
+
+/// A list with ticks that mostly rise by a little and now and then by much, up to the limit.
+pub fn gapped_list_for(r: &mut Random, sheet: &Sheet, n: usize) -> Vec<Release> {
+    let (little, much) = (r.of(&[0, 3, 200, 100_000]), r.of(&[1_000, 1_000_000, 100_000_000, MAX_TICK]));
+    let every = r.of(&[1, 4, 40]);
+    let mut tick = 0u32;
+    (0..n)
+        .map(|_| {
+            let rise = if r.once_in(every) { r.within(0, much) } else { r.within(0, little) };
+            tick = tick.saturating_add(rise).min(MAX_TICK);
+            let task = r.within(0, sheet.count as u32 - 1);
+            let e = sheet.task(task as usize).e;
+            Release { task, tick, cost: if r.once_in(2) { e } else { r.within(1, e) } }
+        })
+        .collect()
 }
 
 // ---- Texts -------------------------------------------------------------------------------------------------------------

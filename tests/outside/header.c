@@ -1,6 +1,6 @@
 /*
- * The constants of include/nolkrada.h: document 01's limits, the sizes of files and texts, and each refusal by its name, got from
- * the archive.
+ * The constants of include/nolkrada.h: document 01's limits, the sizes of files and texts, the most stops of a run, and each
+ * refusal by its name, got from the archive.
  */
 #include <stdio.h>
 #include <string.h>
@@ -12,6 +12,8 @@
 SAME(NOLKRADA_MAX_TASKS, 32);
 SAME(NOLKRADA_MAX_RELEASES, 1024);
 SAME(NOLKRADA_SHEET_NUMBERS, 4 * NOLKRADA_MAX_TASKS);
+/* A ready tick plus 1 and a finish of each release. */
+SAME(NOLKRADA_MAX_STOPS, 2 * NOLKRADA_MAX_RELEASES);
 SAME(NOLKRADA_MAX_FILE, 17 * NOLKRADA_MAX_TASKS + 10 * NOLKRADA_MAX_RELEASES + 1);
 /* One more record after the last that is allowed, a task: the longest. */
 SAME(NOLKRADA_READ_BYTES, 17 * NOLKRADA_MAX_TASKS + 10 * NOLKRADA_MAX_RELEASES + 17);
@@ -135,6 +137,30 @@ static void runs(void) {
     if (ready[0] != 3 || finish[0] != 3 + NOLKRADA_PICKUP + 2) wrong = 1;
 }
 
+/* The run that jumps: of one job the same and two stops; of none no stop; of two, at tick 0 and at the last tick allowed, four; and
+ * as many as the header says of the longest list with idle ticks between the jobs. Refused without a slot for the stops. */
+static void jumps(void) {
+    static const uint32_t zero[2], three[1] = {3}, two[2] = {2, 2}, far[2] = {0, 1000000000}, kept[3] = {2, 4, 0};
+    static const uint32_t alone[4] = {1, 0, 1, 1};
+    static uint32_t ready[NOLKRADA_MAX_RELEASES], finish[NOLKRADA_MAX_RELEASES];
+    const size_t all = NOLKRADA_MAX_RELEASES;
+    expect("jump", nolkrada_jump(printed, 12, 3, kept, 3, 1, zero, 1, three, 1, two, 1, ready, 1, finish, 1, answer, 1), 0, 0);
+    if (ready[0] != 3 || finish[0] != 3 + NOLKRADA_PICKUP + 2 || answer[0] != 2) wrong = 1;
+    expect("jump of no release",
+           nolkrada_jump(printed, 12, 3, kept, 3, 0, zero, 0, zero, 0, two, 0, ready, 0, finish, 0, answer, 1), 0, 0);
+    if (answer[0] != 0) wrong = 1;
+    expect("jump to the last tick allowed",
+           nolkrada_jump(printed, 12, 3, kept, 3, 2, zero, 2, far, 2, two, 2, ready, 2, finish, 2, answer, 1), 0, 0);
+    if (ready[0] != 0 || finish[0] != 3 || ready[1] != 1000000000 || finish[1] != 1000000003 || answer[0] != 4) wrong = 1;
+    for (uint32_t n = 0; n < all; n++) task[n] = 0, tick[n] = 2 * n, cost[n] = 1;
+    expect("most stops",
+           nolkrada_jump(alone, 4, 1, zero, 1, all, task, all, tick, all, cost, all, ready, all, finish, all, answer, 1), 0, 0);
+    if (answer[0] != NOLKRADA_MAX_STOPS) wrong = 1;
+    expect("no slot for the stops",
+           nolkrada_jump(printed, 12, 3, kept, 3, 1, zero, 1, three, 1, two, 1, ready, 1, finish, 1, answer, 0),
+           NOLKRADA_REFUSED_SHORT_ARRAY, 1);
+}
+
 int main(void) {
     if (strcmp(version, NOLKRADA_VERSION) != 0) wrong = 1;
     sizes();
@@ -142,6 +168,7 @@ int main(void) {
     refusals();
     verdicts();
     runs();
-    puts(wrong ? "header: something is not as it says" : "header: limits, sizes, refusals, verdicts and pickup as it says");
+    jumps();
+    puts(wrong ? "header: something is not as it says" : "header: limits, sizes, refusals, verdicts, pickup and stops as it says");
     return wrong;
 }

@@ -27,6 +27,11 @@ extern "C" {
         task: *const u32, task_length: usize, tick: *const u32, tick_length: usize, cost: *const u32, cost_length: usize,
         ready: *mut u32, ready_length: usize, finish: *mut u32, finish_length: usize,
     ) -> u64;
+    fn nolkrada_jump(
+        sheet: *const u32, sheet_length: usize, count: u32, kept: *const u32, kept_length: usize, n: u32,
+        task: *const u32, task_length: usize, tick: *const u32, tick_length: usize, cost: *const u32, cost_length: usize,
+        ready: *mut u32, ready_length: usize, finish: *mut u32, finish_length: usize, answer: *mut u64, answer_length: usize,
+    ) -> u64;
     fn nolkrada_read(
         file: *const u8, file_length: usize, sheet: *mut u32, sheet_length: usize, task: *mut u32, task_length: usize,
         tick: *mut u32, tick_length: usize, cost: *mut u32, cost_length: usize, answer: *mut u64, answer_length: usize,
@@ -97,6 +102,18 @@ pub fn run(sheet: &[u32], count: u32, kept: &[u32], n: u32, list: Columns, ready
             sheet.as_ptr(), sheet.len(), count, kept.as_ptr(), kept.len(), n, list.task.as_ptr(), list.task.len(),
             list.tick.as_ptr(), list.tick.len(), list.cost.as_ptr(), list.cost.len(), ready.as_mut_ptr(), ready.len(),
             finish.as_mut_ptr(), finish.len(),
+        )
+    }
+}
+
+pub fn jump(
+    sheet: &[u32], count: u32, kept: &[u32], n: u32, list: Columns, ready: &mut [u32], finish: &mut [u32], answer: &mut [u64],
+) -> u64 {
+    unsafe {
+        nolkrada_jump(
+            sheet.as_ptr(), sheet.len(), count, kept.as_ptr(), kept.len(), n, list.task.as_ptr(), list.task.len(),
+            list.tick.as_ptr(), list.tick.len(), list.cost.as_ptr(), list.cost.len(), ready.as_mut_ptr(), ready.len(),
+            finish.as_mut_ptr(), finish.len(), answer.as_mut_ptr(), answer.len(),
         )
     }
 }

@@ -1,6 +1,10 @@
-//! An implementation of document 01 with document 02's text sheets and pickup, for comparison, written from their words alone. It shares no code and
-//! no method with the library: ready ticks and the trace check look at every pair of jobs, W(q) is found by walking over the ticks at which
-//! the demand steps, the choice tries every K in rising order, and a text is split into whole lines and fields.
+//! An implementation of document 01 with document 02's text sheets, pickup and stops of a run, for comparison,
+//! written from their words alone. It shares no code and no method with the library: ready ticks and the trace check look at every
+//! pair of jobs, W(q) is found by walking over the ticks at which the demand steps, the choice tries every K in rising order, the
+//! ticking run is compared with one from event to event and the run that jumps with one that allots free ticks job by job, and a
+//! text is split into whole lines and fields.
+
+use std::collections::BTreeSet;
 
 pub const MAX_TASKS: usize = 32;
 pub const MAX_RELEASES: usize = 1024;
@@ -182,6 +186,39 @@ pub fn finish_ticks_by_tick(list: &[Release], ready: &[i64]) -> Vec<i64> {
         t += 1;
     }
     finish
+}
+
+/// Finish ticks of the run, job by job and not in the order of time: the tasks from the highest priority down, the jobs of a task
+/// in list order, each takes the earliest ticks from its first one on that no job before it took. The time that this takes does not
+/// grow with the ticks.
+pub fn finish_ticks_by_job(list: &[Release], ready: &[i64]) -> Vec<i64> {
+    let first = first_ticks(ready);
+    let mut order: Vec<usize> = (0..list.len()).collect();
+    order.sort_by_key(|&p| (list[p].task, p));
+    let mut finish = vec![0; list.len()];
+    // stretches of free ticks in rising order, each from its first tick up to its second, not including the latter
+    let mut free = vec![(0, i64::MAX)];
+    for p in order {
+        let mut wanted = list[p].cost as i64;
+        let mut rest = Vec::new();
+        for (from, to) in free {
+            let begin = from.max(first[p]).min(to);
+            let end = begin + wanted.min(to - begin);
+            if begin < end {
+                wanted -= end - begin;
+                finish[p] = end;
+            }
+            rest.extend([(from, begin), (end, to)].into_iter().filter(|(a, b)| a < b));
+        }
+        free = rest;
+    }
+    finish
+}
+
+/// Stops of a run: the number of different ticks that are a ready tick plus 1 or a finish.
+pub fn stops(ready: &[i64], finish: &[i64]) -> u64 {
+    let ticks: BTreeSet<i64> = ready.iter().map(|&r| r + 1).chain(finish.iter().copied()).collect();
+    ticks.len() as u64
 }
 
 /// W(q) of one task for q = 0, 1, .., found when asked for. None: over the horizon, or no such t.
@@ -432,7 +469,32 @@ pub fn ready(sheet: &Sheet, kept: &[u32], n: usize, columns: &Columns, ready_slo
     check_kept(sheet, kept)?;
     let list = columns.list(n);
     check_releases(sheet, &list)?;
-    Ok(ready_ticks(sheet, kept, &list).iter().map(|&t| t as u32).collect())
+    Ok(column(&ready_ticks(sheet, kept, &list)))
+}
+
+/// The checks of a run. The lengths of the two lent columns decide 13. The list, where nothing is refused.
+fn check_run(
+    sheet: &Sheet,
+    kept: &[u32],
+    n: usize,
+    columns: &Columns,
+    ready_slots: usize,
+    finish_slots: usize,
+) -> Result<Vec<Release>, Refusal> {
+    check_sheet(sheet)?;
+    check_count(n)?;
+    check_slots(kept.len(), sheet.count)?;
+    columns.check_slots(n)?;
+    check_slots(ready_slots, n)?;
+    check_slots(finish_slots, n)?;
+    check_kept(sheet, kept)?;
+    let list = columns.list(n);
+    check_releases(sheet, &list)?;
+    Ok(list)
+}
+
+fn column(ticks: &[i64]) -> Vec<u32> {
+    ticks.iter().map(|&t| t as u32).collect()
 }
 
 pub fn run(
@@ -443,18 +505,32 @@ pub fn run(
     ready_slots: usize,
     finish_slots: usize,
 ) -> Result<(Vec<u32>, Vec<u32>), Refusal> {
-    check_sheet(sheet)?;
-    check_count(n)?;
-    check_slots(kept.len(), sheet.count)?;
-    columns.check_slots(n)?;
-    check_slots(ready_slots, n)?;
-    check_slots(finish_slots, n)?;
-    check_kept(sheet, kept)?;
-    let list = columns.list(n);
-    check_releases(sheet, &list)?;
+    let list = check_run(sheet, kept, n, columns, ready_slots, finish_slots)?;
     let ready = ready_ticks(sheet, kept, &list);
     let finish = finish_ticks(&list, &ready);
-    Ok((ready.iter().map(|&t| t as u32).collect(), finish.iter().map(|&t| t as u32).collect()))
+    Ok((column(&ready), column(&finish)))
+}
+
+/// What the run that jumps answers: the columns of the run, and its stops.
+#[derive(Clone, Debug, PartialEq, Eq)]
+pub struct Jumped {
+    pub ready: Vec<u32>,
+    pub finish: Vec<u32>,
+    pub stops: u64,
+}
+
+pub fn jump(
+    sheet: &Sheet,
+    kept: &[u32],
+    n: usize,
+    columns: &Columns,
+    ready_slots: usize,
+    finish_slots: usize,
+) -> Result<Jumped, Refusal> {
+    let list = check_run(sheet, kept, n, columns, ready_slots, finish_slots)?;
+    let ready = ready_ticks(sheet, kept, &list);
+    let finish = finish_ticks_by_job(&list, &ready);
+    Ok(Jumped { ready: column(&ready), finish: column(&finish), stops: stops(&ready, &finish) })
 }
 
 /// The bytes of a sheet and a list.

@@ -41,6 +41,10 @@ static void run(void) {
     code = nolkrada_run(sheet, NUMBERS, tasks, kept, slots, releases, task, slots, tick, slots, cost, slots, ready, slots, finish,
                         slots);
 }
+static void jump(void) {
+    code = nolkrada_jump(sheet, NUMBERS, tasks, kept, slots, releases, task, slots, tick, slots, cost, slots, ready, slots, finish,
+                         slots, answer, words);
+}
 static void read_file(void) {
     code = nolkrada_read(file, bytes, sheet, numbers_lent, task, slots, tick, slots, cost, slots, answer, words);
 }
@@ -143,6 +147,7 @@ int main(void) {
     wrong += over("nolkrada_trace_check", trace_check, OTHER_LIMIT);
     wrong += over("nolkrada_ready", ready_ticks, OTHER_LIMIT);
     wrong += over("nolkrada_run", run, OTHER_LIMIT);
+    wrong += over("nolkrada_jump", jump, OTHER_LIMIT);
     wrong += over("nolkrada_read", read_file, READ_LIMIT);
     wrong += over("nolkrada_write", write_file, OTHER_LIMIT);
     wrong += over("nolkrada_load", load_text, READ_LIMIT);

@@ -1,5 +1,5 @@
 //! The reference implementation on the twelve sums and the two printed examples of document 01, 7 to 12 and the examples as document
-//! 02's R-2 has them, and on R-2's own figures.
+//! 02's R-2 has them, on R-2's own figures, and on stops of R-5 that were counted by hand.
 
 use crate::reference::*;
 
@@ -47,6 +47,13 @@ fn ready_of(p: u32, keep: u32, ticks: &[u32]) -> Vec<i64> {
     let sheet = Sheet::of(&[task(p, keep, 1, p)]);
     let list: Vec<Release> = ticks.iter().map(|&tick| Release { task: 0, tick, cost: 1 }).collect();
     ready_ticks(&sheet, &[keep], &list)
+}
+
+/// Stops of a list with these ready ticks.
+fn stops_of(list: &[(u32, u32, u32)]) -> u64 {
+    let list: Vec<Release> = list.iter().map(|&(task, tick, cost)| Release { task, tick, cost }).collect();
+    let ready: Vec<i64> = list.iter().map(|x| x.tick as i64).collect();
+    stops(&ready, &finish_ticks_by_job(&list, &ready))
 }
 
 fn choice_for(sheet: &Sheet) -> Result<(Vec<u32>, Vec<u32>), Refusal> {
@@ -120,6 +127,7 @@ pub fn check() -> usize {
         let one = [Release { task: 0, tick: 3, cost }];
         assert_eq!(finish_ticks(&one, &[3]), [4 + cost as i64]);
         assert_eq!(finish_ticks_by_tick(&one, &[3]), [4 + cost as i64]);
+        assert_eq!(finish_ticks_by_job(&one, &[3]), [4 + cost as i64]);
     }
     // the printed examples
     let list = printed_releases();
@@ -143,6 +151,17 @@ pub fn check() -> usize {
     let ready = ready_ticks(&s, &[2, 4, 0], &list);
     let at_once: Vec<i64> = finish_from(&list, &ready).iter().map(|t| t + 1).collect();
     assert_eq!(finish_ticks(&list, &ready), at_once);
-    // twelve sums, two examples, these with D 11, and three figures more
-    12 + 2 + 2 + 3
+    // stops of the printed releases: starts 1, 1, 5 and finishes 3, 5, 7
+    let finish = finish_ticks_by_job(&list, &ready);
+    assert_eq!((&ready[..], &finish[..], stops(&ready, &finish)), (&[0, 0, 4][..], &[3, 5, 7][..], 4));
+    // no release; one; one after the other of a task, the second at the finish of the first; one inside the other; two of a burst
+    assert_eq!(stops_of(&[]), 0);
+    assert_eq!(stops_of(&[(0, 3, 2)]), 2);
+    assert_eq!(stops_of(&[(0, 0, 2), (0, 2, 2)]), 3);
+    assert_eq!(stops_of(&[(1, 0, 3), (0, 1, 1)]), 4);
+    assert_eq!(stops_of(&[(1, 0, 1), (0, 0, 1)]), 3);
+    // two releases alone, at tick 0 and at the limit
+    assert_eq!(stops_of(&[(0, 0, 1), (0, MAX_TICK, 1)]), 4);
+    // twelve sums, two examples, these with D 11, three figures more, and seven of stops
+    12 + 2 + 2 + 3 + 7
 }

@@ -5,6 +5,7 @@ pub mod OrderLaws
 pub mod TableLaws
 pub mod RefusalPlaces
 pub mod SeriesLaws
+pub mod StopLaws
 pub mod SameVerdict
 pub mod TraceLaws
 pub mod SameAnswers

@@ -1,5 +1,5 @@
 -- Laws of the order of checks of a call on values: each check decides where those before it pass; and of the call's answer.
-use mathlib.Core.Path.{_≡_, refl, _∙_}
+use mathlib.Core.Path.{_≡_, refl, ap, _∙_}
 use mathlib.Core.Option.{Option, some, none}
 use mathlib.Core.List.{List, [], _∷_, _++_}
 use Prim.Native.Nat.{ℕ}
@@ -145,6 +145,10 @@ module _ {A : Type 0} (c : Inputs) (a : A) where
 pub column-kept : (r : Option Refusal) (q : Refusal) (a o : List ℕ) → some q ≡ r → o ≡ columnAfter r a o
 unfolding columnAfter
 column-kept r q a o e = rw (← e)
+
+-- .. by equal refusals
+pub column-by : (r r′ : Option Refusal) (a o x : List ℕ) → x ≡ columnAfter r a o → r ≡ r′ → x ≡ columnAfter r′ a o
+column-by r r′ a o x h e = h ∙ ap (λ q. columnAfter q a o) e
 
 -- .. and after an answer of n numbers
 pub column-written : (r : Option Refusal) (n : ℕ) (a o : List ℕ) → none ≡ r → length a ≡ n → a ++ drop n o ≡ columnAfter r a o

@@ -4,7 +4,7 @@ use mathlib.Core.Path.{_≡_, refl, sym, ap, ap₂, _∙_}
 use mathlib.Core.Logic.{_⊎_, inl, inr}
 use mathlib.Core.Bool.{Bool, true, false, not, _||_}
 use mathlib.Core.Option.{Option, some, none}
-use mathlib.Core.List.{List, [], _∷_, _++_}
+use mathlib.Core.List.{List, [], _∷_, _++_, map}
 use native.Mathlib.Omega.{arith}
 use borrow.Author.Tests.{leb-true, leb-false}
 use lib.Dec.{leb, ltb, eqb}
@@ -19,11 +19,12 @@ use Rattle.model.specs.Gap.{own}
 use Rattle.model.specs.Ready.{after, readyTicks, place, readyAt, readyList}
 use Rattle.model.specs.Legality.{earlier, tooClose, firstClose}
 use Rattle.model.specs.Run.{finishOf, finishAt, finishList}
+use Rattle.model.specs.Stops.{different, stopTicks, stopCount}
 use Rattle.model.specs.Verdict.{verdict}
 use Rattle.model.specs.Choice.{Choice, unfit, chosen, column, andKeep, isFits, worstOf, leastKeep, choiceNext, choiceOf, choice}
 use Rattle.model.specs.Refusal.{Refusal, answered, firstOf}
 use Rattle.model.specs.Checks.{Lent, Inputs, inRange, refuseAt, refuseIf, checkRanges, checkTasks, checkTask, checkCount, checkSlots, checkKept, releaseFault, checkReleases, checkChoice, refusalOf, answerOf}
-use Rattle.model.specs.Calls.{lends, releasesOf, columnAfter, taskInputs, arrivalCall, verdictCall, unfitOf, choiceInputs, keptColumn, worstColumn, listInputs, traceCall, readyInputs, runInputs}
+use Rattle.model.specs.Calls.{lends, releasesOf, columnAfter, taskInputs, arrivalCall, verdictCall, unfitOf, choiceInputs, keptColumn, worstColumn, listInputs, traceCall, readyInputs, runInputs, jumpCall}
 use Rattle.model.specs.SameTasks.{SameTasks, SameAnswers, SameTasksAnswerSame}
 use Rattle.model.proofs.SeriesLaws.{le-or-lt}
 use Rattle.model.proofs.CheckLaws.{valid-of, task-of}
@@ -197,6 +198,10 @@ module _ (s s′ : Tasks) (same : SameTasks s s′) where
         (length l))
         (ready-same k)
 
+    stop-count-same : (k : ℕ → ℕ) → stopCount s k l ≡ stopCount s′ k l
+    unfolding stopCount stopTicks
+    stop-count-same k = ap₂ (λ r f. different (map (λ x. x + 1) r ++ f)) (ready-list-same k) (finish-list-same k)
+
   -- a list that nothing refuses is such: a place past its end stands for a release of task 0, and there is a task
   known-of : (c : Inputs) → c .tasks ≡ s → none ≡ refusalOf c → (p : ℕ) → releaseAt (c .releases) p .task < s .count
   known-of c e h p = rw e at (go (le-or-lt (length (c .releases)) p))
@@ -231,7 +236,7 @@ module _ (s s′ : Tasks) (same : SameTasks s s′) where
       refusal-same none (some n) _ _ (some (column kept)) (releasesOf n task tick cost) none none (lends-same kept _) refl
 
   all-same : SameAnswers s s′
-  unfolding arrivalCall verdictCall traceCall
+  unfolding arrivalCall verdictCall traceCall jumpCall
   all-same =
       record {
         arrival = λ i kept t.
@@ -257,6 +262,10 @@ module _ (s s′ : Tasks) (same : SameTasks s s′) where
         run-finish = λ kept n task tick cost ready finish.
             column-same _ _ _ _ finish (run-refused kept n task tick cost ready finish)
             (λ e. finish-list-same (releasesOf n task tick cost) (known-of (runInputs s kept n task tick cost ready finish) refl e) (column kept));
+        jump = λ kept n task tick cost ready finish.
+            answer-same (runInputs s kept n task tick cost ready finish) (runInputs s′ kept n task tick cost ready finish) _ _
+            (run-refused kept n task tick cost ready finish)
+            (λ e. stop-count-same (releasesOf n task tick cost) (known-of (runInputs s kept n task tick cost ready finish) refl e) (column kept));
       }
 
 -- entries past the count do not matter

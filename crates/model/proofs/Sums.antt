@@ -15,6 +15,7 @@ use Rattle.model.specs.Arrival.{ceilDiv, arrivals}
 use Rattle.model.specs.Gap.{gap, own}
 use Rattle.model.specs.Ready.{after, readyNext, readyFrom, readyAt, readyList}
 use Rattle.model.specs.Run.{pending, prefer, top, pick, less, leftAt, runs, runsIn, endOf, finishOf, finishAt, finishList}
+use Rattle.model.specs.Stops.{has, different, stopTicks, stopCount}
 use Rattle.model.specs.Demand.{aboveLoad, demand, meets, window}
 use Rattle.model.specs.Bound.{maxZ, minZ, offset, bound}
 use Rattle.model.specs.Verdict.{horizon, boundOf, isLate, isLast, stops, boundAt, peak, judge, verdict}
@@ -44,7 +45,7 @@ unfolding window
 full = at-zero _ _ 1 (first-none (meets (sheet (busy ∷ busy ∷ [])) (column (0 ∷ 0 ∷ [])) 1 0) horizonTick 1 (λ m l g. never m l))
 
 pub sums : AllSums pad
-unfolding arrivals ceilDiv gap after readyNext readyFrom readyAt readyList own table window meets demand aboveLoad sum most on first verdict stops judge isLate isLast boundOf boundAt bound offset maxZ minZ peak pending prefer top pick less leftAt runs runsIn endOf finishOf finishAt finishList isFits worstOf leastKeep choiceNext choiceOf
+unfolding arrivals ceilDiv gap after readyNext readyFrom readyAt readyList own table window meets demand aboveLoad sum most on first verdict stops judge isLate isLast boundOf boundAt bound offset maxZ minZ peak pending prefer top pick less leftAt runs runsIn endOf finishOf finishAt finishList has different stopTicks stopCount isFits worstOf leastKeep choiceNext choiceOf
 sums = (
   (refl, tt),
   (
@@ -67,7 +68,7 @@ sums = (
                     (refl, tt),
                     (
                       (refl, (full, tt)),
-                      (((refl, refl), ((refl, refl), tt)), ((refl, (refl, (refl, ((refl, refl), (refl, (refl, tt)))))), tt)),
+                      (((refl, refl), ((refl, refl), tt)), ((refl, (refl, (refl, ((refl, refl), (refl, (refl, tt)))))), ((refl, (refl, (refl, (refl, (refl, (refl, tt)))))), tt))),
                     ),
                   ),
                 ),

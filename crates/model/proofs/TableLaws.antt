@@ -2,7 +2,7 @@
 use Prim.Native.Nat.{ℕ, zero, suc, _+_, _<_}
 use mathlib.Core.Path.{_≡_, refl, sym, ap, ap₂, _∙_}
 use mathlib.Core.Logic.{⊎-elim}
-use mathlib.Core.List.{[], _∷_, _++_}
+use mathlib.Core.List.{[], _∷_, _++_, map, map-append}
 use native.Mathlib.Omega.{arith}
 use native.Mathlib.Nat.{eq-or-lt-of-le}
 use lib.ListN.{length, getD, drop, length-append, List·getD-append}
@@ -34,3 +34,9 @@ pub table-agree : {A : Type 0} (f g : ℕ → A) (n : ℕ) → ((i : ℕ) → i 
 unfolding table
 table-agree f g zero h = refl
 table-agree f g (suc n) h = ap₂ (λ l t. l ++ (t ∷ [])) (table-agree f g n (λ i b. h i (omega arith))) (h n (omega arith))
+
+-- a function of each entry
+pub map-table : {A B : Type 0} (g : A → B) (f : ℕ → A) (n : ℕ) → map g (table f n) ≡ table (λ i. g (f i)) n
+unfolding table
+map-table g f zero = refl
+map-table g f (suc n) = map-append g (table f n) (f n ∷ []) ∙ ap (λ l. l ++ (g (f n) ∷ [])) (map-table g f n)

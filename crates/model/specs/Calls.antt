@@ -10,6 +10,7 @@ use Rattle.model.specs.Arrival.{arrivals}
 use Rattle.model.specs.Choice.{column, Choice, unfit, chosen, choice}
 use Rattle.model.specs.Verdict.{Verdict, verdict}
 use Rattle.model.specs.Legality.{firstClose}
+use Rattle.model.specs.Stops.{stopCount}
 use Rattle.model.specs.Refusal.{Refusal, Answer}
 use Rattle.model.specs.Checks.{Lent, Inputs, answerOf}
 
@@ -111,3 +112,8 @@ runInputs s kept n task tick cost ready finish = record {
   releases = releasesOf n task tick cost;
   unfit = none;
 }
+
+-- the run that jumps: the run's inputs, and the number of stops
+unfoldable pub jumpCall : Tasks → List ℕ → ℕ → List ℕ → List ℕ → List ℕ → List ℕ → List ℕ → Answer ℕ
+jumpCall s kept n task tick cost ready finish =
+    answerOf (runInputs s kept n task tick cost ready finish) (stopCount s (column kept) (releasesOf n task tick cost))

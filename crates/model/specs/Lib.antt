@@ -9,6 +9,7 @@ pub mod Gap
 pub mod Ready
 pub mod Legality
 pub mod Run
+pub mod Stops
 pub mod Demand
 pub mod Bound
 pub mod Verdict

@@ -9,7 +9,7 @@ use Rattle.model.specs.Ready.{readyList}
 use Rattle.model.specs.Run.{finishList}
 use Rattle.model.specs.Choice.{column, choice}
 use Rattle.model.specs.Checks.{refusalOf}
-use Rattle.model.specs.Calls.{releasesOf, columnAfter, arrivalCall, verdictCall, choiceInputs, keptColumn, worstColumn, traceCall, readyInputs, runInputs}
+use Rattle.model.specs.Calls.{releasesOf, columnAfter, arrivalCall, verdictCall, choiceInputs, keptColumn, worstColumn, traceCall, readyInputs, runInputs, jumpCall}
 
 -- the same count, and the same P, J, E and D of every task below it
 pub record SameTasks (s s′ : Tasks) : Type 0 where
@@ -57,6 +57,10 @@ pub record SameAnswers (s s′ : Tasks) : Type 0 where
       : (kept : List ℕ) (n : ℕ) (task tick cost ready finish : List ℕ)
       → columnAfter (refusalOf (runInputs s kept n task tick cost ready finish)) (finishList s (column kept) (releasesOf n task tick cost)) finish
       ≡ columnAfter (refusalOf (runInputs s′ kept n task tick cost ready finish)) (finishList s′ (column kept) (releasesOf n task tick cost)) finish
+  -- run that jumps: its columns are those of the run
+  pub jump
+      : (kept : List ℕ) (n : ℕ) (task tick cost ready finish : List ℕ)
+      → jumpCall s kept n task tick cost ready finish ≡ jumpCall s′ kept n task tick cost ready finish
 
 -- such sheets get such answers
 abbrev pub SameTasksAnswerSame : Type 0

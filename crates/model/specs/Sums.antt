@@ -11,6 +11,7 @@ use Rattle.model.specs.Arrival.{arrivals}
 use Rattle.model.specs.Gap.{gap}
 use Rattle.model.specs.Ready.{readyTicks, readyList}
 use Rattle.model.specs.Run.{finishList}
+use Rattle.model.specs.Stops.{stopCount}
 use Rattle.model.specs.Demand.{window}
 use Rattle.model.specs.Verdict.{Verdict, horizon, late, fits, stops, verdict}
 use Rattle.model.specs.Choice.{column, Choice, unfit, chosen, choice}
@@ -55,6 +56,8 @@ pub data Row : Type 0 where
   chose : List Entry → Choice → Row
   -- sheet, kept jitters and releases: ready and finish ticks of the run
   ran : List Entry → List ℕ → List Release → List ℕ → List ℕ → Row
+  -- sheet, kept jitters and releases: how often the run that jumps stops
+  halts : List Entry → List ℕ → List Release → ℕ → Row
 
 abbrev pub Holds : Row → Type 0
 Holds (counts P K ts ns) = map (arrivals P K) ts ≡ ns
@@ -65,6 +68,7 @@ Holds (judged l ks i v) = verdict (sheet l) (column ks) i ≡ v
 Holds (stopped l ks i qs bs) = map (stops (sheet l) (column ks) i) qs ≡ bs
 Holds (chose l c) = choice (sheet l) ≡ c
 Holds (ran l ks rs es fs) = (readyList (sheet l) (column ks) rs ≡ es) × (finishList (sheet l) (column ks) rs ≡ fs)
+Holds (halts l ks rs n) = stopCount (sheet l) (column ks) rs ≡ n
 
 abbrev pub AllRows : List Row → Type 0
 AllRows [] = Unit
@@ -81,12 +85,17 @@ printed d = task 6 5 2 6 ∷ task 8 7 2 8 ∷ task 10 0 2 d ∷ []
 abbrev pub busy : Entry
 busy = task 1 0 1 1
 
+-- task, tick and cost of a release
+abbrev pub release : ℕ → ℕ → ℕ → Release
+release i a c = record { task = i; tick = a; cost = c }
+
 -- the releases that document 01 prints
 abbrev pub printedReleases : List Release
-printedReleases = record { task = 0; tick = 0; cost = 2 } ∷ record { task = 2; tick = 0; cost = 2 } ∷ record { task = 0; tick = 1; cost = 2 } ∷ []
+printedReleases = release 0 0 2 ∷ release 2 0 2 ∷ release 0 1 2 ∷ []
 
 -- the sums, in document 01's order, 7 to 12 with the pickup of document 02's R-2; then R-2's own figures: the choice on the printed sheet, which ends in 15 at task 2,
--- of its tasks 0 and 1 alone and with D 11, the run with D 11, and the stop of the walk, which has no pickup: W(0) = d_K(1), W(0) = d_K(1) + 1
+-- of its tasks 0 and 1 alone and with D 11, the run with D 11, and the stop of the walk, which has no pickup: W(0) = d_K(1), W(0) = d_K(1) + 1; then stops of R-5: no release, one, two
+-- with the same ready tick, a finish that is another's ready tick plus 1, a job that another interrupts, and the printed list
 abbrev pub pad : List (List Row)
 pad =
     (counts 6 5 (0 ∷ 1 ∷ 2 ∷ 7 ∷ 8 ∷ []) (0 ∷ 1 ∷ 2 ∷ 2 ∷ 3 ∷ []) ∷ [])
@@ -106,12 +115,19 @@ pad =
     ∷ [])
     ∷ (judged (printed 10) (5 ∷ 7 ∷ 0 ∷ []) 2 (late 0 (pos 17)) ∷ [])
     ∷ (judged (busy ∷ []) (0 ∷ []) 0 (late 0 (pos 2)) ∷ judged (busy ∷ busy ∷ []) (0 ∷ 0 ∷ []) 1 (horizon 0) ∷ [])
-    ∷ (ran (printed 10) (1 ∷ 3 ∷ 0 ∷ []) [] [] [] ∷ ran (printed 10) (1 ∷ 3 ∷ 0 ∷ []) (record { task = 0; tick = 3; cost = 2 } ∷ []) (3 ∷ []) (6 ∷ []) ∷ [])
+    ∷ (ran (printed 10) (1 ∷ 3 ∷ 0 ∷ []) [] [] [] ∷ ran (printed 10) (1 ∷ 3 ∷ 0 ∷ []) (release 0 3 2 ∷ []) (3 ∷ []) (6 ∷ []) ∷ [])
     ∷ (chose (printed 10) (unfit 2)
     ∷ chose (task 6 5 2 6 ∷ task 8 7 2 8 ∷ []) (chosen (2 ∷ 4 ∷ []) (pos 6 ∷ pos 8 ∷ []))
     ∷ chose (printed 11) (chosen (2 ∷ 4 ∷ 0 ∷ []) (pos 6 ∷ pos 8 ∷ pos 11 ∷ []))
     ∷ ran (printed 11) (2 ∷ 4 ∷ 0 ∷ []) printedReleases (0 ∷ 0 ∷ 4 ∷ []) (3 ∷ 5 ∷ 7 ∷ [])
     ∷ stopped (task 1 0 1 2 ∷ []) (0 ∷ []) 0 (0 ∷ []) (true ∷ [])
     ∷ stopped (task 8 7 2 8 ∷ []) (7 ∷ []) 0 (0 ∷ 1 ∷ []) (false ∷ true ∷ [])
+    ∷ [])
+    ∷ (halts (printed 11) (2 ∷ 4 ∷ 0 ∷ []) [] 0
+    ∷ halts (printed 11) (2 ∷ 4 ∷ 0 ∷ []) (release 0 3 2 ∷ []) 2
+    ∷ halts (printed 11) (2 ∷ 4 ∷ 0 ∷ []) (release 0 0 2 ∷ release 1 0 2 ∷ []) 3
+    ∷ halts (printed 11) (2 ∷ 4 ∷ 0 ∷ []) (release 0 0 2 ∷ release 2 2 2 ∷ []) 3
+    ∷ halts (printed 11) (2 ∷ 4 ∷ 0 ∷ []) (release 2 0 2 ∷ release 0 1 2 ∷ []) 4
+    ∷ halts (printed 11) (2 ∷ 4 ∷ 0 ∷ []) printedReleases 4
     ∷ [])
     ∷ []

@@ -1,104 +1,23 @@
-// The run: in each tick, of the jobs that were ready before it and are unfinished, the highest-priority task's oldest job runs.
+// The run, tick by tick: in each tick, of the jobs that were ready before it and are unfinished, the highest-priority task's oldest job runs.
+use queues::NEVER;
+use queues::first_jobs;
+use queues::next_of;
+use queues::top_ready;
+use queues::wake_all;
 use taskset::Checked;
-use taskset::PICKUP;
 use taskset::TaskSet;
 ghost use mathlib.Core.Path.{_≡_};
 ghost use mathlib.Core.List.{_++_};
-ghost use Prim.Native.Nat.{_≤_, min};
-ghost use lib.Dec.{leb};
+ghost use Prim.Native.Nat.{_≤_};
 ghost use lib.ListN.{length, getD, drop};
 ghost use Rattle.model.specs.Series.{table};
-ghost use Rattle.model.specs.Processor.{plain};
 ghost use Rattle.model.specs.Choice.{column};
 ghost use Rattle.model.specs.Checks.{refusalOf};
 ghost use Rattle.model.specs.Ready.{readyList};
 ghost use Rattle.model.specs.Run.{finishOf, finishList};
 ghost use Rattle.model.specs.Calls.{releasesOf, columnAfter, runInputs};
 ghost use Rattle.taskset.specs.TaskSet.{viewOf, refusalIn};
-ghost use Rattle.schedule.specs.Schedule.{jobsOf, nextOf, wakeOf, topReady, wakeAll, Holds, Runnable};
-
-// A tick over every tick of 32 bits.
-const NEVER: u64 = 4294967296;
-
-// The smaller of two numbers.
-fn smaller(a: u64, b: u64) -> u64
-    ensures { λ r. ⌜ r ≡ min a b ⌝ }
-{
-    if b < a { b } else { a }
-}
-
-// The first tick in which a job may run, given its ready tick.
-fn start_of(ready: u32) -> u64
-    ensures { λ r. ⌜ r ≡ plain .start ready ⌝ }
-{
-    numbers::wide(ready) + PICKUP
-}
-
-// The first job of task i from a place on, and n where there is none.
-fn next_of(task: &[u32], n: usize, i: u32, from: usize) -> usize
-    requires { ⌜ (from ≤ n) × (n ≤ length (now task)) ⌝ }
-    ensures { λ r. ⌜ r ≡ nextOf (now (task .entry)) n i from ⌝ }
-{
-    let mut p = from;
-    while p < n {
-        if task[p] == i {
-            return p;
-        }
-        p += 1;
-    }
-    n
-}
-
-// The tick from which the job at p may run, and NEVER where p is past the list.
-fn wake_of(ready: &[u32], n: usize, p: usize) -> u64
-    requires { ⌜ n ≤ length (now ready) ⌝ }
-    ensures { λ r. ⌜ r ≡ wakeOf (now (ready .entry)) n p ⌝ }
-{
-    if p < n {
-        return start_of(ready[p]);
-    }
-    NEVER
-}
-
-// Whether the job at p may run in tick t: wake_of(ready, n, p) <= t. Written out, the test needs no sum.
-fn may_run(ready: &[u32], n: usize, p: usize, t: u64) -> bool
-    requires { ⌜ n ≤ length (now ready) ⌝ }
-    ensures { λ r. ⌜ r ≡ leb (wakeOf (now (ready .entry)) n p) t ⌝ }
-{
-    if p < n {
-        return start_of(ready[p]) <= t;
-    }
-    NEVER <= t
-}
-
-// The highest-priority task whose oldest unfinished job may run in tick t; tasks where there is none.
-fn top_ready(head: &[usize; 32], ready: &[u32], n: usize, tasks: usize, t: u64) -> usize
-    requires { ⌜ (tasks ≤ 32) × (n ≤ length (now ready)) ⌝ }
-    ensures { λ r. ⌜ r ≡ topReady (now (head .entry)) (now (ready .entry)) n tasks t ⌝ }
-{
-    let mut i = 0;
-    while i < tasks {
-        if may_run(ready, n, head[i], t) {
-            return i;
-        }
-        i += 1;
-    }
-    tasks
-}
-
-// The first tick in which the oldest unfinished job of some task may run; NEVER where every job is finished.
-fn wake_all(head: &[usize; 32], ready: &[u32], n: usize, tasks: usize) -> u64
-    requires { ⌜ (tasks ≤ 32) × (n ≤ length (now ready)) ⌝ }
-    ensures { λ r. ⌜ r ≡ wakeAll (now (head .entry)) (now (ready .entry)) n tasks ⌝ }
-{
-    let mut wake = NEVER;
-    let mut i = 0;
-    while i < tasks {
-        wake = smaller(wake, wake_of(ready, n, head[i]));
-        i += 1;
-    }
-    wake
-}
+ghost use Rattle.queues.specs.Queues.{jobsOf, Holds, Runnable};
 
 // The work that each job has before the first tick; 0 past the list.
 fn whole_work(cost: &[u32], n: usize) -> [u32; 1024]
@@ -112,20 +31,6 @@ fn whole_work(cost: &[u32], n: usize) -> [u32; 1024]
         p += 1;
     }
     left
-}
-
-// The oldest job of each task; 0 past the tasks.
-fn first_jobs(task: &[u32], n: usize, tasks: usize) -> [usize; 32]
-    requires { ⌜ (tasks ≤ 32) × (n ≤ length (now task)) ⌝ }
-    ensures { λ r. ⌜ Holds (λ i. nextOf (now (task .entry)) n i 0) tasks 32 r ⌝ }
-{
-    let mut head = [0; 32];
-    let mut i = 0;
-    while i < tasks {
-        head[i] = next_of(task, n, i as u32, 0);
-        i += 1;
-    }
-    head
 }
 
 // The finish ticks of the run of n jobs, in the first n slots of the column lent. `left` has the ticks of work that each job has left, `head`
@@ -173,13 +78,6 @@ fn fill_finish(
     }
 }
 
-// The shorter of two lengths.
-fn shorter(a: usize, b: usize) -> usize
-    ensures { λ r. ⌜ r ≡ min a b ⌝ }
-{
-    if b < a { b } else { a }
-}
-
 // The run of a list of releases with kept jitters: ready and finish ticks are written to the first slots of the two columns. A refusal
 // has document 01's number and place, and leaves both columns as they were.
 pub fn run(
@@ -210,12 +108,10 @@ pub fn run(
         (finishList (viewOf s) (column (now (kept .entry))) (releasesOf count (now (task .entry)) (now (tick .entry)) (now (cost .entry)))) (now (finish .entry))
         ⌝ }
 {
-    let slots = shorter(ready.len(), finish.len());
-    let checked = trace::check_call(s, kept, count, task, tick, cost, slots);
+    let checked = trace::check_and_shape(s, kept, count, task, tick, cost, ready, finish.len());
     let Checked::Fine = checked else {
         return checked;
     };
-    trace::fill_ready(s, kept, count, task, tick, ready);
     let tasks = s.count;
     fill_finish(task, cost, ready, count, tasks, finish);
     Checked::Fine

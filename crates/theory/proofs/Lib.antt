@@ -3,6 +3,7 @@ pub mod JobWindows
 pub mod RunLaws
 pub mod WorkLaws
 pub mod FinishLaws
+pub mod JumpLaws
 pub mod PlaceLaws
 pub mod LoadLaws
 pub mod UptoLaws

@@ -153,6 +153,39 @@ module _ (j : Jobs) where
   unfolding runs
   runs-off t e = pick-off j (leftAt j t) t e
 
+  -- in a tick of ours the job runs that may run, is unfinished and goes before every such job
+  pub runs-is : (t : ℕ)
+      → j .ours t ≡ true
+      → (p : ℕ)
+      → p < j .count
+      → j .start p ≤ t
+      → 0 < leftAt j t p
+      → ((q : ℕ) → q < j .count → j .start q ≤ t → 0 < leftAt j t q → Before (j .task) p q)
+      → runs j t ≡ some p
+  runs-is t o p a b d f = go (runs j t) refl
+    where
+      same : (x : ℕ) → Picked j (leftAt j t) t x → x ≡ p
+      same x k =
+          let u : Before (j .task) x p = k .goes-first p a b d in
+          let v : Before (j .task) p x = f x (k .in-list) (k .started) (k .unfinished) in
+          let e : j .task x ≡ j .task p = omega arith in
+          omega (arith, u .1 e, v .1 (sym e))
+
+      go : (r : Option ℕ) → runs j t ≡ r → runs j t ≡ some p
+      go none e = absurd (omega (arith, runs-none t o e p a b))
+      go (some x) e = e ∙ ap some (same x (runs-some t x e))
+
+  -- none runs where every job that may run is finished
+  pub runs-nothing : (t : ℕ) → ((q : ℕ) → q < j .count → j .start q ≤ t → leftAt j t q ≡ 0) → runs j t ≡ none
+  runs-nothing t f = go (runs j t) refl
+    where
+      never-is : (x : ℕ) → Picked j (leftAt j t) t x → ⊥
+      never-is x k = omega (arith, f x (k .in-list) (k .started), k .unfinished)
+
+      go : (r : Option ℕ) → runs j t ≡ r → runs j t ≡ none
+      go none e = e
+      go (some x) e = absurd (never-is x (runs-some t x e))
+
   -- at first a job has its whole work left
   pub left-zero : (p : ℕ) → leftAt j 0 p ≡ j .work p
   unfolding leftAt

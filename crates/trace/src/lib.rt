@@ -5,7 +5,7 @@ use taskset::Checked;
 use taskset::TaskSet;
 ghost use mathlib.Core.Path.{_≡_};
 ghost use mathlib.Core.List.{List, [], _++_};
-ghost use Prim.Native.Nat.{ℕ, _≤_, _<_};
+ghost use Prim.Native.Nat.{ℕ, _≤_, _<_, min};
 ghost use lib.ListN.{length, drop};
 ghost use Rattle.model.specs.Limits.{maxTasks};
 ghost use Rattle.model.specs.Refusal.{answered};
@@ -203,6 +203,45 @@ pub fn check_call(
     releases::check_releases(s, count, task, tick, cost)
 }
 
+// The shorter of two lengths.
+fn shorter(a: usize, b: usize) -> usize
+    ensures { λ r. ⌜ r ≡ min a b ⌝ }
+{
+    if b < a { b } else { a }
+}
+
+// The checks of a call that needs a column of ready ticks and `slots` more in another column, and where they pass the ready ticks of the
+// list with kept jitters, written to the first slots of `ready`. A refusal leaves the column as it was.
+pub fn check_and_shape(
+    s: TaskSet,
+    kept: &[u32],
+    count: usize,
+    task: &[u32],
+    tick: &[u32],
+    cost: &[u32],
+    ready: &mut [u32],
+    slots: usize,
+) -> Checked
+    ensures refusal { λ r. ⌜
+        refusalIn r
+        ≡ refusalOf (callInputs (viewOf s) (now (kept .entry)) count (now (task .entry)) (now (tick .entry)) (now (cost .entry))
+        (min (length (now (ready .entry))) slots))
+        ⌝ }
+    ensures ticks { λ r. ⌜
+        now (ready .exit)
+        ≡ columnAfter (refusalIn r)
+        (readyList (viewOf s) (column (now (kept .entry))) (releasesOf count (now (task .entry)) (now (tick .entry)) (now (cost .entry)))) (now (ready .entry))
+        ⌝ }
+{
+    let least = shorter(ready.len(), slots);
+    let checked = check_call(s, kept, count, task, tick, cost, least);
+    let Checked::Fine = checked else {
+        return checked;
+    };
+    fill_ready(s, kept, count, task, tick, ready);
+    Checked::Fine
+}
+
 // The ready ticks of a list with kept jitters, written to the first slots of `ready`, or a refusal.
 pub fn ready_ticks(
     s: TaskSet,
@@ -223,10 +262,6 @@ pub fn ready_ticks(
         (readyList (viewOf s) (column (now (kept .entry))) (releasesOf count (now (task .entry)) (now (tick .entry)) (now (cost .entry)))) (now (ready .entry))
         ⌝ }
 {
-    let checked = check_call(s, kept, count, task, tick, cost, ready.len());
-    let Checked::Fine = checked else {
-        return checked;
-    };
-    fill_ready(s, kept, count, task, tick, ready);
-    Checked::Fine
+    let slots = ready.len();
+    check_and_shape(s, kept, count, task, tick, cost, ready, slots)
 }

@@ -3,7 +3,7 @@ use Prim.Native.Nat.{_-_}
 use mathlib.Core.Path.{refl, sym, _∙_}
 use native.Mathlib.Omega.{arith}
 use denote.Ref.{now}
-use Rattle.schedule.specs.Schedule.{jobsOf, maxFinish}
+use Rattle.queues.specs.Queues.{jobsOf, maxFinish}
 use Rattle.schedule.proofs.FinishFillLaws.{Filling, Top, fill-start, fill-sleep, fill-idle, fill-top, fill-run, fill-done, fill-end}
 use Rattle.schedule.proofs.fill_finish.Statement.{statement}
 use Rattle.schedule.proofs.fill_finish.Tie as tie
@@ -40,7 +40,7 @@ wake-all-requires : tie.Need-wake-all-requires Inv-loop μ-loop
 wake-all-requires c κs = omega arith
 
 same-length : tie.Need-same-length Inv-loop μ-loop
-same-length c = c .before .before .before .before .before .before .before .loop .inv .state .finish-long
+same-length c = c .before .before .before .before .before .before .before .loop .inv .state .written .long
 
 returns : tie.Need-returns Inv-loop μ-loop
 returns c =

@@ -3,8 +3,8 @@ use Prim.Native.Nat.{_-_, _≤_}
 use mathlib.Core.Path.{_≡_, refl}
 use native.Mathlib.Omega.{arith}
 use lib.ListN.{getD}
-use Rattle.schedule.specs.Schedule.{Holds}
-use Rattle.schedule.proofs.SearchedLaws.{holds-none, holds-next}
+use Rattle.queues.specs.Queues.{Holds}
+use Rattle.queues.proofs.SearchedLaws.{holds-none, holds-next}
 use Rattle.schedule.proofs.whole_work.Statement.{statement}
 use Rattle.schedule.proofs.whole_work.Tie as tie
 

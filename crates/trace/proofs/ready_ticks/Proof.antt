@@ -1,59 +1,41 @@
--- The checks come first; the ready ticks are written where they pass.
-use mathlib.Core.Path.{_≡_, sym, ap, _∙_}
-use mathlib.Core.Option.{none}
+-- The checks with the column's own slots for the other column too, and the ready ticks.
+use Prim.Native.Nat.{ℕ, min}
+use mathlib.Core.Path.{_≡_, ap, _∙_}
+use native.Mathlib.Omega.{arith}
 use lib.ListN.{length}
 use Rattle.model.specs.Checks.{refusalOf}
 use Rattle.taskset.specs.TaskSet.{viewOf, refusalIn}
 use Rattle.trace.specs.TraceCalls.{callInputs}
-use Rattle.model.proofs.OrderLaws.{column-kept}
-use Rattle.trace.proofs.ListCallLaws.{listed-shapable, callable-of, ready-written}
+use Rattle.model.proofs.OrderLaws.{column-by}
 use borrow.Author.Needs.{needs}
 use Rattle.trace.proofs.ready_ticks.Statement.{statement}
 use Rattle.trace.proofs.ready_ticks.Tie as tie
 
-call-fine
-    : (c : tie.After-enum-told)
-    → let a = c .before .before .before .before .before .before .before .before .args in
-    none ≡ refusalOf (callInputs (viewOf (a .s)) (a .kept .now) (a .count) (a .task .now) (a .tick .now) (a .cost .now) (length (a .ready .now)))
-call-fine c = sym (ap refusalIn (c .enum-told .given .1)) ∙ c .before .before .check-call .ensures
+-- the shorter of a length and itself
+twice : (n : ℕ) → min n n ≡ n
+twice n = omega arith
 
-check-call-requires : tie.Need-check-call-requires
-check-call-requires c κs = search needs
+-- what the checks found
+checks : (c : tie.After-check-and-shape)
+    → let a = c .before .before .before .before .before .before .before .args in
+    refusalIn (c .check-and-shape .result)
+    ≡ refusalOf (callInputs (viewOf (a .s)) (a .kept .now) (a .count) (a .task .now) (a .tick .now) (a .cost .now) (length (a .ready .now)))
+checks c =
+    let a = c .before .before .before .before .before .before .before .args in
+    c .check-and-shape .ensures .0
+    ∙ ap (λ x. refusalOf (callInputs (viewOf (a .s)) (a .kept .now) (a .count) (a .task .now) (a .tick .now) (a .cost .now) x)) (twice (length (a .ready .now)))
 
-enum-told : tie.Need-enum-told
-enum-told c = search needs
-
-enum-told-2 : tie.Need-enum-told-2
-enum-told-2 c = search needs
-
-returns : tie.Need-returns
-returns c =
-    let e = sym (ap refusalIn (c .enum-told2 .given .1)) ∙ c .before .before .check-call .ensures in rw (c .enum-told2 .given .1) (e, column-kept _ _ _ _ e)
-
-fill-ready-requires : tie.Need-fill-ready-requires
-fill-ready-requires c κs =
-    let a = c .before .before .before .before .before .before .before .before .before .args in
-    let g = callable-of (viewOf (a .s)) (a .kept .now) (a .count) (a .task .now) (a .tick .now) (a .cost .now) (length (a .ready .now)) (call-fine (c .before)) in
-    (listed-shapable _ _ _ _ _ (g .listed), g .kept-long, g .slots-long)
+check-and-shape-requires : tie.Need-check-and-shape-requires
+check-and-shape-requires c κs = search needs
 
 same-length : tie.Need-same-length
 same-length c = search needs
 
-returns-2 : tie.Need-returns-2
-returns-2 c = (
-  call-fine (c .before .before .before .before),
-  ready-written _ _ _ _ _ _ _ _ _ (call-fine (c .before .before .before .before))
-      (c .before .before .fill-ready .ensures _),
+returns : tie.Need-returns
+returns c = (
+  checks (c .before .before),
+  column-by _ _ _ _ _ (c .before .before .check-and-shape .ensures .1) (checks (c .before .before)),
 )
 
 pub ready-ticks-spec : {M : Type 1} → statement M
-ready-ticks-spec =
-    tie.close
-    (tie.spec
-    check-call-requires
-    enum-told
-    enum-told-2
-    returns
-    fill-ready-requires
-    same-length
-    returns-2)
+ready-ticks-spec = tie.close (tie.spec check-and-shape-requires same-length returns)

@@ -1,0 +1,320 @@
+-- The state of the run that jumps from moment to moment: oldest unfinished jobs and their work left, the next start tick, the finish ticks written so far,
+-- and the stops made so far.
+use Prim.Native.Nat.{ℕ, suc, _+_, _-_, _*_, _≤_, _<_}
+use mathlib.Core.Path.{_≡_, refl, sym, ap, ap₂, _∙_}
+use mathlib.Core.Logic.{_⊎_, inl, inr}
+use mathlib.Core.Bool.{true}
+use mathlib.Core.List.{List, _++_}
+use native.Mathlib.Omega.{arith}
+use lib.ListN.{length, getD, set, drop, replicate, length-set, length-append}
+use lib.Seq.{getD-set-same, getD-set-other}
+use Rattle.model.specs.Series.{table}
+use Rattle.model.specs.Stops.{has, different}
+use Rattle.model.specs.Run.{Jobs, leftAt, finishOf}
+use Rattle.model.proofs.SeriesLaws.{le-by}
+use Rattle.model.proofs.TableLaws.{length-table}
+use Rattle.model.proofs.StopLaws.{has-append, has-behind, has-either, has-table, table-has, below, below-none, below-next, below-all, below-le}
+use Rattle.theory.proofs.WorkLaws.{supply-all}
+use Rattle.theory.proofs.RunLaws.{left-zero}
+use Rattle.theory.proofs.FinishLaws.{finish-by, finish-done, finish-late}
+use Rattle.theory.proofs.JumpLaws.{same-or, Keeps, Rests, NoStart, left-rests, left-keeps, left-others, rests, keeps, finish-keeps, finish-soonest, rests-none, keeps-only}
+use Rattle.queues.specs.Queues.{jobsOf, maxFinish, nextOf, topReady, never, Holds, Runnable}
+use Rattle.queues.proofs.HeadLaws.{Ordered, Heads, May, start-soon, head-first, head-none, all-finished, heads-rest, heads-run, heads-done, next-whole}
+use Rattle.queues.proofs.ColumnLaws.{ordered, heads-start, none-above, none-found, one-found}
+use Rattle.queues.proofs.FinishColumnLaws.{Written, written-start, written-rest, written-run, written-done, written-end}
+use Rattle.jumps.specs.Jumps.{stopsOf, workOf, Queued, Next, Waking}
+use Rattle.jumps.proofs.WakeLaws.{work-in, awake-start, waking-later}
+
+-- what holds at tick t, a stop or the beginning. The column of finish ticks held `held`
+pub record Moment (n tasks : ℕ) (task cost ready held : List ℕ) (t wake stops : ℕ) (head left coming finish : List ℕ) : Type 0 where
+  pub can : Runnable n tasks task cost ready held
+  pub heads : Heads (jobsOf n task cost ready) tasks t head
+  pub left-long : length left ≡ 32
+  pub left-is : (i : ℕ) → i < tasks → getD head i 0 < n → getD left i 0 ≡ leftAt (jobsOf n task cost ready) t (getD head i 0)
+  pub waking : Waking n tasks task ready t wake coming
+  pub written : Written (jobsOf n task cost ready) t finish held
+  pub counted : stops ≡ below (stopsOf (jobsOf n task cost ready)) (suc t)
+  pub time : t ≤ maxFinish
+
+-- the job that runs from t on: the oldest unfinished one of task i. It ends at `end` at the earliest
+pub record Front (n tasks t : ℕ) (head left : List ℕ) (i end : ℕ) : Type 0 where
+  pub task-in : i < tasks
+  pub inside : getD head i 0 < n
+  pub some-left : 1 ≤ getD left i 0
+  pub end-is : end ≡ t + getD left i 0
+  pub end-soon : end ≤ maxFinish
+
+module _ (n tasks : ℕ) (task cost ready held : List ℕ) (r : Runnable n tasks task cost ready held) where
+  abbrev j : Jobs
+  j = jobsOf n task cost ready
+
+  order : Ordered j tasks
+  order = ordered n tasks task cost ready held r
+
+  pub queued : Queued n tasks task ready
+  queued = record { few-tasks = r .few-tasks; task-long = r .task-long; ready-long = r .ready-long; known = r .known; in-order = r .in-order }
+
+  -- a stop is a start tick or a finish tick
+  start-stop : (p : ℕ) → p < n → has (stopsOf j) (j .start p) ≡ true
+  start-stop p a = has-append (table (j .start) n) (table (finishOf j) n) (j .start p) (has-table (j .start) n p a)
+
+  finish-stop : (p : ℕ) → p < n → has (stopsOf j) (finishOf j p) ≡ true
+  finish-stop p a = has-behind (table (j .start) n) (table (finishOf j) n) (finishOf j p) (has-table (finishOf j) n p a)
+
+  stop-is : (x : ℕ) → has (stopsOf j) x ≡ true → ((p : ℕ) × (p < n) × (j .start p ≡ x)) ⊎ ((p : ℕ) × (p < n) × (finishOf j p ≡ x))
+  stop-is x h = go (has-either (table (j .start) n) (table (finishOf j) n) x h)
+    where
+      go : (has (table (j .start) n) x ≡ true) ⊎ (has (table (finishOf j) n) x ≡ true)
+          → ((p : ℕ) × (p < n) × (j .start p ≡ x)) ⊎ ((p : ℕ) × (p < n) × (finishOf j p ≡ x))
+      go (inl g) = inl (table-has (j .start) n x g)
+      go (inr g) = inr (table-has (finishOf j) n x g)
+
+  -- by what holds of both
+  stop-by : (x : ℕ) (A : Type 0)
+      → has (stopsOf j) x ≡ true
+      → ((p : ℕ) → p < n → j .start p ≡ x → A)
+      → ((p : ℕ) → p < n → finishOf j p ≡ x → A)
+      → A
+  stop-by x A h f g = go (stop-is x h)
+    where
+      go : ((p : ℕ) × (p < n) × (j .start p ≡ x)) ⊎ ((p : ℕ) × (p < n) × (finishOf j p ≡ x)) → A
+      go (inl (p, a, e)) = f p a e
+      go (inr (p, a, e)) = g p a e
+
+  stop-soon : (x : ℕ) → has (stopsOf j) x ≡ true → x < suc maxFinish
+  stop-soon x h = stop-by x (x < suc maxFinish) h (λ p a e. omega (arith, start-soon j tasks order p a)) (λ p a e. omega (arith, r .finish-high p a))
+
+  -- there are at most two for each job
+  pub stops-few : (t : ℕ) → t ≤ maxFinish → below (stopsOf j) (suc t) ≤ 2 * n
+  stops-few t h =
+      omega (
+        arith,
+        below-le (stopsOf j) (suc t) (suc maxFinish) (omega arith) stop-soon,
+        length-append (table (j .start) n) (table (finishOf j) n),
+        length-table (j .start) n,
+        length-table (finishOf j) n,
+      )
+
+  -- the state before the first tick
+  pub moment-start : (head left : List ℕ)
+      → Holds (λ i. nextOf task n i 0) tasks 32 head
+      → Holds (λ i. workOf cost n (getD head i 0)) tasks 32 left
+      → Moment n tasks task cost ready held 0 0 0 head left (replicate 32 0) held
+  moment-start head left a b =
+      record {
+        can = r;
+        heads = heads-start n tasks task cost ready held r head a;
+        left-long = b .long;
+        left-is = λ i l g. b .each i l ∙ work-in cost n (getD head i 0) g ∙ sym (left-zero j (getD head i 0));
+        waking = record { awake = awake-start n tasks task ready (r .few-tasks); next = λ l. absurd (omega arith) };
+        written = written-start j held (r .finish-long) (r .cost-low);
+        counted = sym (below-none (stopsOf j) 1 (λ x l h. stop-by x ⊥ h (λ p g e. omega arith) (λ p g e. omega (arith, finish-late j (order .all) p g (r .cost-low p g)))));
+        time = omega arith;
+      }
+
+  -- a moment at which the next start tick after it is known, and the search for the job that runs was made
+  module _ (t wake stops : ℕ) (head left coming finish : List ℕ) (s : Moment n tasks task cost ready held t wake stops head left coming finish) (new : ℕ)
+      (later : List ℕ) (w : Waking n tasks task ready t new later) (ahead : t < new) (i : ℕ) (e : i ≡ topReady head ready n tasks t) where
+    no-start : (k : ℕ) → t + k ≤ new → NoStart j t k
+    no-start k l q a b = omega (arith, w .next ahead .low q a (r .known q a) b)
+
+    -- one stop more, at the first start tick or finish after t
+    one-more : (u : ℕ) → t < u → u ≤ new → has (stopsOf j) u ≡ true → ((q : ℕ) → q < n → t < finishOf j q → finishOf j q < u → ⊥)
+        → stops + 1 ≡ below (stopsOf j) (suc u)
+    one-more u a b h f =
+        omega (
+          arith,
+          s .counted,
+          below-next (stopsOf j) (suc t) u a
+              (λ x l g y. stop-by x ⊥ y (λ p d z. omega (arith, no-start (new - t) (omega arith) p d (omega arith))) (λ p d z. f p d (omega arith) (omega arith)))
+              h,
+        )
+
+    -- a start tick after t that is not never
+    new-stop : (new ≡ never → ⊥) → (has (stopsOf j) new ≡ true) × (new ≤ maxFinish)
+    new-stop h = go (w .next ahead .real)
+      where
+        go : (new ≡ never) ⊎ ((q : ℕ) × (q < n) × (t < j .start q) × (j .start q ≡ new)) → (has (stopsOf j) new ≡ true) × (new ≤ maxFinish)
+        go (inl x) = absurd (h x)
+        go (inr (q, a, b, x)) = (rw x at (start-stop q a), omega (arith, start-soon j tasks order q a))
+
+    later-waking : (u : ℕ) → t ≤ u → Waking n tasks task ready u new later
+    later-waking u h = waking-later n tasks task ready t u new later h ahead w
+
+    -- no job may run: on to the next start tick
+    pub moment-wait : i ≡ tasks → (new ≡ never → ⊥) → Moment n tasks task cost ready held new new (stops + 1) head left later finish
+    moment-wait g h =
+        record {
+          can = r;
+          heads = heads-rest j tasks order t head (s .heads) new same;
+          left-long = s .left-long;
+          left-is = λ k l d. s .left-is k l d ∙ sym (same (getD head k 0));
+          waking = later-waking new (omega arith);
+          written = written-rest j t finish held (s .written) new same;
+          counted = one-more new ahead (omega arith) (new-stop h .0) (λ q a b d. rests-none j (order .all) t q (new - t) a (r .cost-low q a) rest b (omega arith));
+          time = new-stop h .1;
+        }
+      where
+        to : t + (new - t) ≡ new
+        to = omega arith
+
+        rest : Rests j t (new - t)
+        rest =
+            rests j t (new - t) (no-start (new - t) (omega arith))
+            (head-none j tasks order t head (s .heads) (none-found n tasks task cost ready head t (s .time) i e g))
+
+        same : (q : ℕ) → leftAt j new q ≡ leftAt j t q
+        same q = rw to at (left-rests j t (new - t) rest q)
+
+    -- every job is finished
+    module _ (g : i ≡ tasks) (h : new ≡ never) where
+      no-later : (p : ℕ) → p < n → j .start p ≤ t
+      no-later p a = le-by (j .start p) t (λ b. omega (arith, w .next ahead .low p a (r .known p a) b, start-soon j tasks order p a))
+
+      done : (p : ℕ) → p < n → leftAt j t p ≡ 0
+      done p a = head-none j tasks order t head (s .heads) (none-found n tasks task cost ready head t (s .time) i e g) p a (no-later p a)
+
+      pub moment-end : (finish ≡ table (finishOf j) n ++ drop n held) × (stops ≡ different (stopsOf j))
+      moment-end = (
+        written-end j t finish held (s .written) done,
+        s .counted
+            ∙ below-all (stopsOf j) (suc t)
+            (λ x y. stop-by x (x < suc t) y (λ p a z. omega (arith, no-later p a))
+            (λ p a z. omega (arith, finish-by j (order .all) p a (r .cost-low p a) t (done p a)))),
+      )
+
+    -- some job may run
+    module _ (g : i ≡ tasks → ⊥) where
+      found : (i < tasks) × May j t head i
+      found = one-found n tasks task cost ready head t (s .time) i e g
+
+      unfinished : 0 < leftAt j t (getD head i 0)
+      unfinished = s .heads .unfinished i (found .0) (found .1 .0)
+
+      is-left : getD left i 0 ≡ leftAt j t (getD head i 0)
+      is-left = s .left-is i (found .0) (found .1 .0)
+
+      -- it keeps the processor up to the next start tick, while it has work left
+      kept : (k : ℕ) → t + k ≤ new → k ≤ getD left i 0 → Keeps j t (getD head i 0) k
+      kept k a b =
+          keeps j t (getD head i 0) (found .1 .0) (found .1 .1)
+          (head-first j tasks order t head (s .heads) i (found .0) (found .1) (none-above n tasks task cost ready head t (s .time) i e))
+          k (no-start k a) (omega (arith, supply-all j t (order .all) k, is-left))
+
+      -- the oldest unfinished job of another task is another
+      apart : (k : ℕ) → k < tasks → getD head k 0 < n → (k ≡ i → ⊥) → getD head k 0 ≡ getD head i 0 → ⊥
+      apart k l d m y = m (sym (s .heads .own k l d) ∙ ap (j .task) y ∙ s .heads .own i (found .0) (found .1 .0))
+
+      pub front : (end : ℕ) → end ≡ t + getD left i 0 → Front n tasks t head left i end
+      front end x =
+          record {
+            task-in = found .0;
+            inside = found .1 .0;
+            some-left = omega (arith, is-left, unfinished);
+            end-is = x;
+            end-soon = omega (
+              arith,
+              is-left,
+              finish-soonest j (order .all) t (getD head i 0) (found .1 .0) (r .cost-low (getD head i 0) (found .1 .0)) unfinished,
+              r .finish-high (getD head i 0) (found .1 .0),
+            );
+          }
+
+      -- another job starts before it ends
+      pub moment-cut : (end : ℕ) → end ≡ t + getD left i 0 → new < end
+          → Moment n tasks task cost ready held new new (stops + 1) head (set left i (end - new)) later finish
+      moment-cut end x b =
+          record {
+            can = r;
+            heads = heads-run j tasks order t head (s .heads) new i (getD head i 0) (found .0) refl (found .1 .0) other (omega (arith, rest));
+            left-long = length-set left i (end - new) ∙ s .left-long;
+            left-is = λ k l d. is k l d (same-or k i);
+            waking = later-waking new (omega arith);
+            written = written-run j t finish held (s .written) new (getD head i 0) other (omega (arith, rest));
+            counted = one-more new ahead (omega arith) (new-stop not-never .0) none-ends;
+            time = new-stop not-never .1;
+          }
+        where
+          to : t + (new - t) ≡ new
+          to = omega arith
+
+          not-never : new ≡ never → ⊥
+          not-never y = omega (arith, front end x .end-soon)
+
+          long : Keeps j t (getD head i 0) (new - t)
+          long = kept (new - t) (omega arith) (omega arith)
+
+          other : (q : ℕ) → (q ≡ getD head i 0 → ⊥) → leftAt j new q ≡ leftAt j t q
+          other q m = rw to at (left-others j t (getD head i 0) (new - t) long q m)
+
+          -- what it has left at the next start tick
+          rest : leftAt j new (getD head i 0) ≡ end - new
+          rest =
+              let a : leftAt j new (getD head i 0) + (new - t) ≡ leftAt j t (getD head i 0) =
+                  rw (to, supply-all j t (order .all) (new - t)) at (left-keeps j t (getD head i 0) (new - t) long)
+              in
+              omega (arith, is-left)
+
+          is : (k : ℕ) → k < tasks → getD head k 0 < n → (k ≡ i) ⊎ (k ≡ i → ⊥) → getD (set left i (end - new)) k 0 ≡ leftAt j new (getD head k 0)
+          is k l d (inl y) = rw y (getD-set-same left i (end - new) 0 (omega (arith, s .left-long, found .0, r .few-tasks)) ∙ sym rest)
+          is k l d (inr m) = getD-set-other left i k (end - new) 0 m ∙ s .left-is k l d ∙ sym (other (getD head k 0) (apart k l d m))
+
+          -- it does not finish before, nor does another
+          none-ends : (q : ℕ) → q < n → t < finishOf j q → finishOf j q < new → ⊥
+          none-ends q a c d =
+              let y : q ≡ getD head i 0 = keeps-only j (order .all) t (getD head i 0) q (new - t) a (r .cost-low q a) long c (omega arith) in
+              let z : leftAt j new q ≡ 0 = finish-done j (order .all) q a (r .cost-low q a) new (omega arith) in
+              omega (arith, rest, ap (leftAt j new) y)
+
+      -- it ends before another starts, or when it does
+      pub moment-done : (end next work : ℕ)
+          → end ≡ t + getD left i 0
+          → end ≤ new
+          → next ≡ nextOf task n i (getD head i 0 + 1)
+          → work ≡ workOf cost n next
+          → Moment n tasks task cost ready held end new (stops + 1) (set head i next) (set left i work) later (set finish (getD head i 0) end)
+      moment-done end next work x b f c =
+          record {
+            can = r;
+            heads = heads-done j tasks order t head (s .heads) end i (getD head i 0) (found .0) refl (found .1 .0) other gone next f;
+            left-long = length-set left i work ∙ s .left-long;
+            left-is = λ k l. is k l (same-or k i);
+            waking = later-waking end (omega arith);
+            written = written-done j t finish held (s .written) end (getD head i 0) other (found .1 .0) ends;
+            counted = one-more end (omega (arith, is-left, unfinished)) b (rw ends at (finish-stop (getD head i 0) (found .1 .0))) none-ends;
+            time = front end x .end-soon;
+          }
+        where
+          to : t + getD left i 0 ≡ end
+          to = sym x
+
+          long : Keeps j t (getD head i 0) (getD left i 0)
+          long = kept (getD left i 0) (omega arith) (omega arith)
+
+          other : (q : ℕ) → (q ≡ getD head i 0 → ⊥) → leftAt j end q ≡ leftAt j t q
+          other q m = rw to at (left-others j t (getD head i 0) (getD left i 0) long q m)
+
+          ends : finishOf j (getD head i 0) ≡ end
+          ends =
+              finish-keeps j (order .all) t (getD head i 0) (getD left i 0) (found .1 .0) (r .cost-low (getD head i 0) (found .1 .0))
+              (omega (arith, is-left, unfinished))
+              long
+              (sym is-left)
+              ∙ to
+
+          gone : leftAt j end (getD head i 0) ≡ 0
+          gone = finish-done j (order .all) (getD head i 0) (found .1 .0) (r .cost-low (getD head i 0) (found .1 .0)) end (omega (arith, ends))
+
+          is : (k : ℕ) → k < tasks → (k ≡ i) ⊎ (k ≡ i → ⊥) → getD (set head i next) k 0 < n → getD (set left i work) k 0 ≡ leftAt j end (getD (set head i next) k 0)
+          is k l (inl y) =
+              rw (y, getD-set-same head i next 0 (omega (arith, s .heads .long, found .0, r .few-tasks)))
+              (λ d. getD-set-same left i work 0 (omega (arith, s .left-long, found .0, r .few-tasks)) ∙ c ∙ work-in cost n next d
+              ∙ sym (next-whole j tasks order t head (s .heads) end i (getD head i 0) (found .0) refl (found .1 .0) other gone next f d))
+          is k l (inr m) =
+              rw (getD-set-other head i k next 0 m)
+              (λ d. getD-set-other left i k work 0 m ∙ s .left-is k l d ∙ sym (other (getD head k 0) (apart k l d m)))
+
+          none-ends : (q : ℕ) → q < n → t < finishOf j q → finishOf j q < end → ⊥
+          none-ends q a b d =
+              let y : q ≡ getD head i 0 = keeps-only j (order .all) t (getD head i 0) q (getD left i 0) a (r .cost-low q a) long b (omega arith) in
+              omega (arith, ends, ap (finishOf j) y)

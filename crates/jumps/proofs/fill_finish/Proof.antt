@@ -1,0 +1,230 @@
+-- Each turn begins at a moment: the state of the run at its tick. The next moment is later, and none is after the largest finish tick.
+use Prim.Native.Nat.{_+_, _-_, _≤_}
+use mathlib.Core.Path.{refl, sym, ap}
+use native.Mathlib.Omega.{arith}
+use borrow.Author.Needs.{needs}
+use lib.ListN.{getD}
+use Rattle.queues.specs.Queues.{maxFinish}
+use Rattle.jumps.proofs.MomentLaws.{Moment, Front, queued, stops-few, moment-start, moment-wait, moment-cut, moment-done, moment-end, front}
+use Rattle.jumps.proofs.fill_finish.Statement.{statement}
+use Rattle.jumps.proofs.fill_finish.Tie as tie
+
+abbrev Inv-loop : tie.InvT-loop
+Inv-loop task cost ready n tasks finish₀ head₀ left₀ coming₀ wake₀ t₀ stops₀ finish head left coming wake t stops =
+    Moment n tasks task cost ready finish₀ t wake stops head left coming finish
+
+abbrev μ-loop : tie.MeasureT-loop
+μ-loop task cost ready n tasks finish₀ head₀ left₀ coming₀ wake₀ t₀ stops₀ finish head left coming wake t stops = maxFinish - t
+
+first-jobs-requires : tie.Need-first-jobs-requires Inv-loop μ-loop
+first-jobs-requires c κs = omega arith
+
+first-work-requires : tie.Need-first-work-requires Inv-loop μ-loop
+first-work-requires c κs = omega arith
+
+loop-holds : tie.Need-loop-holds Inv-loop μ-loop
+loop-holds c =
+    moment-start _ _ _ _ _ _ (c .before .before .before .before .before .before .before .pre) _ _ (c .before .before .first-jobs .ensures) (c .first-work .ensures)
+
+slice-aggregate-next-wake : tie.Need-slice-aggregate-next-wake Inv-loop μ-loop
+slice-aggregate-next-wake c = sym (c .before .loop .inv .waking .awake .long)
+
+next-wake-requires : tie.Need-next-wake-requires Inv-loop μ-loop
+next-wake-requires c κs =
+    let m = c .before .loop .inv in
+    (queued _ _ _ _ _ _ (m .can), m .waking, omega (arith, m .time))
+
+top-ready-requires : tie.Need-top-ready-requires Inv-loop μ-loop
+top-ready-requires c κs = let m = c .before .before .before .before .loop .inv in (m .can .few-tasks, m .can .ready-long)
+
+-- the state at the head of the turn in which the next start tick and the job that runs were found
+abbrev at : tie.After-top-ready Inv-loop μ-loop → tie.At-loop Inv-loop μ-loop
+at c = c .before .before .before .before .before
+
+-- the stops fit
+room : (c : tie.After-top-ready Inv-loop μ-loop) → at c .loop .stops ≤ 2048
+room c =
+    let m = at c .loop .inv in
+    omega (arith, m .counted, stops-few _ _ _ _ _ _ (m .can) (at c .loop .t) (m .time), m .can .few)
+
+same-length : tie.Need-same-length Inv-loop μ-loop
+same-length c = at (c .before .before) .loop .inv .written .long
+
+returns : tie.Need-returns Inv-loop μ-loop
+returns c =
+    let b = c .before .before in
+    let m = at b .loop .inv in
+    let w = b .before .before .before .next-wake .ensures in
+    moment-end _ _ _ _ _ _ (m .can) _ _ _ _ _ _ _ m _ _ (w .0) (w .1) _ (b .top-ready .ensures) (c .before .if1 .taken) (c .if2 .taken)
+
+add-stops : tie.Need-add-stops Inv-loop μ-loop
+add-stops c = omega (arith, room (c .before .before))
+
+loop-again : tie.Need-loop-again Inv-loop μ-loop
+loop-again c =
+    let b = c .before .before in
+    let m = at b .loop .inv in
+    let w = b .before .before .before .next-wake .ensures in
+    moment-wait _ _ _ _ _ _ (m .can) _ _ _ _ _ _ _ m _ _ (w .0) (w .1) _ (b .top-ready .ensures) (c .before .if1 .taken) (c .if2 .left)
+
+loop-less : tie.Need-loop-less Inv-loop μ-loop
+loop-less c = omega (arith, loop-again c .time, c .before .before .before .before .before .next-wake .ensures .1)
+
+-- some job may run: which, and when it ends at the earliest
+found : (c : tie.Else1 Inv-loop μ-loop)
+    → let b = at (c .before) in
+    let a = b .before .before .before .before .before .before .before .before .args in
+    Front (a .n) (a .tasks) (b .loop .t) (b .loop .head) (b .loop .left) (c .before .top-ready .result)
+    (b .loop .t + getD (b .loop .left) (c .before .top-ready .result) 0)
+found c =
+    let b = c .before in
+    let m = at b .loop .inv in
+    let w = b .before .before .before .next-wake .ensures in
+    front _ _ _ _ _ _ (m .can) _ _ _ _ _ _ _ m _ _ (w .0) (w .1) _ (b .top-ready .ensures) (c .if1 .left) _ refl
+
+mul-wide : tie.Need-mul-wide Inv-loop μ-loop
+mul-wide c = omega (arith, found c, at (c .before) .loop .inv .can .few-tasks)
+
+array-read-wide : tie.Need-array-read-wide Inv-loop μ-loop
+array-read-wide c = omega (arith, found c, at (c .before) .loop .inv .can .few-tasks)
+
+wide-requires : tie.Need-wide-requires Inv-loop μ-loop
+wide-requires c κs = search needs
+
+add-end : tie.Need-add-end Inv-loop μ-loop
+add-end c = omega (arith, found (c .before), c .wide .ensures)
+
+sub-left : tie.Need-sub-left Inv-loop μ-loop
+sub-left c = omega (arith, c .if3 .taken)
+
+cast-left : tie.Need-cast-left Inv-loop μ-loop
+cast-left c = omega (arith, found (c .before .before), c .before .wide .ensures)
+
+mul-left : tie.Need-mul-left Inv-loop μ-loop
+mul-left c = omega (arith, found (c .before .before), at (c .before .before .before) .loop .inv .can .few-tasks)
+
+array-write-left : tie.Need-array-write-left Inv-loop μ-loop
+array-write-left c = omega (arith, found (c .before .before), at (c .before .before .before) .loop .inv .can .few-tasks)
+
+add-stops-2 : tie.Need-add-stops-2 Inv-loop μ-loop
+add-stops-2 c = omega (arith, room (c .before .before .before))
+
+loop-again-2 : tie.Need-loop-again-2 Inv-loop μ-loop
+loop-again-2 c =
+    let d = c .before .before in
+    let b = d .before in
+    let m = at b .loop .inv in
+    let w = b .before .before .before .next-wake .ensures in
+    moment-cut _ _ _ _ _ _ (m .can) _ _ _ _ _ _ _ m _ _ (w .0) (w .1) _ (b .top-ready .ensures) (d .if1 .left) _
+    (ap (λ x. at b .loop .t + x) (c .before .wide .ensures))
+    (c .if3 .taken)
+
+loop-less-2 : tie.Need-loop-less-2 Inv-loop μ-loop
+loop-less-2 c = omega (arith, loop-again-2 c .time, c .before .before .before .before .before .before .next-wake .ensures .1)
+
+mul-p : tie.Need-mul-p Inv-loop μ-loop
+mul-p c = omega (arith, found (c .before .before), at (c .before .before .before) .loop .inv .can .few-tasks)
+
+array-read-p : tie.Need-array-read-p Inv-loop μ-loop
+array-read-p c = omega (arith, found (c .before .before), at (c .before .before .before) .loop .inv .can .few-tasks)
+
+cast-finish : tie.Need-cast-finish Inv-loop μ-loop
+cast-finish c = omega (arith, found (c .before .before), c .before .wide .ensures)
+
+mul-finish : tie.Need-mul-finish Inv-loop μ-loop
+mul-finish c = omega (arith, found (c .before .before), at (c .before .before .before) .loop .inv .can .few)
+
+slice-write-finish : tie.Need-slice-write-finish Inv-loop μ-loop
+slice-write-finish c =
+    let m = at (c .before .before .before) .loop .inv in
+    omega (arith, found (c .before .before), m .written .long, m .written .enough)
+
+cast-next-of : tie.Need-cast-next-of Inv-loop μ-loop
+cast-next-of c = omega (arith, found (c .before .before), at (c .before .before .before) .loop .inv .can .few-tasks)
+
+add-next-of : tie.Need-add-next-of Inv-loop μ-loop
+add-next-of c = omega (arith, found (c .before .before), at (c .before .before .before) .loop .inv .can .few)
+
+next-of-requires : tie.Need-next-of-requires Inv-loop μ-loop
+next-of-requires c κs =
+    let m = at (c .before .before .before) .loop .inv in
+    omega (arith, found (c .before .before), m .can .task-long)
+
+mul-head : tie.Need-mul-head Inv-loop μ-loop
+mul-head c = omega (arith, found (c .before .before .before), at (c .before .before .before .before) .loop .inv .can .few-tasks)
+
+array-write-head : tie.Need-array-write-head Inv-loop μ-loop
+array-write-head c = omega (arith, found (c .before .before .before), at (c .before .before .before .before) .loop .inv .can .few-tasks)
+
+work-of-requires : tie.Need-work-of-requires Inv-loop μ-loop
+work-of-requires c κs = at (c .before .before .before .before) .loop .inv .can .cost-long
+
+mul-left-2 : tie.Need-mul-left-2 Inv-loop μ-loop
+mul-left-2 c = omega (arith, found (c .before .before .before .before), at (c .before .before .before .before .before) .loop .inv .can .few-tasks)
+
+array-write-left-2 : tie.Need-array-write-left-2 Inv-loop μ-loop
+array-write-left-2 c = omega (arith, found (c .before .before .before .before), at (c .before .before .before .before .before) .loop .inv .can .few-tasks)
+
+add-stops-3 : tie.Need-add-stops-3 Inv-loop μ-loop
+add-stops-3 c = omega (arith, room (c .before .before .before .before .before))
+
+loop-again-3 : tie.Need-loop-again-3 Inv-loop μ-loop
+loop-again-3 c =
+    let f = c .before .before in
+    let d = f .before .before in
+    let b = d .before in
+    let m = at b .loop .inv in
+    let w = b .before .before .before .next-wake .ensures in
+    moment-done _ _ _ _ _ _ (m .can) _ _ _ _ _ _ _ m _ _ (w .0) (w .1) _ (b .top-ready .ensures) (d .if1 .left) _ _ _
+    (ap (λ x. at b .loop .t + x) (f .before .wide .ensures))
+    (f .if3 .left)
+    (c .before .next-of .ensures)
+    (c .work-of .ensures)
+
+loop-less-3 : tie.Need-loop-less-3 Inv-loop μ-loop
+loop-less-3 c = omega (arith, loop-again-3 c .time, found (c .before .before .before .before), c .before .before .before .wide .ensures)
+
+pub fill-finish-spec : {M : Type 1} → statement M
+fill-finish-spec =
+    tie.close
+    (tie.spec
+    Inv-loop
+    μ-loop
+    first-jobs-requires
+    first-work-requires
+    loop-holds
+    slice-aggregate-next-wake
+    next-wake-requires
+    top-ready-requires
+    same-length
+    returns
+    add-stops
+    loop-less
+    loop-again
+    mul-wide
+    array-read-wide
+    wide-requires
+    add-end
+    sub-left
+    cast-left
+    mul-left
+    array-write-left
+    add-stops-2
+    loop-less-2
+    loop-again-2
+    mul-p
+    array-read-p
+    cast-finish
+    mul-finish
+    slice-write-finish
+    cast-next-of
+    add-next-of
+    next-of-requires
+    mul-head
+    array-write-head
+    work-of-requires
+    mul-left-2
+    array-write-left-2
+    add-stops-3
+    loop-less-3
+    loop-again-3)

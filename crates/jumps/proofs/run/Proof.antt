@@ -1,0 +1,87 @@
+-- The checks come first, with the ready ticks; the finish ticks are written and the stops counted where they pass.
+use mathlib.Core.Path.{_≡_, sym, ap, _∙_}
+use borrow.Author.Needs.{needs}
+use Rattle.model.specs.Checks.{refusalOf}
+use Rattle.model.specs.Calls.{runInputs}
+use Rattle.taskset.specs.TaskSet.{viewOf, refusalIn}
+use Rattle.model.proofs.OrderLaws.{column-kept, column-by}
+use Rattle.trace.proofs.ListCallLaws.{run-checks}
+use Rattle.queues.proofs.RunCallLaws.{Cleared, shaped, runnable, finish-written}
+use Rattle.jumps.proofs.JumpCallLaws.{jump-refused, jump-answered}
+use Rattle.jumps.proofs.run.Statement.{statement}
+use Rattle.jumps.proofs.run.Tie as tie
+
+abbrev start : tie.After-check-and-shape → tie.Start
+start c = c .before .before .before .before .before .before .before .before
+
+-- what the checks found, as the checks of a run
+checks : (c : tie.After-check-and-shape)
+    → let a = start c .args in
+    refusalIn (c .check-and-shape .result)
+    ≡ refusalOf (runInputs (viewOf (a .s)) (a .kept .now) (a .count) (a .task .now) (a .tick .now) (a .cost .now) (a .ready .now) (a .finish .now))
+checks c =
+    let a = start c .args in
+    c .check-and-shape .ensures .0
+    ∙ run-checks (viewOf (a .s)) (a .kept .now) (a .count) (a .task .now) (a .tick .now) (a .cost .now) (a .ready .now) (a .finish .now)
+
+-- every check passes
+fine : (c : tie.After-enum-told)
+    → let a = start (c .before .before .before .before) .args in
+    Cleared (viewOf (a .s)) (a .kept .now) (a .count) (a .task .now) (a .tick .now) (a .cost .now) (a .ready .now) (a .finish .now)
+fine c = record { clear = sym (ap refusalIn (c .enum-told .given .1)) ∙ checks (c .before .before .before .before) }
+
+check-and-shape-requires : tie.Need-check-and-shape-requires
+check-and-shape-requires c κs = search needs
+
+enum-known-checked : tie.Need-enum-known-checked
+enum-known-checked c = search needs
+
+enum-told : tie.Need-enum-told
+enum-told c = search needs
+
+same-length : tie.Need-same-length
+same-length c = search needs
+
+returns : tie.Need-returns
+returns c =
+    let d = c .before .before .before .before .before in
+    let e = sym (ap refusalIn (c .before .checked .given .1)) ∙ checks d in
+    (jump-refused _ _ _ _ _ _ _ _ _ e, (column-by _ _ _ _ _ (d .check-and-shape .ensures .1) (checks d), column-kept _ _ _ _ e))
+
+fill-finish-requires : tie.Need-fill-finish-requires
+fill-finish-requires c κs =
+    let b = c .before .before in
+    rw (shaped _ _ _ _ _ _ _ _ (fine b) _ _ (ap refusalIn (b .enum-told .given .1)) (b .before .before .before .before .check-and-shape .ensures .1))
+    (runnable _ _ _ _ _ _ _ _ (fine b))
+
+same-length-2 : tie.Need-same-length-2
+same-length-2 c = search needs
+
+same-length-3 : tie.Need-same-length-3
+same-length-3 c = search needs
+
+returns-2 : tie.Need-returns-2
+returns-2 c =
+    let b = c .before .before .before .before .before in
+    let e = fine b in
+    let d = b .before .before .before .before in
+    let x = shaped _ _ _ _ _ _ _ _ e _ _ (ap refusalIn (b .enum-told .given .1)) (d .check-and-shape .ensures .1) in
+    let f = c .before .before .fill-finish .ensures in
+    (
+      jump-answered _ _ _ _ _ _ _ _ e _ _ x (f .1),
+      (column-by _ _ _ _ _ (d .check-and-shape .ensures .1) (checks d), finish-written _ _ _ _ _ _ _ _ e _ _ x (f .0)),
+    )
+
+pub run-spec : {M : Type 1} → statement M
+run-spec =
+    tie.close
+    (tie.spec
+    check-and-shape-requires
+    enum-known-checked
+    same-length
+    returns
+    enum-told
+    fill-finish-requires
+    same-length-2
+    same-length-3
+    returns-2)

@@ -1,0 +1,65 @@
+-- What the functions of the run that jumps answer, over columns of 32-bit numbers.
+use Prim.Native.Nat.{ℕ, _≤_, _<_}
+use mathlib.Core.Path.{_≡_}
+use mathlib.Core.Bool.{Bool, _&&_, not, cond}
+use mathlib.Core.Logic.{_⊎_}
+use mathlib.Core.List.{List, _++_}
+use lib.ListN.{length, getD}
+use lib.Dec.{leb, ltb, eqb}
+use Rattle.model.specs.Limits.{maxTasks}
+use Rattle.model.specs.Series.{table}
+use Rattle.model.specs.Processor.{plain}
+use Rattle.model.specs.Run.{Jobs, finishOf}
+use Rattle.model.specs.Refusal.{Answer, refused, answered}
+use Rattle.queues.specs.Queues.{firstFrom, never, wakeOf}
+use Rattle.jumps.specs.declared.JumpAnswer.{JumpAnswer}
+use Rattle.jumps.specs.declared.JumpAnswer.the-variants.{Ran, Refused}
+
+-- the answer of the call: how often the run stopped, or a refusal
+abbrev pub jumpIn : JumpAnswer → Answer ℕ
+jumpIn (Ran n) = answered n
+jumpIn (Refused n p) = refused (record { number = n; place = p })
+
+-- the ticks at which the run of some jobs stops: their start ticks, which are their ready ticks plus 1, and their finish ticks
+abbrev pub stopsOf : Jobs → List ℕ
+stopsOf j = table (j .start) (j .count) ++ table (finishOf j) (j .count)
+
+-- the work of the job at p; 0 where p is past the list
+unfoldable pub workOf : List ℕ → ℕ → ℕ → ℕ
+workOf cost n p = cond (ltb p n) (getD cost p 0) 0
+
+-- the job at p is one of task i that may not run in tick t yet
+abbrev pub comes : List ℕ → List ℕ → ℕ → ℕ → ℕ → ℕ → Bool
+comes task ready n i t p = eqb (getD task p 0) i && not (leb (wakeOf ready n p) t)
+
+-- the first such job from a place on
+abbrev pub comingOf : List ℕ → List ℕ → ℕ → ℕ → ℕ → ℕ → ℕ
+comingOf task ready n i t from = firstFrom (comes task ready n i t) n from
+
+-- columns of n jobs of some tasks, whose ready ticks never fall along a task
+pub record Queued (n tasks : ℕ) (task ready : List ℕ) : Type 0 where
+  pub few-tasks : tasks ≤ maxTasks
+  pub task-long : n ≤ length task
+  pub ready-long : n ≤ length ready
+  pub known : (p : ℕ) → p < n → getD task p 0 < tasks
+  pub in-order : (p q : ℕ) → p < q → q < n → getD task p 0 ≡ getD task q 0 → getD ready p 0 ≤ getD ready q 0
+
+-- the first tick in which the job at p may run
+abbrev pub startAt : List ℕ → ℕ → ℕ
+startAt ready p = plain .start (getD ready p 0)
+
+-- wake is the first start tick after t of the jobs of tasks 0, .., i - 1, or never
+pub record Next (n i : ℕ) (task ready : List ℕ) (t wake : ℕ) : Type 0 where
+  pub low : (q : ℕ) → q < n → getD task q 0 < i → t < startAt ready q → wake ≤ startAt ready q
+  pub real : (wake ≡ never) ⊎ ((q : ℕ) × (q < n) × (t < startAt ready q) × (startAt ready q ≡ wake))
+
+-- a place for each task: every job of the task before it may run in tick t
+pub record Awake (n tasks : ℕ) (task ready : List ℕ) (t : ℕ) (coming : List ℕ) : Type 0 where
+  pub long : length coming ≡ 32
+  pub within : (i : ℕ) → i < tasks → getD coming i 0 ≤ n
+  pub past : (i q : ℕ) → i < tasks → q < getD coming i 0 → getD task q 0 ≡ i → startAt ready q ≤ t
+
+-- what is known of the next start tick at t: where t has not reached wake, it is wake
+pub record Waking (n tasks : ℕ) (task ready : List ℕ) (t wake : ℕ) (coming : List ℕ) : Type 0 where
+  pub awake : Awake n tasks task ready t coming
+  pub next : t < wake → Next n tasks task ready t wake

@@ -1,0 +1,199 @@
+// The run that jumps: from one moment to the next at which a job may run for the first time or finishes, never tick by tick.
+use numbers::wide;
+use queues::NEVER;
+use queues::first_jobs;
+use queues::may_run;
+use queues::next_of;
+use queues::smaller;
+use queues::top_ready;
+use queues::wake_of;
+use taskset::Checked;
+use taskset::TaskSet;
+ghost use mathlib.Core.Path.{_≡_};
+ghost use mathlib.Core.List.{_++_};
+ghost use Prim.Native.Nat.{_≤_, _<_};
+ghost use lib.ListN.{length, getD, drop};
+ghost use Rattle.model.specs.Series.{table};
+ghost use Rattle.model.specs.Stops.{different};
+ghost use Rattle.model.specs.Choice.{column};
+ghost use Rattle.model.specs.Checks.{refusalOf};
+ghost use Rattle.model.specs.Ready.{readyList};
+ghost use Rattle.model.specs.Run.{finishOf, finishList};
+ghost use Rattle.model.specs.Calls.{releasesOf, columnAfter, runInputs, jumpCall};
+ghost use Rattle.taskset.specs.TaskSet.{viewOf};
+ghost use Rattle.queues.specs.Queues.{jobsOf, never, Holds, Runnable};
+ghost use Rattle.jumps.specs.Jumps.{jumpIn, stopsOf, workOf, comes, comingOf, Queued, Waking};
+
+// What the run that jumps answers: how often it stopped, or document 01's number and place.
+pub enum JumpAnswer {
+    Ran { stops: u32 },
+    Refused { number: u32, place: usize },
+}
+
+// The work of the job at p, and 0 where p is past the list.
+fn work_of(cost: &[u32], n: usize, p: usize) -> u32
+    requires { ⌜ n ≤ length (now cost) ⌝ }
+    ensures { λ r. ⌜ r ≡ workOf (now (cost .entry)) n p ⌝ }
+{
+    if p < n {
+        return cost[p];
+    }
+    0
+}
+
+// The work that the oldest job of each task has before the first tick; 0 past the tasks.
+fn first_work(head: &[usize; 32], cost: &[u32], n: usize, tasks: usize) -> [u32; 32]
+    requires { ⌜ (tasks ≤ 32) × (n ≤ length (now cost)) ⌝ }
+    ensures { λ r. ⌜ Holds (λ i. workOf (now (cost .entry)) n (getD (now (head .entry)) i 0)) tasks 32 r ⌝ }
+{
+    let mut left = [0; 32];
+    let mut i = 0;
+    while i < tasks {
+        left[i] = work_of(cost, n, head[i]);
+        i += 1;
+    }
+    left
+}
+
+// Whether the job at p is one of task i that may not run in tick t yet.
+fn is_coming(task: &[u32], ready: &[u32], n: usize, i: u32, t: u64, p: usize) -> bool
+    requires { ⌜ (p < n) × (n ≤ length (now task)) × (n ≤ length (now ready)) ⌝ }
+    ensures { λ r. ⌜ r ≡ comes (now (task .entry)) (now (ready .entry)) n i t p ⌝ }
+{
+    if task[p] != i {
+        return false;
+    }
+    !may_run(ready, n, p, t)
+}
+
+// The first job of task i from a place on that may not run in tick t yet, and n where there is none.
+fn coming_of(task: &[u32], ready: &[u32], n: usize, i: u32, t: u64, from: usize) -> usize
+    requires { ⌜ (from ≤ n) × (n ≤ length (now task)) × (n ≤ length (now ready)) ⌝ }
+    ensures { λ r. ⌜ r ≡ comingOf (now (task .entry)) (now (ready .entry)) n i t from ⌝ }
+{
+    let mut p = from;
+    while p < n {
+        if is_coming(task, ready, n, i, t, p) {
+            return p;
+        }
+        p += 1;
+    }
+    n
+}
+
+// The next tick after t in which a job may run for the first time, NEVER where there is none. It is `wake` unless t has reached that;
+// `coming` has for each task a place before which every job of the task may run in tick t, and is moved on.
+fn next_wake(
+    task: &[u32],
+    ready: &[u32],
+    n: usize,
+    tasks: usize,
+    t: u64,
+    wake: u64,
+    coming: &mut [usize],
+) -> u64
+    requires { ⌜ Queued n tasks (now task) (now ready) × Waking n tasks (now task) (now ready) t wake (now coming) × (t < never) ⌝ }
+    ensures { λ r. ⌜ Waking n tasks (now (task .entry)) (now (ready .entry)) t r (now (coming .exit)) × (t < r) ⌝ }
+{
+    if t < wake {
+        return wake;
+    }
+    let mut least = NEVER;
+    let mut i = 0;
+    while i < tasks {
+        let p = coming_of(task, ready, n, i as u32, t, coming[i]);
+        coming[i] = p;
+        least = smaller(least, wake_of(ready, n, p));
+        i += 1;
+    }
+    least
+}
+
+// The finish ticks of the run of n jobs, in the first n slots of the column lent, and how often the run stopped. At tick t `head` has the
+// oldest unfinished job of each task, `left` the ticks of work that it has left; the next start tick after t is `wake`.
+fn fill_finish(
+    task: &[u32],
+    cost: &[u32],
+    ready: &[u32],
+    n: usize,
+    tasks: usize,
+    finish: &mut [u32],
+) -> u32
+    requires { ⌜ Runnable n tasks (now task) (now cost) (now ready) (now finish) ⌝ }
+    ensures finishes { λ _. ⌜
+        now (finish .exit)
+        ≡ table (finishOf (jobsOf n (now (task .entry)) (now (cost .entry)) (now (ready .entry)))) n ++ drop n (now (finish .entry))
+        ⌝ }
+    ensures stops { λ r. ⌜ r ≡ different (stopsOf (jobsOf n (now (task .entry)) (now (cost .entry)) (now (ready .entry)))) ⌝ }
+{
+    let mut head = first_jobs(task, n, tasks);
+    let mut left = first_work(&head, cost, n, tasks);
+    let mut coming: [usize; 32] = [0; 32];
+    let mut wake: u64 = 0;
+    let mut t: u64 = 0;
+    let mut stops: u32 = 0;
+    loop {
+        wake = next_wake(task, ready, n, tasks, t, wake, &mut coming);
+        let i = top_ready(&head, ready, n, tasks, t);
+        if i == tasks {
+            if wake == NEVER {
+                return stops;
+            }
+            t = wake;
+            stops += 1;
+            continue;
+        }
+        let end = t + wide(left[i]);
+        if wake < end {
+            left[i] = (end - wake) as u32;
+            t = wake;
+            stops += 1;
+            continue;
+        }
+        let p = head[i];
+        finish[p] = end as u32;
+        let next = next_of(task, n, i as u32, p + 1);
+        head[i] = next;
+        left[i] = work_of(cost, n, next);
+        t = end;
+        stops += 1;
+    }
+}
+
+// The run of a list of releases with kept jitters, from moment to moment: ready and finish ticks are written to the first slots of the two
+// columns, and the answer is how often it stopped. A refusal has document 01's number and place, and leaves both columns as they were.
+pub fn run(
+    s: TaskSet,
+    kept: &[u32],
+    count: usize,
+    task: &[u32],
+    tick: &[u32],
+    cost: &[u32],
+    ready: &mut [u32],
+    finish: &mut [u32],
+) -> JumpAnswer
+    ensures answer { λ r. ⌜
+        jumpIn r
+        ≡ jumpCall (viewOf s) (now (kept .entry)) count (now (task .entry)) (now (tick .entry)) (now (cost .entry)) (now (ready .entry)) (now (finish .entry))
+        ⌝ }
+    ensures ticks { λ _. ⌜
+        now (ready .exit)
+        ≡ columnAfter (refusalOf
+        (runInputs (viewOf s) (now (kept .entry)) count (now (task .entry)) (now (tick .entry)) (now (cost .entry)) (now (ready .entry)) (now (finish .entry))))
+        (readyList (viewOf s) (column (now (kept .entry))) (releasesOf count (now (task .entry)) (now (tick .entry)) (now (cost .entry)))) (now (ready .entry))
+        ⌝ }
+    ensures finishes { λ _. ⌜
+        now (finish .exit)
+        ≡ columnAfter (refusalOf
+        (runInputs (viewOf s) (now (kept .entry)) count (now (task .entry)) (now (tick .entry)) (now (cost .entry)) (now (ready .entry)) (now (finish .entry))))
+        (finishList (viewOf s) (column (now (kept .entry))) (releasesOf count (now (task .entry)) (now (tick .entry)) (now (cost .entry)))) (now (finish .entry))
+        ⌝ }
+{
+    let checked = trace::check_and_shape(s, kept, count, task, tick, cost, ready, finish.len());
+    if let Checked::Refused { number, place } = checked {
+        return JumpAnswer::Refused { number: number, place: place };
+    }
+    let tasks = s.count;
+    let stops = fill_finish(task, cost, ready, count, tasks, finish);
+    JumpAnswer::Ran { stops: stops }
+}

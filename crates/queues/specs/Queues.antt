@@ -1,0 +1,79 @@
+-- The jobs of a list in columns of 32-bit numbers, and what the functions over their queues answer.
+use Prim.Native.Nat.{ℕ, zero, suc, _+_, _-_, _*_, _≤_, _<_, min}
+use mathlib.Core.Path.{_≡_}
+use mathlib.Core.Bool.{Bool, true, cond}
+use mathlib.Core.Option.{Option, some, none}
+use mathlib.Core.List.{List}
+use lib.ListN.{length, getD}
+use lib.Dec.{leb, ltb, eqb}
+use Rattle.model.specs.Limits.{maxTasks, maxTime, maxReleases, maxTick}
+use Rattle.model.specs.Search.{first}
+use Rattle.model.specs.Processor.{pickup, plain}
+use Rattle.model.specs.Run.{Jobs, finishOf}
+
+-- the jobs of n releases, given in columns with their ready ticks
+abbrev pub jobsOf : ℕ → List ℕ → List ℕ → List ℕ → Jobs
+jobsOf n task cost ready = record {
+  count = n;
+  task = λ p. getD task p 0;
+  start = λ p. plain .start (getD ready p 0);
+  work = λ p. plain .work (getD cost p 0);
+  ours = λ t. true;
+}
+
+-- the largest finish tick of a list that passes the checks of a run: the largest release tick, the pickup, and 1,000,000 ticks for each of
+-- 1,024 releases: 2,024,000,001
+abbrev pub maxFinish : ℕ
+maxFinish = maxTick + pickup + maxTime * maxReleases
+
+-- the first of from, .., n - 1 at which the test holds, and n where there is none
+unfoldable pub orElse : ℕ → Option ℕ → ℕ
+orElse n none = n
+orElse n (some p) = p
+
+abbrev pub firstFrom : (ℕ → Bool) → ℕ → ℕ → ℕ
+firstFrom test n from = orElse n (first test (n - from) from)
+
+-- the first job of task i from a place on
+abbrev pub nextOf : List ℕ → ℕ → ℕ → ℕ → ℕ
+nextOf task n i from = firstFrom (λ p. eqb (getD task p 0) i) n from
+
+-- a tick over every tick of 32 bits
+abbrev pub never : ℕ
+never = 4294967296
+
+-- the tick from which the job at p may run; never where p is past the list
+unfoldable pub wakeOf : List ℕ → ℕ → ℕ → ℕ
+wakeOf ready n p = cond (ltb p n) (plain .start (getD ready p 0)) never
+
+-- the highest-priority task whose oldest unfinished job may run in tick t
+abbrev pub topReady : List ℕ → List ℕ → ℕ → ℕ → ℕ → ℕ
+topReady head ready n tasks t = firstFrom (λ i. leb (wakeOf ready n (getD head i 0)) t) tasks 0
+
+-- the least of f 0, .., f (n - 1), and never where n is 0
+unfoldable pub earliest : (ℕ → ℕ) → ℕ → ℕ
+earliest f zero = never
+earliest f (suc n) = min (earliest f n) (f n)
+
+-- the first tick in which the oldest unfinished job of a task may run
+abbrev pub wakeAll : List ℕ → List ℕ → ℕ → ℕ → ℕ
+wakeAll head ready n tasks = earliest (λ i. wakeOf ready n (getD head i 0)) tasks
+
+-- the first n slots of a column of k slots hold f 0, .., f (n - 1), and the others 0
+pub record Holds (f : ℕ → ℕ) (n k : ℕ) (l : List ℕ) : Type 0 where
+  pub long : length l ≡ k
+  pub each : (p : ℕ) → p < n → getD l p 0 ≡ f p
+  pub past : (p : ℕ) → n ≤ p → p < k → getD l p 0 ≡ 0
+
+-- columns of n releases that can be run: tasks and finish ticks within their limits, costs of at least 1, and ready ticks that never fall along a task
+pub record Runnable (n tasks : ℕ) (task cost ready finish : List ℕ) : Type 0 where
+  pub few : n ≤ maxReleases
+  pub few-tasks : tasks ≤ maxTasks
+  pub task-long : n ≤ length task
+  pub cost-long : n ≤ length cost
+  pub ready-long : n ≤ length ready
+  pub finish-long : n ≤ length finish
+  pub known : (p : ℕ) → p < n → getD task p 0 < tasks
+  pub cost-low : (p : ℕ) → p < n → 1 ≤ getD cost p 0
+  pub finish-high : (p : ℕ) → p < n → finishOf (jobsOf n task cost ready) p ≤ maxFinish
+  pub in-order : (p q : ℕ) → p < q → q < n → getD task p 0 ≡ getD task q 0 → getD ready p 0 ≤ getD ready q 0

@@ -1,0 +1,105 @@
+// What both runs share: the jobs of a list in columns, as a queue for each task with its oldest unfinished job at the head.
+use taskset::PICKUP;
+ghost use mathlib.Core.Path.{_≡_};
+ghost use Prim.Native.Nat.{_≤_, min};
+ghost use lib.Dec.{leb};
+ghost use lib.ListN.{length};
+ghost use Rattle.model.specs.Processor.{plain};
+ghost use Rattle.queues.specs.Queues.{nextOf, wakeOf, topReady, wakeAll, Holds};
+
+// A tick over every tick of 32 bits.
+pub const NEVER: u64 = 4294967296;
+
+// The smaller of two numbers.
+pub fn smaller(a: u64, b: u64) -> u64
+    ensures { λ r. ⌜ r ≡ min a b ⌝ }
+{
+    if b < a { b } else { a }
+}
+
+// The first tick in which a job may run, given its ready tick.
+fn start_of(ready: u32) -> u64
+    ensures { λ r. ⌜ r ≡ plain .start ready ⌝ }
+{
+    numbers::wide(ready) + PICKUP
+}
+
+// The first job of task i from a place on, and n where there is none.
+pub fn next_of(task: &[u32], n: usize, i: u32, from: usize) -> usize
+    requires { ⌜ (from ≤ n) × (n ≤ length (now task)) ⌝ }
+    ensures { λ r. ⌜ r ≡ nextOf (now (task .entry)) n i from ⌝ }
+{
+    let mut p = from;
+    while p < n {
+        if task[p] == i {
+            return p;
+        }
+        p += 1;
+    }
+    n
+}
+
+// The tick from which the job at p may run, and NEVER where p is past the list.
+pub fn wake_of(ready: &[u32], n: usize, p: usize) -> u64
+    requires { ⌜ n ≤ length (now ready) ⌝ }
+    ensures { λ r. ⌜ r ≡ wakeOf (now (ready .entry)) n p ⌝ }
+{
+    if p < n {
+        return start_of(ready[p]);
+    }
+    NEVER
+}
+
+// Whether the job at p may run in tick t: wake_of(ready, n, p) <= t. Written out, the test needs no sum.
+pub fn may_run(ready: &[u32], n: usize, p: usize, t: u64) -> bool
+    requires { ⌜ n ≤ length (now ready) ⌝ }
+    ensures { λ r. ⌜ r ≡ leb (wakeOf (now (ready .entry)) n p) t ⌝ }
+{
+    if p < n {
+        return start_of(ready[p]) <= t;
+    }
+    NEVER <= t
+}
+
+// The highest-priority task whose oldest unfinished job may run in tick t; tasks where there is none.
+pub fn top_ready(head: &[usize; 32], ready: &[u32], n: usize, tasks: usize, t: u64) -> usize
+    requires { ⌜ (tasks ≤ 32) × (n ≤ length (now ready)) ⌝ }
+    ensures { λ r. ⌜ r ≡ topReady (now (head .entry)) (now (ready .entry)) n tasks t ⌝ }
+{
+    let mut i = 0;
+    while i < tasks {
+        if may_run(ready, n, head[i], t) {
+            return i;
+        }
+        i += 1;
+    }
+    tasks
+}
+
+// The first tick in which the oldest unfinished job of some task may run; NEVER where every job is finished.
+pub fn wake_all(head: &[usize; 32], ready: &[u32], n: usize, tasks: usize) -> u64
+    requires { ⌜ (tasks ≤ 32) × (n ≤ length (now ready)) ⌝ }
+    ensures { λ r. ⌜ r ≡ wakeAll (now (head .entry)) (now (ready .entry)) n tasks ⌝ }
+{
+    let mut wake = NEVER;
+    let mut i = 0;
+    while i < tasks {
+        wake = smaller(wake, wake_of(ready, n, head[i]));
+        i += 1;
+    }
+    wake
+}
+
+// The oldest job of each task; 0 past the tasks.
+pub fn first_jobs(task: &[u32], n: usize, tasks: usize) -> [usize; 32]
+    requires { ⌜ (tasks ≤ 32) × (n ≤ length (now task)) ⌝ }
+    ensures { λ r. ⌜ Holds (λ i. nextOf (now (task .entry)) n i 0) tasks 32 r ⌝ }
+{
+    let mut head = [0; 32];
+    let mut i = 0;
+    while i < tasks {
+        head[i] = next_of(task, n, i as u32, 0);
+        i += 1;
+    }
+    head
+}
