@@ -11,7 +11,7 @@ use lib.Dec.{ltb}
 use lib.ListN.{length}
 use Rattle.model.specs.Limits.{maxTasks, maxReleases}
 use Rattle.model.specs.Refusal.{Refusal, Answer, refused, answered}
-use Rattle.model.specs.Calls.{arrivalCall, verdictCall, traceCall}
+use Rattle.model.specs.Calls.{arrivalCall, verdictCall, traceCall, jumpCall}
 use Rattle.model.proofs.RefusalPlaces.{Within, within-more, Needs, needs, needs-none, slots-within, refusal-within, answer-within, task-limited, choice-limited, list-limited, ready-limited, run-limited}
 use Rattle.taskset.specs.declared.Task.{Task}
 use Rattle.taskset.specs.TaskSet.{viewOf}
@@ -23,6 +23,7 @@ use Rattle.textformat.proofs.TextPlaces.{load-within}
 use Rattle.nolkrada.specs.Interface.{sheetFrom, refusalCode, codeOf, codeIn, asWords, tooFew, afterSlots, orTooFew, withSlots, oneWord, verdictWords, traceWords}
 use Rattle.nolkrada.specs.Files.{readLent, readWithin, readAnswer, writeAnswer}
 use Rattle.nolkrada.specs.Texts.{loadLent, loadWithin, loadAnswer}
+use Rattle.nolkrada.specs.Runs.{jumpAnswer}
 use Rattle.nolkrada.specs.Codes.{told, refusalFrom, Tells, TellsOf, CodesTell}
 
 -- the largest place that a code holds
@@ -124,7 +125,7 @@ load-slots text (answered ts) sheet answer r d e =
 
 -- the code of every call for C tells its refusal
 pub codes-tell : CodesTell
-unfolding arrivalCall verdictCall traceCall readAnswer loadAnswer writeAnswer
+unfolding arrivalCall verdictCall traceCall jumpCall jumpAnswer readAnswer loadAnswer writeAnswer
 codes-tell = record {
   arrival = λ sheet count task kept t answer h.
       words-told 1 (length answer) oneWord _ (omega arith)
@@ -143,6 +144,10 @@ codes-tell = record {
   run = λ sheet count kept n task tick cost ready finish.
       tells _ (λ r e. within-more maxReleases top r (omega arith)
       (refusal-within maxReleases _ (run-limited (viewOf (sheetFrom sheet count)) kept n task tick cost ready finish) r e));
+  jump = λ sheet count kept n task tick cost ready finish answer.
+      slots-told 1 (length answer) _ (omega arith)
+      (λ r e. within-more maxReleases top r (omega arith)
+      (answer-within maxReleases _ _ r (run-limited (viewOf (sheetFrom sheet count)) kept n task tick cost ready finish) e));
   read =
       λ file sheet task tick cost answer. tells-of _
       (λ r. read-within file (decode file) (length sheet) (length task) (length tick) (length cost) (length answer) r refl);

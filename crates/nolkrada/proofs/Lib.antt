@@ -6,4 +6,5 @@ pub mod ReadLaws
 pub mod FileLaws
 pub mod SameNumbers
 pub mod WriteEndLaws
+pub mod JumpEndLaws
 pub mod LoadEndLaws

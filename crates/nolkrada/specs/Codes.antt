@@ -13,6 +13,7 @@ use Rattle.taskset.specs.TaskSet.{viewOf}
 use Rattle.nolkrada.specs.Interface.{sheetFrom, codeOf, codeIn, asWords, withSlots, oneWord, verdictWords, traceWords}
 use Rattle.nolkrada.specs.Files.{readAnswer, writeAnswer}
 use Rattle.nolkrada.specs.Texts.{loadAnswer}
+use Rattle.nolkrada.specs.Runs.{jumpAnswer}
 
 -- what a code tells: 0, that nothing is refused; else the number, code ÷ 2^32, and the place, the rest
 unfoldable pub told : ℕ → Option Refusal
@@ -50,6 +51,9 @@ pub record CodesTell : Type 0 where
   pub run
       : (sheet : List ℕ) (count : ℕ) (kept : List ℕ) (n : ℕ) (task tick cost ready finish : List ℕ)
       → Tells (refusalOf (runInputs (viewOf (sheetFrom sheet count)) kept n task tick cost ready finish))
+  pub jump
+      : (sheet : List ℕ) (count : ℕ) (kept : List ℕ) (n : ℕ) (task tick cost ready finish answer : List ℕ)
+      → TellsOf (jumpAnswer sheet count kept n task tick cost ready finish answer)
   pub read : (file sheet task tick cost answer : List ℕ) → TellsOf (readAnswer file sheet task tick cost answer)
   pub load : (text sheet answer : List ℕ) → TellsOf (loadAnswer text sheet answer)
   pub write : (sheet : List ℕ) (count n : ℕ) (task tick cost out answer : List ℕ) → TellsOf (writeAnswer sheet count n task tick cost out answer)

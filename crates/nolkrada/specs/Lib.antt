@@ -3,4 +3,5 @@ pub mod Interface
 pub mod SlotsLast
 pub mod Files
 pub mod Texts
+pub mod Runs
 pub mod Codes

@@ -43,7 +43,9 @@ ghost use Rattle.nolkrada.specs.Interface.{
 };
 ghost use Rattle.nolkrada.specs.Files.{taskNumbers, numbersOf, readWithin, readAnswer, ReadEnds, writeAnswer, WriteEnds};
 ghost use Rattle.nolkrada.specs.Texts.{loadAnswer, LoadEnds};
+ghost use Rattle.nolkrada.specs.Runs.{jumpAnswer, JumpEnds};
 use demand::ArrivalAnswer;
+use jumps::JumpAnswer;
 use reader::ReadOutcome;
 use taskset::Checked;
 use taskset::Task;
@@ -361,6 +363,54 @@ pub extern "C" fn nolkrada_run(
     let s = sheet_from(sheet, count);
     let checked = schedule::run(s, kept, n as usize, task, tick, cost, ready, finish);
     code_of(checked)
+}
+
+// The run of n releases from moment to moment, with kept jitters: ready and finish ticks, and one word: how often it stopped.
+#[no_mangle]
+pub extern "C" fn nolkrada_jump(
+    sheet: &[u32],
+    count: u32,
+    kept: &[u32],
+    n: u32,
+    task: &[u32],
+    tick: &[u32],
+    cost: &[u32],
+    ready: &mut [u32],
+    finish: &mut [u32],
+    answer: &mut [u64],
+) -> u64
+    ensures { λ r. ⌜
+        JumpEnds (jumpAnswer (now (sheet .entry)) count (now (kept .entry)) n (now (task .entry)) (now (tick .entry)) (now (cost .entry)) (now (ready .entry))
+        (now (finish .entry)) (now (answer .entry)))
+        (readyList (viewOf (sheetFrom (now (sheet .entry)) count)) (column (now (kept .entry)))
+        (releasesOf n (now (task .entry)) (now (tick .entry)) (now (cost .entry))))
+        (finishList (viewOf (sheetFrom (now (sheet .entry)) count)) (column (now (kept .entry)))
+        (releasesOf n (now (task .entry)) (now (tick .entry)) (now (cost .entry))))
+        (now (ready .entry)) (now (finish .entry)) (now (answer .entry)) r (now (ready .exit)) (now (finish .exit)) (now (answer .exit))
+        ⌝ }
+{
+    let s = sheet_from(sheet, count);
+    if answer.len() < 1 {
+        let checked = trace::check_two(
+            s,
+            kept,
+            n as usize,
+            task,
+            tick,
+            cost,
+            ready.len(),
+            finish.len(),
+        );
+        if let Checked::Refused { number, place } = checked {
+            return slots_code(number, place, 1, answer.len());
+        }
+        return refusal_code(13, 1);
+    }
+    let got = jumps::run(s, kept, n as usize, task, tick, cost, ready, finish);
+    match got {
+        JumpAnswer::Refused { number, place } => refusal_code(number, place),
+        JumpAnswer::Ran { stops } => put_one(answer, stops as u64),
+    }
 }
 
 // Writes the four numbers of a task.

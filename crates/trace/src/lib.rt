@@ -210,7 +210,27 @@ fn shorter(a: usize, b: usize) -> usize
     if b < a { b } else { a }
 }
 
-// The checks of a call that needs a column of ready ticks and `slots` more in another column, and where they pass the ready ticks of the
+// The checks of a call to which two columns for its answer are lent, of so many slots.
+pub fn check_two(
+    s: TaskSet,
+    kept: &[u32],
+    count: usize,
+    task: &[u32],
+    tick: &[u32],
+    cost: &[u32],
+    first: usize,
+    second: usize,
+) -> Checked
+    ensures { λ r. ⌜
+        refusalIn r
+        ≡ refusalOf (callInputs (viewOf s) (now (kept .entry)) count (now (task .entry)) (now (tick .entry)) (now (cost .entry)) (min first second))
+        ⌝ }
+{
+    let least = shorter(first, second);
+    check_call(s, kept, count, task, tick, cost, least)
+}
+
+// The checks of a call to which a column for ready ticks and another of so many slots are lent, and where they pass the ready ticks of the
 // list with kept jitters, written to the first slots of `ready`. A refusal leaves the column as it was.
 pub fn check_and_shape(
     s: TaskSet,
@@ -233,8 +253,7 @@ pub fn check_and_shape(
         (readyList (viewOf s) (column (now (kept .entry))) (releasesOf count (now (task .entry)) (now (tick .entry)) (now (cost .entry)))) (now (ready .entry))
         ⌝ }
 {
-    let least = shorter(ready.len(), slots);
-    let checked = check_call(s, kept, count, task, tick, cost, least);
+    let checked = check_two(s, kept, count, task, tick, cost, ready.len(), slots);
     let Checked::Fine = checked else {
         return checked;
     };

@@ -13,30 +13,17 @@ use borrow.Author.Needs.{needs}
 use Rattle.trace.proofs.check_and_shape.Statement.{statement}
 use Rattle.trace.proofs.check_and_shape.Tie as tie
 
-abbrev start : tie.After-check-call → tie.Start
-start c = c .before .before .before .before .before .before .before
-
--- what the checks found, with the length of the shorter column
-checks : (c : tie.After-check-call)
-    → let a = start c .args in
-    refusalIn (c .check-call .result)
-    ≡ refusalOf (callInputs (viewOf (a .s)) (a .kept .now) (a .count) (a .task .now) (a .tick .now) (a .cost .now) (min (length (a .ready .now)) (a .slots)))
-checks c =
-    let a = start c .args in
-    c .check-call .ensures
-    ∙ ap (λ x. refusalOf (callInputs (viewOf (a .s)) (a .kept .now) (a .count) (a .task .now) (a .tick .now) (a .cost .now) x)) (c .before .shorter .ensures)
+abbrev start : tie.After-check-two → tie.Start
+start c = c .before .before .before .before .before .before
 
 call-fine
     : (c : tie.After-enum-told)
     → let a = start (c .before .before) .args in
     none ≡ refusalOf (callInputs (viewOf (a .s)) (a .kept .now) (a .count) (a .task .now) (a .tick .now) (a .cost .now) (min (length (a .ready .now)) (a .slots)))
-call-fine c = sym (ap refusalIn (c .enum-told .given .1)) ∙ checks (c .before .before)
+call-fine c = sym (ap refusalIn (c .enum-told .given .1)) ∙ c .before .before .check-two .ensures
 
-shorter-requires : tie.Need-shorter-requires
-shorter-requires c κs = search needs
-
-check-call-requires : tie.Need-check-call-requires
-check-call-requires c κs = search needs
+check-two-requires : tie.Need-check-two-requires
+check-two-requires c κs = search needs
 
 enum-told : tie.Need-enum-told
 enum-told c = search needs
@@ -46,7 +33,7 @@ enum-told-2 c = search needs
 
 returns : tie.Need-returns
 returns c =
-    let e = sym (ap refusalIn (c .enum-told2 .given .1)) ∙ checks (c .before .before) in
+    let e = sym (ap refusalIn (c .enum-told2 .given .1)) ∙ c .before .before .check-two .ensures in
     rw (c .enum-told2 .given .1) (e, column-kept _ _ _ _ refl)
 
 fill-ready-requires : tie.Need-fill-ready-requires
@@ -69,8 +56,7 @@ pub check-and-shape-spec : {M : Type 1} → statement M
 check-and-shape-spec =
     tie.close
     (tie.spec
-    shorter-requires
-    check-call-requires
+    check-two-requires
     enum-told
     enum-told-2
     returns
