@@ -7,16 +7,19 @@ use native.Mathlib.Omega.{arith}
 use lib.ListN.{length, drop, length-map, length-append}
 use Rattle.model.specs.Limits.{maxReleases}
 use Rattle.model.specs.Tasks.{Tasks, Release}
-use Rattle.model.specs.Refusal.{Refusal, refuse, Answer, refused, answered}
+use Rattle.model.specs.Refusal.{Refusal, Answer, refused, answered}
 use Rattle.model.specs.Ready.{readyAt, readyList}
 use Rattle.model.specs.Run.{finishAt, finishList}
 use Rattle.model.specs.Checks.{checkTasks, refusalOf}
 use Rattle.model.specs.Choice.{column, Choice, unfit, chosen, choice}
-use Rattle.model.specs.Calls.{releasesOf, columnAfter, runInputs}
-use Rattle.taskset.specs.declared.Checked.{Checked}
-use Rattle.taskset.specs.declared.Checked.the-variants.{Refused}
+use Rattle.model.specs.Stops.{stopCount}
+use Rattle.model.specs.Calls.{releasesOf, columnAfter, runInputs, jumpCall}
+use Rattle.model.proofs.OrderLaws.{answers}
+use Rattle.jumps.specs.declared.JumpAnswer.{JumpAnswer}
+use Rattle.jumps.specs.declared.JumpAnswer.the-variants.{Refused}
+use Rattle.jumps.specs.Jumps.{jumpIn}
 use Rattle.taskset.specs.declared.TaskSet.{TaskSet}
-use Rattle.taskset.specs.TaskSet.{viewOf, refusalIn}
+use Rattle.taskset.specs.TaskSet.{viewOf}
 use Rattle.fileformat.specs.File.{File, sheetOf, decode, ValidFile}
 use Rattle.fileformat.specs.FileCalls.{readCall, readCount, readSheet, readColumn}
 use Rattle.fileformat.proofs.RoundTrips.{decode-valid}
@@ -46,8 +49,14 @@ module _ (s : Tasks) (kept : List ℕ) (n : ℕ) (task tick cost ready finish : 
   accepted = sym (run-accepted s kept n task tick cost ready finish l k hr hf)
 
   -- such a run is not refused
-  pub never-refused : (r : Checked) (m p : ℕ) → r ≡ Refused m p → refusalIn r ≡ refusalOf (runInputs s kept n task tick cost ready finish) → ⊥
-  never-refused r m p e h = let f : refuse m p ≡ none = sym (ap refusalIn e) ∙ h ∙ accepted in let z : _≡_ {A = ℕ} 0 1 = cc in omega arith
+  pub never-refused : (r : JumpAnswer) (m p : ℕ) → r ≡ Refused m p → jumpIn r ≡ jumpCall s kept n task tick cost ready finish → ⊥
+  unfolding jumpCall
+  never-refused r m p e h =
+      let f : refused (record { number = m; place = p }) ≡ answered (stopCount s (column kept) (releasesOf n task tick cost)) =
+          sym (ap jumpIn e) ∙ h ∙ sym (answers (runInputs s kept n task tick cost ready finish) _ (sym accepted))
+      in
+      let z : _≡_ {A = ℕ} 0 1 = cc in
+      omega arith
 
   -- and its text is that of its columns
   pub ran-said

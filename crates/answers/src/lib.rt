@@ -1,4 +1,5 @@
 // What each program prints for the bytes of a file or of a text sheet, written into a lent buffer.
+use jumps::JumpAnswer;
 use loader::Loader;
 use reader::ReadOutcome;
 use taskset::Checked;
@@ -46,10 +47,10 @@ fn put_ran(
 {
     let mut ready: [u32; 1024] = [0; 1024];
     let mut finish: [u32; 1024] = [0; 1024];
-    let ran = schedule::run(s, kept, n, task, tick, cost, &mut ready, &mut finish);
+    let ran = jumps::run(s, kept, n, task, tick, cost, &mut ready, &mut finish);
     match ran {
-        Checked::Refused { number, place } => report::put_refusal(out, number, place as u32),
-        Checked::Fine => report::put_run(out, n, task, tick, &ready, &finish),
+        JumpAnswer::Refused { number, place } => report::put_refusal(out, number, place as u32),
+        JumpAnswer::Ran { .. } => report::put_run(out, n, task, tick, &ready, &finish),
     }
 }
 

@@ -1,13 +1,12 @@
 -- The state of the run that jumps from moment to moment: oldest unfinished jobs and their work left, the next start tick, the finish ticks written so far,
 -- and the stops made so far.
 use Prim.Native.Nat.{ℕ, suc, _+_, _-_, _*_, _≤_, _<_}
-use mathlib.Core.Path.{_≡_, refl, sym, ap, ap₂, _∙_}
+use mathlib.Core.Path.{_≡_, refl, sym, ap, _∙_}
 use mathlib.Core.Logic.{_⊎_, inl, inr}
 use mathlib.Core.Bool.{true}
 use mathlib.Core.List.{List, _++_}
 use native.Mathlib.Omega.{arith}
-use lib.ListN.{length, getD, set, drop, replicate, length-set, length-append}
-use lib.Seq.{getD-set-same, getD-set-other}
+use lib.ListN.{getD, set, drop, replicate, length-append}
 use Rattle.model.specs.Series.{table}
 use Rattle.model.specs.Stops.{has, different}
 use Rattle.model.specs.Run.{Jobs, leftAt, finishOf}
@@ -15,22 +14,22 @@ use Rattle.model.proofs.SeriesLaws.{le-by}
 use Rattle.model.proofs.TableLaws.{length-table}
 use Rattle.model.proofs.StopLaws.{has-append, has-behind, has-either, has-table, table-has, below, below-none, below-next, below-all, below-le}
 use Rattle.theory.proofs.WorkLaws.{supply-all}
-use Rattle.theory.proofs.RunLaws.{left-zero}
 use Rattle.theory.proofs.FinishLaws.{finish-by, finish-done, finish-late}
-use Rattle.theory.proofs.JumpLaws.{same-or, Keeps, Rests, NoStart, left-rests, left-keeps, left-others, rests, keeps, finish-keeps, finish-soonest, rests-none, keeps-only}
-use Rattle.queues.specs.Queues.{jobsOf, maxFinish, nextOf, topReady, never, Holds, Runnable}
-use Rattle.queues.proofs.HeadLaws.{Ordered, Heads, May, start-soon, head-first, head-none, all-finished, heads-rest, heads-run, heads-done, next-whole}
+use Rattle.theory.proofs.JumpLaws.{Keeps, Rests, NoStart, left-rests, left-keeps, left-others, rests, keeps, finish-keeps, finish-soonest, rests-none, keeps-only}
+use Rattle.queues.specs.Queues.{jobsOf, maxFinish, nextOf, topReady, never, workOf, Holds, Runnable}
+use Rattle.queues.proofs.SearchedLaws.{work-in}
+use Rattle.queues.proofs.HeadLaws.{Ordered, Heads, May, start-soon, head-first, head-none, all-finished, heads-rest, heads-run, heads-done}
 use Rattle.queues.proofs.ColumnLaws.{ordered, heads-start, none-above, none-found, one-found}
+use Rattle.queues.proofs.LeftColumnLaws.{Lefts, lefts-start, lefts-rest, lefts-run, lefts-done}
 use Rattle.queues.proofs.FinishColumnLaws.{Written, written-start, written-rest, written-run, written-done, written-end}
-use Rattle.jumps.specs.Jumps.{stopsOf, workOf, Queued, Next, Waking}
-use Rattle.jumps.proofs.WakeLaws.{work-in, awake-start, waking-later}
+use Rattle.jumps.specs.Jumps.{stopsOf, Queued, Next, Waking}
+use Rattle.jumps.proofs.WakeLaws.{awake-start, waking-later}
 
 -- what holds at tick t, a stop or the beginning. The column of finish ticks held `held`
 pub record Moment (n tasks : ℕ) (task cost ready held : List ℕ) (t wake stops : ℕ) (head left coming finish : List ℕ) : Type 0 where
   pub can : Runnable n tasks task cost ready held
   pub heads : Heads (jobsOf n task cost ready) tasks t head
-  pub left-long : length left ≡ 32
-  pub left-is : (i : ℕ) → i < tasks → getD head i 0 < n → getD left i 0 ≡ leftAt (jobsOf n task cost ready) t (getD head i 0)
+  pub lefts : Lefts (jobsOf n task cost ready) tasks t head left
   pub waking : Waking n tasks task ready t wake coming
   pub written : Written (jobsOf n task cost ready) t finish held
   pub counted : stops ≡ below (stopsOf (jobsOf n task cost ready)) (suc t)
@@ -104,8 +103,7 @@ module _ (n tasks : ℕ) (task cost ready held : List ℕ) (r : Runnable n tasks
       record {
         can = r;
         heads = heads-start n tasks task cost ready held r head a;
-        left-long = b .long;
-        left-is = λ i l g. b .each i l ∙ work-in cost n (getD head i 0) g ∙ sym (left-zero j (getD head i 0));
+        lefts = lefts-start n tasks task cost ready head left b;
         waking = record { awake = awake-start n tasks task ready (r .few-tasks); next = λ l. absurd (omega arith) };
         written = written-start j held (r .finish-long) (r .cost-low);
         counted = sym (below-none (stopsOf j) 1 (λ x l h. stop-by x ⊥ h (λ p g e. omega arith) (λ p g e. omega (arith, finish-late j (order .all) p g (r .cost-low p g)))));
@@ -147,8 +145,7 @@ module _ (n tasks : ℕ) (task cost ready held : List ℕ) (r : Runnable n tasks
         record {
           can = r;
           heads = heads-rest j tasks order t head (s .heads) new same;
-          left-long = s .left-long;
-          left-is = λ k l d. s .left-is k l d ∙ sym (same (getD head k 0));
+          lefts = lefts-rest j tasks order t head left (s .heads) (s .lefts) new same;
           waking = later-waking new (omega arith);
           written = written-rest j t finish held (s .written) new same;
           counted = one-more new ahead (omega arith) (new-stop h .0) (λ q a b d. rests-none j (order .all) t q (new - t) a (r .cost-low q a) rest b (omega arith));
@@ -192,7 +189,7 @@ module _ (n tasks : ℕ) (task cost ready held : List ℕ) (r : Runnable n tasks
       unfinished = s .heads .unfinished i (found .0) (found .1 .0)
 
       is-left : getD left i 0 ≡ leftAt j t (getD head i 0)
-      is-left = s .left-is i (found .0) (found .1 .0)
+      is-left = s .lefts .each i (found .0) (found .1 .0)
 
       -- it keeps the processor up to the next start tick, while it has work left
       kept : (k : ℕ) → t + k ≤ new → k ≤ getD left i 0 → Keeps j t (getD head i 0) k
@@ -200,10 +197,6 @@ module _ (n tasks : ℕ) (task cost ready held : List ℕ) (r : Runnable n tasks
           keeps j t (getD head i 0) (found .1 .0) (found .1 .1)
           (head-first j tasks order t head (s .heads) i (found .0) (found .1) (none-above n tasks task cost ready head t (s .time) i e))
           k (no-start k a) (omega (arith, supply-all j t (order .all) k, is-left))
-
-      -- the oldest unfinished job of another task is another
-      apart : (k : ℕ) → k < tasks → getD head k 0 < n → (k ≡ i → ⊥) → getD head k 0 ≡ getD head i 0 → ⊥
-      apart k l d m y = m (sym (s .heads .own k l d) ∙ ap (j .task) y ∙ s .heads .own i (found .0) (found .1 .0))
 
       pub front : (end : ℕ) → end ≡ t + getD left i 0 → Front n tasks t head left i end
       front end x =
@@ -227,8 +220,7 @@ module _ (n tasks : ℕ) (task cost ready held : List ℕ) (r : Runnable n tasks
           record {
             can = r;
             heads = heads-run j tasks order t head (s .heads) new i (getD head i 0) (found .0) refl (found .1 .0) other (omega (arith, rest));
-            left-long = length-set left i (end - new) ∙ s .left-long;
-            left-is = λ k l d. is k l d (same-or k i);
+            lefts = lefts-run j tasks order t head left (s .heads) (s .lefts) new i (found .0) (found .1 .0) other (end - new) (sym rest);
             waking = later-waking new (omega arith);
             written = written-run j t finish held (s .written) new (getD head i 0) other (omega (arith, rest));
             counted = one-more new ahead (omega arith) (new-stop not-never .0) none-ends;
@@ -255,10 +247,6 @@ module _ (n tasks : ℕ) (task cost ready held : List ℕ) (r : Runnable n tasks
               in
               omega (arith, is-left)
 
-          is : (k : ℕ) → k < tasks → getD head k 0 < n → (k ≡ i) ⊎ (k ≡ i → ⊥) → getD (set left i (end - new)) k 0 ≡ leftAt j new (getD head k 0)
-          is k l d (inl y) = rw y (getD-set-same left i (end - new) 0 (omega (arith, s .left-long, found .0, r .few-tasks)) ∙ sym rest)
-          is k l d (inr m) = getD-set-other left i k (end - new) 0 m ∙ s .left-is k l d ∙ sym (other (getD head k 0) (apart k l d m))
-
           -- it does not finish before, nor does another
           none-ends : (q : ℕ) → q < n → t < finishOf j q → finishOf j q < new → ⊥
           none-ends q a c d =
@@ -277,8 +265,8 @@ module _ (n tasks : ℕ) (task cost ready held : List ℕ) (r : Runnable n tasks
           record {
             can = r;
             heads = heads-done j tasks order t head (s .heads) end i (getD head i 0) (found .0) refl (found .1 .0) other gone next f;
-            left-long = length-set left i work ∙ s .left-long;
-            left-is = λ k l. is k l (same-or k i);
+            lefts = lefts-done j tasks order t head left (s .heads) (s .lefts) end i (found .0) (found .1 .0) other gone next work f
+                (λ d. c ∙ work-in cost n next d);
             waking = later-waking end (omega arith);
             written = written-done j t finish held (s .written) end (getD head i 0) other (found .1 .0) ends;
             counted = one-more end (omega (arith, is-left, unfinished)) b (rw ends at (finish-stop (getD head i 0) (found .1 .0))) none-ends;
@@ -304,15 +292,6 @@ module _ (n tasks : ℕ) (task cost ready held : List ℕ) (r : Runnable n tasks
 
           gone : leftAt j end (getD head i 0) ≡ 0
           gone = finish-done j (order .all) (getD head i 0) (found .1 .0) (r .cost-low (getD head i 0) (found .1 .0)) end (omega (arith, ends))
-
-          is : (k : ℕ) → k < tasks → (k ≡ i) ⊎ (k ≡ i → ⊥) → getD (set head i next) k 0 < n → getD (set left i work) k 0 ≡ leftAt j end (getD (set head i next) k 0)
-          is k l (inl y) =
-              rw (y, getD-set-same head i next 0 (omega (arith, s .heads .long, found .0, r .few-tasks)))
-              (λ d. getD-set-same left i work 0 (omega (arith, s .left-long, found .0, r .few-tasks)) ∙ c ∙ work-in cost n next d
-              ∙ sym (next-whole j tasks order t head (s .heads) end i (getD head i 0) (found .0) refl (found .1 .0) other gone next f d))
-          is k l (inr m) =
-              rw (getD-set-other head i k next 0 m)
-              (λ d. getD-set-other left i k work 0 m ∙ s .left-is k l d ∙ sym (other (getD head k 0) (apart k l d m)))
 
           none-ends : (q : ℕ) → q < n → t < finishOf j q → finishOf j q < end → ⊥
           none-ends q a b d =

@@ -9,22 +9,12 @@ use native.Mathlib.Nat.{eq-or-lt-of-le}
 use lib.ListN.{length, getD, set, length-set, replicate, length-replicate, getD-replicate}
 use lib.Seq.{getD-set-same, getD-set-other}
 use lib.Dec.{leb, eqb}
-use borrow.Author.Tests.{lt-ltb, le-ltb, leb-true, leb-false, eq-eqb, ne-eqb, eqb-true}
+use borrow.Author.Tests.{leb-true, leb-false, eq-eqb, ne-eqb, eqb-true}
 use Rattle.model.proofs.SeriesLaws.{below-suc, le-by, le-or-lt, clash, and-left, and-right}
 use Rattle.theory.proofs.JumpLaws.{same-or}
 use Rattle.queues.specs.Queues.{never, wakeOf}
 use Rattle.queues.proofs.SearchedLaws.{Least, least-is, wake-in, wake-out}
-use Rattle.jumps.specs.Jumps.{workOf, comes, comingOf, startAt, Queued, Next, Awake, Waking}
-
--- the work of the job at p
-module _ (cost : List ℕ) (n p : ℕ) where
-  pub work-in : p < n → workOf cost n p ≡ getD cost p 0
-  unfolding workOf
-  work-in h = rw (lt-ltb p n h)
-
-  pub work-out : n ≤ p → workOf cost n p ≡ 0
-  unfolding workOf
-  work-out h = rw (le-ltb p n h)
+use Rattle.jumps.specs.Jumps.{comes, comingOf, startAt, Queued, Next, Awake, Waking}
 
 -- a job of task i that may not run yet, and one of another task
 module _ (task ready : List ℕ) (n i t p : ℕ) where

@@ -1,11 +1,11 @@
 -- What the functions of the run that jumps answer, over columns of 32-bit numbers.
 use Prim.Native.Nat.{ℕ, _≤_, _<_}
 use mathlib.Core.Path.{_≡_}
-use mathlib.Core.Bool.{Bool, _&&_, not, cond}
+use mathlib.Core.Bool.{Bool, _&&_, not}
 use mathlib.Core.Logic.{_⊎_}
 use mathlib.Core.List.{List, _++_}
 use lib.ListN.{length, getD}
-use lib.Dec.{leb, ltb, eqb}
+use lib.Dec.{leb, eqb}
 use Rattle.model.specs.Limits.{maxTasks}
 use Rattle.model.specs.Series.{table}
 use Rattle.model.specs.Processor.{plain}
@@ -23,10 +23,6 @@ jumpIn (Refused n p) = refused (record { number = n; place = p })
 -- the ticks at which the run of some jobs stops: their start ticks, which are their ready ticks plus 1, and their finish ticks
 abbrev pub stopsOf : Jobs → List ℕ
 stopsOf j = table (j .start) (j .count) ++ table (finishOf j) (j .count)
-
--- the work of the job at p; 0 where p is past the list
-unfoldable pub workOf : List ℕ → ℕ → ℕ → ℕ
-workOf cost n p = cond (ltb p n) (getD cost p 0) 0
 
 -- the job at p is one of task i that may not run in tick t yet
 abbrev pub comes : List ℕ → List ℕ → ℕ → ℕ → ℕ → ℕ → Bool

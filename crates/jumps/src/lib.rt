@@ -2,17 +2,19 @@
 use numbers::wide;
 use queues::NEVER;
 use queues::first_jobs;
+use queues::first_work;
 use queues::may_run;
 use queues::next_of;
 use queues::smaller;
 use queues::top_ready;
 use queues::wake_of;
+use queues::work_of;
 use taskset::Checked;
 use taskset::TaskSet;
 ghost use mathlib.Core.Path.{_≡_};
 ghost use mathlib.Core.List.{_++_};
 ghost use Prim.Native.Nat.{_≤_, _<_};
-ghost use lib.ListN.{length, getD, drop};
+ghost use lib.ListN.{length, drop};
 ghost use Rattle.model.specs.Series.{table};
 ghost use Rattle.model.specs.Stops.{different};
 ghost use Rattle.model.specs.Choice.{column};
@@ -21,38 +23,13 @@ ghost use Rattle.model.specs.Ready.{readyList};
 ghost use Rattle.model.specs.Run.{finishOf, finishList};
 ghost use Rattle.model.specs.Calls.{releasesOf, columnAfter, runInputs, jumpCall};
 ghost use Rattle.taskset.specs.TaskSet.{viewOf};
-ghost use Rattle.queues.specs.Queues.{jobsOf, never, Holds, Runnable};
-ghost use Rattle.jumps.specs.Jumps.{jumpIn, stopsOf, workOf, comes, comingOf, Queued, Waking};
+ghost use Rattle.queues.specs.Queues.{jobsOf, never, Runnable};
+ghost use Rattle.jumps.specs.Jumps.{jumpIn, stopsOf, comes, comingOf, Queued, Waking};
 
 // What the run that jumps answers: how often it stopped, or document 01's number and place.
 pub enum JumpAnswer {
     Ran { stops: u32 },
     Refused { number: u32, place: usize },
-}
-
-// The work of the job at p, and 0 where p is past the list.
-fn work_of(cost: &[u32], n: usize, p: usize) -> u32
-    requires { ⌜ n ≤ length (now cost) ⌝ }
-    ensures { λ r. ⌜ r ≡ workOf (now (cost .entry)) n p ⌝ }
-{
-    if p < n {
-        return cost[p];
-    }
-    0
-}
-
-// The work that the oldest job of each task has before the first tick; 0 past the tasks.
-fn first_work(head: &[usize; 32], cost: &[u32], n: usize, tasks: usize) -> [u32; 32]
-    requires { ⌜ (tasks ≤ 32) × (n ≤ length (now cost)) ⌝ }
-    ensures { λ r. ⌜ Holds (λ i. workOf (now (cost .entry)) n (getD (now (head .entry)) i 0)) tasks 32 r ⌝ }
-{
-    let mut left = [0; 32];
-    let mut i = 0;
-    while i < tasks {
-        left[i] = work_of(cost, n, head[i]);
-        i += 1;
-    }
-    left
 }
 
 // Whether the job at p is one of task i that may not run in tick t yet.

@@ -14,7 +14,7 @@ use Rattle.model.specs.Search.{first}
 use Rattle.model.specs.Processor.{plain}
 use Rattle.model.proofs.SearchLaws.{Found, first-found, first-nothing, search-here, search-next, search-end}
 use Rattle.model.proofs.SeriesLaws.{below-suc, le-or-lt}
-use Rattle.queues.specs.Queues.{orElse, firstFrom, never, wakeOf, earliest, Holds}
+use Rattle.queues.specs.Queues.{orElse, firstFrom, never, wakeOf, workOf, earliest, Holds}
 
 -- a loop that looks at from, from + 1, .., n - 1 in turn and has passed all below p
 pub record Passed (test : ℕ → Bool) (n from p : ℕ) : Type 0 where
@@ -69,6 +69,16 @@ module _ (ready : List ℕ) (n p : ℕ) where
   pub wake-out : n ≤ p → wakeOf ready n p ≡ never
   unfolding wakeOf
   wake-out h = rw (le-ltb p n h)
+
+-- the work of the job at p
+module _ (cost : List ℕ) (n p : ℕ) where
+  pub work-in : p < n → workOf cost n p ≡ getD cost p 0
+  unfolding workOf
+  work-in h = rw (lt-ltb p n h)
+
+  pub work-out : n ≤ p → workOf cost n p ≡ 0
+  unfolding workOf
+  work-out h = rw (le-ltb p n h)
 
 -- the least of some values is over none of them, and is one of them or never
 pub earliest-le : (f : ℕ → ℕ) (n k : ℕ) → k < n → earliest f n ≤ f k

@@ -59,6 +59,10 @@ earliest f (suc n) = min (earliest f n) (f n)
 abbrev pub wakeAll : List ℕ → List ℕ → ℕ → ℕ → ℕ
 wakeAll head ready n tasks = earliest (λ i. wakeOf ready n (getD head i 0)) tasks
 
+-- the work of the job at p; 0 where p is past the list
+unfoldable pub workOf : List ℕ → ℕ → ℕ → ℕ
+workOf cost n p = cond (ltb p n) (getD cost p 0) 0
+
 -- the first n slots of a column of k slots hold f 0, .., f (n - 1), and the others 0
 pub record Holds (f : ℕ → ℕ) (n k : ℕ) (l : List ℕ) : Type 0 where
   pub long : length l ≡ k

@@ -3,9 +3,9 @@ use taskset::PICKUP;
 ghost use mathlib.Core.Path.{_≡_};
 ghost use Prim.Native.Nat.{_≤_, min};
 ghost use lib.Dec.{leb};
-ghost use lib.ListN.{length};
+ghost use lib.ListN.{length, getD};
 ghost use Rattle.model.specs.Processor.{plain};
-ghost use Rattle.queues.specs.Queues.{nextOf, wakeOf, topReady, wakeAll, Holds};
+ghost use Rattle.queues.specs.Queues.{nextOf, wakeOf, topReady, wakeAll, workOf, Holds};
 
 // A tick over every tick of 32 bits.
 pub const NEVER: u64 = 4294967296;
@@ -102,4 +102,29 @@ pub fn first_jobs(task: &[u32], n: usize, tasks: usize) -> [usize; 32]
         i += 1;
     }
     head
+}
+
+// The work of the job at p, and 0 where p is past the list.
+pub fn work_of(cost: &[u32], n: usize, p: usize) -> u32
+    requires { ⌜ n ≤ length (now cost) ⌝ }
+    ensures { λ r. ⌜ r ≡ workOf (now (cost .entry)) n p ⌝ }
+{
+    if p < n {
+        return cost[p];
+    }
+    0
+}
+
+// The work that the oldest job of each task has before the first tick; 0 past the tasks.
+pub fn first_work(head: &[usize; 32], cost: &[u32], n: usize, tasks: usize) -> [u32; 32]
+    requires { ⌜ (tasks ≤ 32) × (n ≤ length (now cost)) ⌝ }
+    ensures { λ r. ⌜ Holds (λ i. workOf (now (cost .entry)) n (getD (now (head .entry)) i 0)) tasks 32 r ⌝ }
+{
+    let mut left = [0; 32];
+    let mut i = 0;
+    while i < tasks {
+        left[i] = work_of(cost, n, head[i]);
+        i += 1;
+    }
+    left
 }

@@ -14,10 +14,11 @@ use Rattle.model.specs.Series.{table}
 use Rattle.model.specs.Run.{Jobs, leftAt, runs, finishOf}
 use Rattle.model.proofs.SeriesLaws.{le-by}
 use Rattle.theory.proofs.RunLaws.{runs-nothing, left-zero}
-use Rattle.queues.specs.Queues.{jobsOf, maxFinish, nextOf, topReady, wakeOf, wakeAll, never, Holds, Runnable}
-use Rattle.queues.proofs.SearchedLaws.{Least, least-is, wake-in, wake-out, earliest-le, earliest-is}
+use Rattle.queues.specs.Queues.{jobsOf, maxFinish, nextOf, topReady, wakeOf, wakeAll, never, workOf, Holds, Runnable}
+use Rattle.queues.proofs.SearchedLaws.{work-in, Least, least-is, wake-in, wake-out, earliest-le, earliest-is}
 use Rattle.queues.proofs.HeadLaws.{Ordered, May, start-soon, not-over, head-le, head-start, runs-head, runs-idle, all-finished}
 use Rattle.queues.proofs.ColumnLaws.{ordered, heads-start, none-above, none-found, one-found}
+use Rattle.queues.proofs.LeftColumnLaws.{lefts-start}
 use Rattle.queues.proofs.FinishColumnLaws.{written-start, written-end}
 use Rattle.schedule.proofs.TickLaws.{Running, tick-idle, tick-run, tick-finish}
 
@@ -26,7 +27,7 @@ pub record Top (j : Jobs) (tasks t : ℕ) (head left : List ℕ) (i : ℕ) : Typ
   pub task-in : i < tasks
   pub inside : getD head i 0 < j .count
   pub picked : runs j t ≡ some (getD head i 0)
-  pub some-left : 1 ≤ getD left (getD head i 0) 0
+  pub some-left : 1 ≤ getD left i 0
   pub not-last : t < maxFinish
 
 -- what holds at the beginning of tick t
@@ -45,15 +46,14 @@ module _ (n tasks : ℕ) (task cost ready held : List ℕ) (r : Runnable n tasks
 
   -- the state before the first tick
   pub fill-start : (head left : List ℕ)
-      → Holds (λ p. getD cost p 0) n 1024 left
       → Holds (λ i. nextOf task n i 0) tasks 32 head
+      → Holds (λ i. workOf cost n (getD head i 0)) tasks 32 left
       → Filling n tasks task cost ready held 0 0 head left held
   fill-start head left a b =
       filling 0 0 head left held
       record {
-        heads = heads-start n tasks task cost ready held r head b;
-        left-long = a .long;
-        left-is = λ p l. a .each p l ∙ sym (left-zero (jobsOf n task cost ready) p);
+        heads = heads-start n tasks task cost ready held r head a;
+        lefts = lefts-start n tasks task cost ready head left b;
         written = written-start (jobsOf n task cost ready) held (r .finish-long) (r .cost-low);
         asleep = λ p l g e. absurd (omega arith);
         wake-soon = omega arith;
@@ -131,7 +131,7 @@ module _ (n tasks : ℕ) (task cost ready held : List ℕ) (r : Runnable n tasks
           task-in = l;
           inside = m .0;
           picked = runs-head (jobsOf n task cost ready) tasks running t head (s .heads) i l m (none-above n tasks task cost ready head t (s .time) i e);
-          some-left = omega (arith, s .left-is (getD head i 0) (m .0), s .heads .unfinished i l (m .0));
+          some-left = omega (arith, s .lefts .each i l (m .0), s .heads .unfinished i l (m .0));
           not-last = not-over (jobsOf n task cost ready) tasks running t (getD head i 0) (m .0) (s .heads .unfinished i l (m .0));
         }
       where
@@ -145,31 +145,29 @@ module _ (n tasks : ℕ) (task cost ready held : List ℕ) (r : Runnable n tasks
         m = found .1
 
     -- that job is not finished after the tick
-    pub fill-run : (i p rest : ℕ)
+    pub fill-run : (i rest : ℕ)
         → Top (jobsOf n task cost ready) tasks t head left i
-        → getD head i 0 ≡ p
         → wake ≤ t
-        → rest ≡ getD left p 0 - 1
+        → rest ≡ getD left i 0 - 1
         → (rest ≡ 0 → ⊥)
-        → Filling n tasks task cost ready held (t + 1) wake head (set left p rest) finish
-    fill-run i p rest k e a b d =
-        filling (t + 1) wake head (set left p rest) finish
-        (tick-run (jobsOf n task cost ready) tasks running t wake head left finish held s i p (k .task-in) e (rw e at (k .inside)) (rw e at (k .picked)) a rest b
-        (omega (arith, d)))
+        → Filling n tasks task cost ready held (t + 1) wake head (set left i rest) finish
+    fill-run i rest k a b d =
+        filling (t + 1) wake head (set left i rest) finish
+        (tick-run (jobsOf n task cost ready) tasks running t wake head left finish held s i (k .task-in) (k .inside) (k .picked) a rest b (omega (arith, d)))
 
     -- it is finished after the tick
-    pub fill-done : (i p rest next : ℕ)
+    pub fill-done : (i rest next work : ℕ)
         → Top (jobsOf n task cost ready) tasks t head left i
-        → getD head i 0 ≡ p
         → wake ≤ t
-        → rest ≡ getD left p 0 - 1
+        → rest ≡ getD left i 0 - 1
         → rest ≡ 0
-        → next ≡ nextOf task n i (p + 1)
-        → Filling n tasks task cost ready held (t + 1) wake (set head i next) (set left p rest) (set finish p (t + 1))
-    fill-done i p rest next k e a b d g =
-        filling (t + 1) wake (set head i next) (set left p rest) (set finish p (t + 1))
-        (tick-finish (jobsOf n task cost ready) tasks running t wake head left finish held s i p (k .task-in) e (rw e at (k .inside))
-        (rw e at (k .picked)) a rest next b d g)
+        → next ≡ nextOf task n i (getD head i 0 + 1)
+        → work ≡ workOf cost n next
+        → Filling n tasks task cost ready held (t + 1) wake (set head i next) (set left i work) (set finish (getD head i 0) (t + 1))
+    fill-done i rest next work k a b d g c =
+        filling (t + 1) wake (set head i next) (set left i work) (set finish (getD head i 0) (t + 1))
+        (tick-finish (jobsOf n task cost ready) tasks running t wake head left finish held s i (k .task-in) (k .inside) (k .picked) a rest next work b d g
+        (λ l. c ∙ work-in cost n next l))
 
     -- every job is finished: the column
     pub fill-end : wakeAll head ready n tasks ≡ never → finish ≡ table (finishOf (jobsOf n task cost ready)) n ++ drop n held

@@ -1,15 +1,16 @@
 // The run, tick by tick: in each tick, of the jobs that were ready before it and are unfinished, the highest-priority task's oldest job runs.
 use queues::NEVER;
 use queues::first_jobs;
+use queues::first_work;
 use queues::next_of;
 use queues::top_ready;
 use queues::wake_all;
+use queues::work_of;
 use taskset::Checked;
 use taskset::TaskSet;
 ghost use mathlib.Core.Path.{_≡_};
 ghost use mathlib.Core.List.{_++_};
-ghost use Prim.Native.Nat.{_≤_};
-ghost use lib.ListN.{length, getD, drop};
+ghost use lib.ListN.{drop};
 ghost use Rattle.model.specs.Series.{table};
 ghost use Rattle.model.specs.Choice.{column};
 ghost use Rattle.model.specs.Checks.{refusalOf};
@@ -17,24 +18,10 @@ ghost use Rattle.model.specs.Ready.{readyList};
 ghost use Rattle.model.specs.Run.{finishOf, finishList};
 ghost use Rattle.model.specs.Calls.{releasesOf, columnAfter, runInputs};
 ghost use Rattle.taskset.specs.TaskSet.{viewOf, refusalIn};
-ghost use Rattle.queues.specs.Queues.{jobsOf, Holds, Runnable};
+ghost use Rattle.queues.specs.Queues.{jobsOf, Runnable};
 
-// The work that each job has before the first tick; 0 past the list.
-fn whole_work(cost: &[u32], n: usize) -> [u32; 1024]
-    requires { ⌜ (n ≤ 1024) × (n ≤ length (now cost)) ⌝ }
-    ensures { λ r. ⌜ Holds (λ p. getD (now (cost .entry)) p 0) n 1024 r ⌝ }
-{
-    let mut left = [0; 1024];
-    let mut p = 0;
-    while p < n {
-        left[p] = cost[p];
-        p += 1;
-    }
-    left
-}
-
-// The finish ticks of the run of n jobs, in the first n slots of the column lent. `left` has the ticks of work that each job has left, `head`
-// the oldest unfinished job of each task; before tick `wake` no unfinished job may run.
+// The finish ticks of the run of n jobs, in the first n slots of the column lent. `head` has the oldest unfinished job of each task, `left`
+// the ticks of work that it has left; before tick `wake` no unfinished job may run.
 fn fill_finish(
     task: &[u32],
     cost: &[u32],
@@ -49,8 +36,8 @@ fn fill_finish(
         ≡ table (finishOf (jobsOf n (now (task .entry)) (now (cost .entry)) (now (ready .entry)))) n ++ drop n (now (finish .entry))
         ⌝ }
 {
-    let mut left = whole_work(cost, n);
     let mut head = first_jobs(task, n, tasks);
+    let mut left = first_work(&head, cost, n, tasks);
     let mut wake: u64 = 0;
     let mut t: u64 = 0;
     loop {
@@ -67,14 +54,17 @@ fn fill_finish(
             t += 1;
             continue;
         }
-        let p = head[i];
-        let rest = left[p] - 1;
-        left[p] = rest;
+        let rest = left[i] - 1;
         t += 1;
-        if rest == 0 {
-            finish[p] = t as u32;
-            head[i] = next_of(task, n, i as u32, p + 1);
+        if rest != 0 {
+            left[i] = rest;
+            continue;
         }
+        let p = head[i];
+        finish[p] = t as u32;
+        let next = next_of(task, n, i as u32, p + 1);
+        head[i] = next;
+        left[i] = work_of(cost, n, next);
     }
 }
 

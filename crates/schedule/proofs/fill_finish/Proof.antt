@@ -9,20 +9,20 @@ use Rattle.schedule.proofs.fill_finish.Statement.{statement}
 use Rattle.schedule.proofs.fill_finish.Tie as tie
 
 abbrev Inv-loop : tie.InvT-loop
-Inv-loop task cost ready n tasks finish₀ left₀ head₀ wake₀ t₀ finish left head wake t = Filling n tasks task cost ready finish₀ t wake head left finish
+Inv-loop task cost ready n tasks finish₀ head₀ left₀ wake₀ t₀ finish head left wake t = Filling n tasks task cost ready finish₀ t wake head left finish
 
 abbrev μ-loop : tie.MeasureT-loop
-μ-loop task cost ready n tasks finish₀ left₀ head₀ wake₀ t₀ finish left head wake t = maxFinish - t
-
-whole-work-requires : tie.Need-whole-work-requires Inv-loop μ-loop
-whole-work-requires c κs = omega arith
+μ-loop task cost ready n tasks finish₀ head₀ left₀ wake₀ t₀ finish head left wake t = maxFinish - t
 
 first-jobs-requires : tie.Need-first-jobs-requires Inv-loop μ-loop
 first-jobs-requires c κs = omega arith
 
+first-work-requires : tie.Need-first-work-requires Inv-loop μ-loop
+first-work-requires c κs = omega arith
+
 loop-holds : tie.Need-loop-holds Inv-loop μ-loop
 loop-holds c =
-    fill-start _ _ _ _ _ _ (c .before .before .before .before .before .before .pre) _ _ (c .before .whole-work .ensures) (c .first-jobs .ensures)
+    fill-start _ _ _ _ _ _ (c .before .before .before .before .before .before .before .pre) _ _ (c .before .before .first-jobs .ensures) (c .first-work .ensures)
 
 add-t : tie.Need-add-t Inv-loop μ-loop
 add-t c = omega arith
@@ -70,18 +70,12 @@ abbrev at : tie.Else2 Inv-loop μ-loop → tie.At-loop Inv-loop μ-loop
 at c = c .before .before .before .before
 
 abbrev start : tie.At-loop Inv-loop μ-loop → tie.Start Inv-loop μ-loop
-start c = c .before .before .before .before .before .before .before
+start c = c .before .before .before .before .before .before .before .before
 
 top : (c : tie.Else2 Inv-loop μ-loop)
     → Top (jobsOf (start (at c) .args .n) (now (start (at c) .args .task)) (now (start (at c) .args .cost)) (now (start (at c) .args .ready)))
     (start (at c) .args .tasks) (at c .loop .t) (at c .loop .head) (at c .loop .left) (c .before .top-ready .result)
 top c = fill-top _ _ _ _ _ _ (at c .loop .inv .can) _ _ _ _ _ (at c .loop .inv .state) _ (c .before .top-ready .ensures) (c .if2 .left)
-
-mul-p : tie.Need-mul-p Inv-loop μ-loop
-mul-p c = omega (arith, top c)
-
-array-read-p : tie.Need-array-read-p Inv-loop μ-loop
-array-read-p c = omega (arith, top c)
 
 mul-rest : tie.Need-mul-rest Inv-loop μ-loop
 mul-rest c = omega (arith, top c)
@@ -92,14 +86,33 @@ array-read-rest c = omega (arith, top c)
 sub-rest : tie.Need-sub-rest Inv-loop μ-loop
 sub-rest c = omega (arith, top c)
 
-mul-left : tie.Need-mul-left Inv-loop μ-loop
-mul-left c = omega (arith, top c)
-
-array-write-left : tie.Need-array-write-left Inv-loop μ-loop
-array-write-left c = omega (arith, top c)
-
 add-t-3 : tie.Need-add-t-3 Inv-loop μ-loop
 add-t-3 c = omega (arith, top c)
+
+mul-left : tie.Need-mul-left Inv-loop μ-loop
+mul-left c = omega (arith, top (c .before))
+
+array-write-left : tie.Need-array-write-left Inv-loop μ-loop
+array-write-left c = omega (arith, top (c .before))
+
+loop-again-3 : tie.Need-loop-again-3 Inv-loop μ-loop
+loop-again-3 c =
+    fill-run _ _ _ _ _ _ (at (c .before) .loop .inv .can) _ _ _ _ _ (at (c .before) .loop .inv .state)
+    _
+    _
+    (top (c .before))
+    (c .before .before .before .before .if1 .left)
+    refl
+    (c .if4 .taken)
+
+loop-less-3 : tie.Need-loop-less-3 Inv-loop μ-loop
+loop-less-3 c = omega (arith, loop-again-3 c .state .time)
+
+mul-p : tie.Need-mul-p Inv-loop μ-loop
+mul-p c = omega (arith, top (c .before))
+
+array-read-p : tie.Need-array-read-p Inv-loop μ-loop
+array-read-p c = omega (arith, top (c .before))
 
 cast-finish : tie.Need-cast-finish Inv-loop μ-loop
 cast-finish c = omega (arith, top (c .before))
@@ -108,7 +121,7 @@ mul-finish : tie.Need-mul-finish Inv-loop μ-loop
 mul-finish c = omega (arith, top (c .before))
 
 slice-write-finish : tie.Need-slice-write-finish Inv-loop μ-loop
-slice-write-finish c = omega (arith, top (c .before))
+slice-write-finish c = omega (arith, top (c .before), at (c .before) .loop .inv .state .written)
 
 cast-next-of : tie.Need-cast-next-of Inv-loop μ-loop
 cast-next-of c = omega (arith, top (c .before))
@@ -125,34 +138,28 @@ mul-head c = omega (arith, top (c .before .before))
 array-write-head : tie.Need-array-write-head Inv-loop μ-loop
 array-write-head c = omega (arith, top (c .before .before))
 
-loop-again-3 : tie.Need-loop-again-3 Inv-loop μ-loop
-loop-again-3 c =
-    fill-done _ _ _ _ _ _ (at (c .before .before) .loop .inv .can) _ _ _ _ _ (at (c .before .before) .loop .inv .state)
-    _
-    _
-    _
-    _
-    (top (c .before .before))
-    refl
-    (c .before .before .before .before .before .if1 .left)
-    refl
-    (c .before .if4 .taken)
-    (c .next-of .ensures)
+work-of-requires : tie.Need-work-of-requires Inv-loop μ-loop
+work-of-requires c κs = at (c .before .before) .loop .inv .can .cost-long
 
-loop-less-3 : tie.Need-loop-less-3 Inv-loop μ-loop
-loop-less-3 c = omega (arith, loop-again-3 c .state .time)
+mul-left-2 : tie.Need-mul-left-2 Inv-loop μ-loop
+mul-left-2 c = omega (arith, top (c .before .before .before))
+
+array-write-left-2 : tie.Need-array-write-left-2 Inv-loop μ-loop
+array-write-left-2 c = omega (arith, top (c .before .before .before))
 
 loop-again-4 : tie.Need-loop-again-4 Inv-loop μ-loop
 loop-again-4 c =
-    fill-run _ _ _ _ _ _ (at (c .before) .loop .inv .can) _ _ _ _ _ (at (c .before) .loop .inv .state)
+    fill-done _ _ _ _ _ _ (at (c .before .before .before) .loop .inv .can) _ _ _ _ _ (at (c .before .before .before) .loop .inv .state)
     _
     _
     _
-    (top (c .before))
+    _
+    (top (c .before .before .before))
+    (c .before .before .before .before .before .before .if1 .left)
     refl
-    (c .before .before .before .before .if1 .left)
-    refl
-    (c .if4 .left)
+    (c .before .before .if4 .left)
+    (c .before .next-of .ensures)
+    (c .work-of .ensures)
 
 loop-less-4 : tie.Need-loop-less-4 Inv-loop μ-loop
 loop-less-4 c = omega (arith, loop-again-4 c .state .time)
@@ -163,8 +170,8 @@ fill-finish-spec =
     (tie.spec
     Inv-loop
     μ-loop
-    whole-work-requires
     first-jobs-requires
+    first-work-requires
     loop-holds
     add-t
     loop-less
@@ -176,14 +183,16 @@ fill-finish-spec =
     add-t-2
     loop-less-2
     loop-again-2
-    mul-p
-    array-read-p
     mul-rest
     array-read-rest
     sub-rest
+    add-t-3
     mul-left
     array-write-left
-    add-t-3
+    loop-less-3
+    loop-again-3
+    mul-p
+    array-read-p
     cast-finish
     mul-finish
     slice-write-finish
@@ -192,7 +201,8 @@ fill-finish-spec =
     next-of-requires
     mul-head
     array-write-head
-    loop-less-3
-    loop-again-3
+    work-of-requires
+    mul-left-2
+    array-write-left-2
     loop-less-4
     loop-again-4)

@@ -1,9 +1,9 @@
 -- A place in the list has its cost, and one past it 0.
-use mathlib.Core.Path.{refl, sym}
+use mathlib.Core.Path.{sym}
 use borrow.Author.Needs.{needs}
-use Rattle.jumps.proofs.WakeLaws.{work-in, work-out}
-use Rattle.jumps.proofs.work_of.Statement.{statement}
-use Rattle.jumps.proofs.work_of.Tie as tie
+use Rattle.queues.proofs.SearchedLaws.{work-in, work-out}
+use Rattle.queues.proofs.work_of.Statement.{statement}
+use Rattle.queues.proofs.work_of.Tie as tie
 
 mul-result : tie.Need-mul-result
 mul-result c = search needs

@@ -4,11 +4,10 @@ use mathlib.Core.Path.{_≡_}
 use borrow.Author.Needs.{needs}
 use native.Mathlib.Omega.{arith}
 use lib.ListN.{getD}
-use Rattle.queues.specs.Queues.{Holds}
+use Rattle.queues.specs.Queues.{workOf, Holds}
 use Rattle.queues.proofs.SearchedLaws.{holds-none, holds-next}
-use Rattle.jumps.specs.Jumps.{workOf}
-use Rattle.jumps.proofs.first_work.Statement.{statement}
-use Rattle.jumps.proofs.first_work.Tie as tie
+use Rattle.queues.proofs.first_work.Statement.{statement}
+use Rattle.queues.proofs.first_work.Tie as tie
 
 abbrev Inv-loop : tie.InvT-loop
 Inv-loop head cost n tasks left₀ i₀ left i = (i ≤ tasks) × Holds (λ x. workOf cost n (getD head x 0)) i 32 left
