@@ -53,7 +53,7 @@ module _ (s : Tasks) (kept : List ℕ) (n : ℕ) (task tick cost ready finish : 
   unfolding jumpCall
   never-refused r m p e h =
       let f : refused (record { number = m; place = p }) ≡ answered (stopCount s (column kept) (releasesOf n task tick cost)) =
-          sym (ap jumpIn e) ∙ h ∙ sym (answers (runInputs s kept n task tick cost ready finish) _ (sym accepted))
+      sym (ap jumpIn e) ∙ h ∙ sym (answers (runInputs s kept n task tick cost ready finish) _ (sym accepted))
       in
       let z : _≡_ {A = ℕ} 0 1 = cc in
       omega arith

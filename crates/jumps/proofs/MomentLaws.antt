@@ -6,7 +6,8 @@ use mathlib.Core.Logic.{_⊎_, inl, inr}
 use mathlib.Core.Bool.{true}
 use mathlib.Core.List.{List, _++_}
 use native.Mathlib.Omega.{arith}
-use lib.ListN.{getD, set, drop, replicate, length-append}
+use lib.Dec.{leb}
+use lib.ListN.{getD, set, drop, length-append}
 use Rattle.model.specs.Series.{table}
 use Rattle.model.specs.Stops.{has, different}
 use Rattle.model.specs.Run.{Jobs, leftAt, finishOf}
@@ -16,21 +17,22 @@ use Rattle.model.proofs.StopLaws.{has-append, has-behind, has-either, has-table
 use Rattle.theory.proofs.WorkLaws.{supply-all}
 use Rattle.theory.proofs.FinishLaws.{finish-by, finish-done, finish-late}
 use Rattle.theory.proofs.JumpLaws.{Keeps, Rests, NoStart, left-rests, left-keeps, left-others, rests, keeps, finish-keeps, finish-soonest, rests-none, keeps-only}
-use Rattle.queues.specs.Queues.{jobsOf, maxFinish, nextOf, topReady, never, workOf, Holds, Runnable}
+use Rattle.queues.specs.Queues.{jobsOf, maxFinish, firstFrom, nextOf, topReady, never, wakeOf, workOf, Holds, Runnable}
 use Rattle.queues.proofs.SearchedLaws.{work-in}
 use Rattle.queues.proofs.HeadLaws.{Ordered, Heads, May, start-soon, head-first, head-none, all-finished, heads-rest, heads-run, heads-done}
 use Rattle.queues.proofs.ColumnLaws.{ordered, heads-start, none-above, none-found, one-found}
 use Rattle.queues.proofs.LeftColumnLaws.{Lefts, lefts-start, lefts-rest, lefts-run, lefts-done}
 use Rattle.queues.proofs.FinishColumnLaws.{Written, written-start, written-rest, written-run, written-done, written-end}
-use Rattle.jumps.specs.Jumps.{stopsOf, Queued, Next, Waking}
-use Rattle.jumps.proofs.WakeLaws.{awake-start, waking-later}
+use Rattle.jumps.specs.Jumps.{stopsOf, Queued, Next, Waking, Sinces}
+use Rattle.jumps.proofs.WakeLaws.{awake-start, waking-later, since-top, sinces-done}
 
 -- what holds at tick t, a stop or the beginning. The column of finish ticks held `held`
-pub record Moment (n tasks : ℕ) (task cost ready held : List ℕ) (t wake stops : ℕ) (head left coming finish : List ℕ) : Type 0 where
+pub record Moment (n tasks : ℕ) (task cost ready held : List ℕ) (t wake stops : ℕ) (head since left coming due finish : List ℕ) : Type 0 where
   pub can : Runnable n tasks task cost ready held
   pub heads : Heads (jobsOf n task cost ready) tasks t head
   pub lefts : Lefts (jobsOf n task cost ready) tasks t head left
-  pub waking : Waking n tasks task ready t wake coming
+  pub sinces : Sinces n tasks ready head since
+  pub waking : Waking n tasks task ready t wake coming due
   pub written : Written (jobsOf n task cost ready) t finish held
   pub counted : stops ≡ below (stopsOf (jobsOf n task cost ready)) (suc t)
   pub time : t ≤ maxFinish
@@ -95,24 +97,30 @@ module _ (n tasks : ℕ) (task cost ready held : List ℕ) (r : Runnable n tasks
       )
 
   -- the state before the first tick
-  pub moment-start : (head left : List ℕ)
+  pub moment-start : (head since left : List ℕ)
       → Holds (λ i. nextOf task n i 0) tasks 32 head
+      → Holds (λ i. wakeOf ready n (getD head i 0)) tasks 32 since
       → Holds (λ i. workOf cost n (getD head i 0)) tasks 32 left
-      → Moment n tasks task cost ready held 0 0 0 head left (replicate 32 0) held
-  moment-start head left a b =
+      → Moment n tasks task cost ready held 0 0 0 head since left head since held
+  moment-start head since left a d b =
       record {
         can = r;
         heads = heads-start n tasks task cost ready held r head a;
         lefts = lefts-start n tasks task cost ready head left b;
-        waking = record { awake = awake-start n tasks task ready (r .few-tasks); next = λ l. absurd (omega arith) };
+        sinces = record { long = d .long; each = d .each };
+        waking = record { awake = awake-start n tasks task ready head since a d; next = λ l. absurd (omega arith) };
         written = written-start j held (r .finish-long) (r .cost-low);
         counted = sym (below-none (stopsOf j) 1 (λ x l h. stop-by x ⊥ h (λ p g e. omega arith) (λ p g e. omega (arith, finish-late j (order .all) p g (r .cost-low p g)))));
         time = omega arith;
       }
 
   -- a moment at which the next start tick after it is known, and the search for the job that runs was made
-  module _ (t wake stops : ℕ) (head left coming finish : List ℕ) (s : Moment n tasks task cost ready held t wake stops head left coming finish) (new : ℕ)
-      (later : List ℕ) (w : Waking n tasks task ready t new later) (ahead : t < new) (i : ℕ) (e : i ≡ topReady head ready n tasks t) where
+  module _ (t wake stops : ℕ) (head since left coming due finish : List ℕ)
+      (s : Moment n tasks task cost ready held t wake stops head since left coming due finish) (new : ℕ) (later soon : List ℕ)
+      (w : Waking n tasks task ready t new later soon) (ahead : t < new) (i : ℕ) (found-first : i ≡ firstFrom (λ k. leb (getD since k 0) t) tasks 0) where
+    e : i ≡ topReady head ready n tasks t
+    e = since-top n tasks ready head since t i (s .sinces) found-first
+
     no-start : (k : ℕ) → t + k ≤ new → NoStart j t k
     no-start k l q a b = omega (arith, w .next ahead .low q a (r .known q a) b)
 
@@ -136,16 +144,17 @@ module _ (n tasks : ℕ) (task cost ready held : List ℕ) (r : Runnable n tasks
         go (inl x) = absurd (h x)
         go (inr (q, a, b, x)) = (rw x at (start-stop q a), omega (arith, start-soon j tasks order q a))
 
-    later-waking : (u : ℕ) → t ≤ u → Waking n tasks task ready u new later
-    later-waking u h = waking-later n tasks task ready t u new later h ahead w
+    later-waking : (u : ℕ) → t ≤ u → Waking n tasks task ready u new later soon
+    later-waking u h = waking-later n tasks task ready t u new later soon h ahead w
 
     -- no job may run: on to the next start tick
-    pub moment-wait : i ≡ tasks → (new ≡ never → ⊥) → Moment n tasks task cost ready held new new (stops + 1) head left later finish
+    pub moment-wait : i ≡ tasks → (new ≡ never → ⊥) → Moment n tasks task cost ready held new new (stops + 1) head since left later soon finish
     moment-wait g h =
         record {
           can = r;
           heads = heads-rest j tasks order t head (s .heads) new same;
           lefts = lefts-rest j tasks order t head left (s .heads) (s .lefts) new same;
+          sinces = s .sinces;
           waking = later-waking new (omega arith);
           written = written-rest j t finish held (s .written) new same;
           counted = one-more new ahead (omega arith) (new-stop h .0) (λ q a b d. rests-none j (order .all) t q (new - t) a (r .cost-low q a) rest b (omega arith));
@@ -215,12 +224,13 @@ module _ (n tasks : ℕ) (task cost ready held : List ℕ) (r : Runnable n tasks
 
       -- another job starts before it ends
       pub moment-cut : (end : ℕ) → end ≡ t + getD left i 0 → new < end
-          → Moment n tasks task cost ready held new new (stops + 1) head (set left i (end - new)) later finish
+          → Moment n tasks task cost ready held new new (stops + 1) head since (set left i (end - new)) later soon finish
       moment-cut end x b =
           record {
             can = r;
             heads = heads-run j tasks order t head (s .heads) new i (getD head i 0) (found .0) refl (found .1 .0) other (omega (arith, rest));
             lefts = lefts-run j tasks order t head left (s .heads) (s .lefts) new i (found .0) (found .1 .0) other (end - new) (sym rest);
+            sinces = s .sinces;
             waking = later-waking new (omega arith);
             written = written-run j t finish held (s .written) new (getD head i 0) other (omega (arith, rest));
             counted = one-more new ahead (omega arith) (new-stop not-never .0) none-ends;
@@ -243,7 +253,7 @@ module _ (n tasks : ℕ) (task cost ready held : List ℕ) (r : Runnable n tasks
           rest : leftAt j new (getD head i 0) ≡ end - new
           rest =
               let a : leftAt j new (getD head i 0) + (new - t) ≡ leftAt j t (getD head i 0) =
-                  rw (to, supply-all j t (order .all) (new - t)) at (left-keeps j t (getD head i 0) (new - t) long)
+              rw (to, supply-all j t (order .all) (new - t)) at (left-keeps j t (getD head i 0) (new - t) long)
               in
               omega (arith, is-left)
 
@@ -255,18 +265,21 @@ module _ (n tasks : ℕ) (task cost ready held : List ℕ) (r : Runnable n tasks
               omega (arith, rest, ap (leftAt j new) y)
 
       -- it ends before another starts, or when it does
-      pub moment-done : (end next work : ℕ)
+      pub moment-done : (end next start work : ℕ)
           → end ≡ t + getD left i 0
           → end ≤ new
           → next ≡ nextOf task n i (getD head i 0 + 1)
+          → start ≡ wakeOf ready n next
           → work ≡ workOf cost n next
-          → Moment n tasks task cost ready held end new (stops + 1) (set head i next) (set left i work) later (set finish (getD head i 0) end)
-      moment-done end next work x b f c =
+          → Moment n tasks task cost ready held end new (stops + 1) (set head i next) (set since i start) (set left i work) later soon
+          (set finish (getD head i 0) end)
+      moment-done end next start work x b f a c =
           record {
             can = r;
             heads = heads-done j tasks order t head (s .heads) end i (getD head i 0) (found .0) refl (found .1 .0) other gone next f;
             lefts = lefts-done j tasks order t head left (s .heads) (s .lefts) end i (found .0) (found .1 .0) other gone next work f
                 (λ d. c ∙ work-in cost n next d);
+            sinces = sinces-done n tasks ready head since (r .few-tasks) (s .heads .long) (s .sinces) i next start (found .0) a;
             waking = later-waking end (omega arith);
             written = written-done j t finish held (s .written) end (getD head i 0) other (found .1 .0) ends;
             counted = one-more end (omega (arith, is-left, unfinished)) b (rw ends at (finish-stop (getD head i 0) (found .1 .0))) none-ends;

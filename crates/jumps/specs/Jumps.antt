@@ -44,18 +44,26 @@ pub record Queued (n tasks : ℕ) (task ready : List ℕ) : Type 0 where
 abbrev pub startAt : List ℕ → ℕ → ℕ
 startAt ready p = plain .start (getD ready p 0)
 
--- wake is the first start tick after t of the jobs of tasks 0, .., i - 1, or never
-pub record Next (n i : ℕ) (task ready : List ℕ) (t wake : ℕ) : Type 0 where
-  pub low : (q : ℕ) → q < n → getD task q 0 < i → t < startAt ready q → wake ≤ startAt ready q
+-- wake is the first start tick after t of the jobs of some tasks, or never
+pub record Next (n : ℕ) (task ready : List ℕ) (those : ℕ → Type 0) (t wake : ℕ) : Type 0 where
+  pub low : (q : ℕ) → q < n → those (getD task q 0) → t < startAt ready q → wake ≤ startAt ready q
   pub real : (wake ≡ never) ⊎ ((q : ℕ) × (q < n) × (t < startAt ready q) × (startAt ready q ≡ wake))
 
--- a place for each task: every job of the task before it may run in tick t
-pub record Awake (n tasks : ℕ) (task ready : List ℕ) (t : ℕ) (coming : List ℕ) : Type 0 where
+-- for each task the place of a job of the task before which every one may run in tick t, or n, and its start tick
+pub record Awake (n tasks : ℕ) (task ready : List ℕ) (t : ℕ) (coming due : List ℕ) : Type 0 where
   pub long : length coming ≡ 32
+  pub due-long : length due ≡ 32
   pub within : (i : ℕ) → i < tasks → getD coming i 0 ≤ n
+  pub own : (i : ℕ) → i < tasks → getD coming i 0 < n → getD task (getD coming i 0) 0 ≡ i
   pub past : (i q : ℕ) → i < tasks → q < getD coming i 0 → getD task q 0 ≡ i → startAt ready q ≤ t
+  pub due-is : (i : ℕ) → i < tasks → getD due i 0 ≡ wakeOf ready n (getD coming i 0)
 
 -- what is known of the next start tick at t: where t has not reached wake, it is wake
-pub record Waking (n tasks : ℕ) (task ready : List ℕ) (t wake : ℕ) (coming : List ℕ) : Type 0 where
-  pub awake : Awake n tasks task ready t coming
-  pub next : t < wake → Next n tasks task ready t wake
+pub record Waking (n tasks : ℕ) (task ready : List ℕ) (t wake : ℕ) (coming due : List ℕ) : Type 0 where
+  pub awake : Awake n tasks task ready t coming due
+  pub next : t < wake → Next n task ready (λ i. i < tasks) t wake
+
+-- a column with the start tick of each task's oldest unfinished job
+pub record Sinces (n tasks : ℕ) (ready head since : List ℕ) : Type 0 where
+  pub long : length since ≡ 32
+  pub each : (i : ℕ) → i < tasks → getD since i 0 ≡ wakeOf ready n (getD head i 0)

@@ -6,7 +6,6 @@ use queues::first_work;
 use queues::may_run;
 use queues::next_of;
 use queues::smaller;
-use queues::top_ready;
 use queues::wake_of;
 use queues::work_of;
 use taskset::Checked;
@@ -14,7 +13,8 @@ use taskset::TaskSet;
 ghost use mathlib.Core.Path.{_≡_};
 ghost use mathlib.Core.List.{_++_};
 ghost use Prim.Native.Nat.{_≤_, _<_};
-ghost use lib.ListN.{length, drop};
+ghost use lib.Dec.{leb};
+ghost use lib.ListN.{length, getD, drop};
 ghost use Rattle.model.specs.Series.{table};
 ghost use Rattle.model.specs.Stops.{different};
 ghost use Rattle.model.specs.Choice.{column};
@@ -23,8 +23,8 @@ ghost use Rattle.model.specs.Ready.{readyList};
 ghost use Rattle.model.specs.Run.{finishOf, finishList};
 ghost use Rattle.model.specs.Calls.{releasesOf, columnAfter, runInputs, jumpCall};
 ghost use Rattle.taskset.specs.TaskSet.{viewOf};
-ghost use Rattle.queues.specs.Queues.{jobsOf, never, Runnable};
-ghost use Rattle.jumps.specs.Jumps.{jumpIn, stopsOf, comes, comingOf, Queued, Waking};
+ghost use Rattle.queues.specs.Queues.{jobsOf, never, firstFrom, wakeOf, Holds, Runnable};
+ghost use Rattle.jumps.specs.Jumps.{jumpIn, stopsOf, comes, comingOf, Queued, Next, Awake, Waking};
 
 // What the run that jumps answers: how often it stopped, or document 01's number and place.
 pub enum JumpAnswer {
@@ -58,8 +58,36 @@ fn coming_of(task: &[u32], ready: &[u32], n: usize, i: u32, t: u64, from: usize)
     n
 }
 
-// The next tick after t in which a job may run for the first time, NEVER where there is none. It is `wake` unless t has reached that;
-// `coming` has for each task a place before which every job of the task may run in tick t, and is moved on.
+// The first start tick after t of task i, NEVER where there is none. `coming` has for each task a place before which every job of the task
+// may run in tick t, `due` its start tick; those of task i are moved on where t has reached the tick.
+fn next_due(
+    task: &[u32],
+    ready: &[u32],
+    n: usize,
+    tasks: usize,
+    t: u64,
+    i: usize,
+    coming: &mut [usize],
+    due: &mut [u64],
+) -> u64
+    requires { ⌜ Queued n tasks (now task) (now ready) × Awake n tasks (now task) (now ready) t (now coming) (now due) × (i < tasks) ⌝ }
+    ensures { λ r. ⌜
+        Awake n tasks (now (task .entry)) (now (ready .entry)) t (now (coming .exit)) (now (due .exit))
+        × Next n (now (task .entry)) (now (ready .entry)) (λ k. k ≡ i) t r
+        ⌝ }
+{
+    let soon = due[i];
+    if t < soon {
+        return soon;
+    }
+    let p = coming_of(task, ready, n, i as u32, t, coming[i]);
+    let later = wake_of(ready, n, p);
+    coming[i] = p;
+    due[i] = later;
+    later
+}
+
+// The next tick after t in which a job may run for the first time, NEVER where there is none. It is `wake` unless t has reached that.
 fn next_wake(
     task: &[u32],
     ready: &[u32],
@@ -68,9 +96,10 @@ fn next_wake(
     t: u64,
     wake: u64,
     coming: &mut [usize],
+    due: &mut [u64],
 ) -> u64
-    requires { ⌜ Queued n tasks (now task) (now ready) × Waking n tasks (now task) (now ready) t wake (now coming) × (t < never) ⌝ }
-    ensures { λ r. ⌜ Waking n tasks (now (task .entry)) (now (ready .entry)) t r (now (coming .exit)) × (t < r) ⌝ }
+    requires { ⌜ Queued n tasks (now task) (now ready) × Waking n tasks (now task) (now ready) t wake (now coming) (now due) × (t < never) ⌝ }
+    ensures { λ r. ⌜ Waking n tasks (now (task .entry)) (now (ready .entry)) t r (now (coming .exit)) (now (due .exit)) × (t < r) ⌝ }
 {
     if t < wake {
         return wake;
@@ -78,16 +107,44 @@ fn next_wake(
     let mut least = NEVER;
     let mut i = 0;
     while i < tasks {
-        let p = coming_of(task, ready, n, i as u32, t, coming[i]);
-        coming[i] = p;
-        least = smaller(least, wake_of(ready, n, p));
+        let soon = next_due(task, ready, n, tasks, t, i, coming, due);
+        least = smaller(least, soon);
         i += 1;
     }
     least
 }
 
+// The start tick of the oldest job of each task; 0 past the tasks.
+fn first_starts(head: &[usize; 32], ready: &[u32], n: usize, tasks: usize) -> [u64; 32]
+    requires { ⌜ (tasks ≤ 32) × (n ≤ length (now ready)) ⌝ }
+    ensures { λ r. ⌜ Holds (λ i. wakeOf (now (ready .entry)) n (getD (now (head .entry)) i 0)) tasks 32 r ⌝ }
+{
+    let mut since = [0; 32];
+    let mut i = 0;
+    while i < tasks {
+        since[i] = wake_of(ready, n, head[i]);
+        i += 1;
+    }
+    since
+}
+
+// The first task whose start tick is t or before; tasks where there is none.
+fn top_started(since: &[u64; 32], tasks: usize, t: u64) -> usize
+    requires { ⌜ tasks ≤ 32 ⌝ }
+    ensures { λ r. ⌜ r ≡ firstFrom (λ i. leb (getD (now (since .entry)) i 0) t) tasks 0 ⌝ }
+{
+    let mut i = 0;
+    while i < tasks {
+        if since[i] <= t {
+            return i;
+        }
+        i += 1;
+    }
+    tasks
+}
+
 // The finish ticks of the run of n jobs, in the first n slots of the column lent, and how often the run stopped. At tick t `head` has the
-// oldest unfinished job of each task, `left` the ticks of work that it has left; the next start tick after t is `wake`.
+// oldest unfinished job of each task, `since` its start tick, `left` the ticks of work that it has left; the next start tick after t is `wake`.
 fn fill_finish(
     task: &[u32],
     cost: &[u32],
@@ -104,14 +161,16 @@ fn fill_finish(
     ensures stops { λ r. ⌜ r ≡ different (stopsOf (jobsOf n (now (task .entry)) (now (cost .entry)) (now (ready .entry)))) ⌝ }
 {
     let mut head = first_jobs(task, n, tasks);
+    let mut since = first_starts(&head, ready, n, tasks);
     let mut left = first_work(&head, cost, n, tasks);
-    let mut coming: [usize; 32] = [0; 32];
+    let mut coming = head;
+    let mut due = since;
     let mut wake: u64 = 0;
     let mut t: u64 = 0;
     let mut stops: u32 = 0;
     loop {
-        wake = next_wake(task, ready, n, tasks, t, wake, &mut coming);
-        let i = top_ready(&head, ready, n, tasks, t);
+        wake = next_wake(task, ready, n, tasks, t, wake, &mut coming, &mut due);
+        let i = top_started(&since, tasks, t);
         if i == tasks {
             if wake == NEVER {
                 return stops;
@@ -131,6 +190,7 @@ fn fill_finish(
         finish[p] = end as u32;
         let next = next_of(task, n, i as u32, p + 1);
         head[i] = next;
+        since[i] = wake_of(ready, n, next);
         left[i] = work_of(cost, n, next);
         t = end;
         stops += 1;
@@ -168,7 +228,10 @@ pub fn run(
 {
     let checked = trace::check_and_shape(s, kept, count, task, tick, cost, ready, finish.len());
     if let Checked::Refused { number, place } = checked {
-        return JumpAnswer::Refused { number: number, place: place };
+        return JumpAnswer::Refused {
+            number: number,
+            place: place,
+        };
     }
     let tasks = s.count;
     let stops = fill_finish(task, cost, ready, count, tasks, finish);

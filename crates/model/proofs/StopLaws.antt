@@ -101,7 +101,7 @@ unfolding below sum
 below-next l t u a h e =
     let s : u ≡ t + (u - t) = omega arith in
     let split : sum (λ x. on (has l x) 1) u ≡ sum (λ x. on (has l x) 1) t + sum (λ k. on (has l (t + k)) 1) (u - t) =
-        ap (sum (λ x. on (has l x) 1)) s ∙ sum-append (λ x. on (has l x) 1) t (u - t)
+    ap (sum (λ x. on (has l x) 1)) s ∙ sum-append (λ x. on (has l x) 1) t (u - t)
     in
     omega (arith, split, on-true (has l u) 1 e, sum-nil (λ k. on (has l (t + k)) 1) (u - t) (λ k b. go k b (has l (t + k)) refl))
   where

@@ -10,39 +10,47 @@ use Rattle.jumps.proofs.fill_finish.Statement.{statement}
 use Rattle.jumps.proofs.fill_finish.Tie as tie
 
 abbrev Inv-loop : tie.InvT-loop
-Inv-loop task cost ready n tasks finish₀ head₀ left₀ coming₀ wake₀ t₀ stops₀ finish head left coming wake t stops =
-    Moment n tasks task cost ready finish₀ t wake stops head left coming finish
+Inv-loop task cost ready n tasks finish₀ head₀ since₀ left₀ coming₀ due₀ wake₀ t₀ stops₀ finish head since left coming due wake t stops =
+    Moment n tasks task cost ready finish₀ t wake stops head since left coming due finish
 
 abbrev μ-loop : tie.MeasureT-loop
-μ-loop task cost ready n tasks finish₀ head₀ left₀ coming₀ wake₀ t₀ stops₀ finish head left coming wake t stops = maxFinish - t
+μ-loop task cost ready n tasks finish₀ head₀ since₀ left₀ coming₀ due₀ wake₀ t₀ stops₀ finish head since left coming due wake t stops = maxFinish - t
 
 first-jobs-requires : tie.Need-first-jobs-requires Inv-loop μ-loop
 first-jobs-requires c κs = omega arith
+
+first-starts-requires : tie.Need-first-starts-requires Inv-loop μ-loop
+first-starts-requires c κs = omega arith
 
 first-work-requires : tie.Need-first-work-requires Inv-loop μ-loop
 first-work-requires c κs = omega arith
 
 loop-holds : tie.Need-loop-holds Inv-loop μ-loop
 loop-holds c =
-    moment-start _ _ _ _ _ _ (c .before .before .before .before .before .before .before .pre) _ _ (c .before .before .first-jobs .ensures) (c .first-work .ensures)
+    let f = c .before .before .before .before in
+    moment-start _ _ _ _ _ _ (f .before .before .before .before .before .pre) _ _ _ (f .first-jobs .ensures) (c .before .before .first-starts .ensures)
+    (c .first-work .ensures)
 
 slice-aggregate-next-wake : tie.Need-slice-aggregate-next-wake Inv-loop μ-loop
 slice-aggregate-next-wake c = sym (c .before .loop .inv .waking .awake .long)
 
+slice-aggregate-next-wake-2 : tie.Need-slice-aggregate-next-wake-2 Inv-loop μ-loop
+slice-aggregate-next-wake-2 c = sym (c .before .before .loop .inv .waking .awake .due-long)
+
 next-wake-requires : tie.Need-next-wake-requires Inv-loop μ-loop
 next-wake-requires c κs =
-    let m = c .before .loop .inv in
+    let m = c .before .before .loop .inv in
     (queued _ _ _ _ _ _ (m .can), m .waking, omega (arith, m .time))
 
-top-ready-requires : tie.Need-top-ready-requires Inv-loop μ-loop
-top-ready-requires c κs = let m = c .before .before .before .before .loop .inv in (m .can .few-tasks, m .can .ready-long)
+top-started-requires : tie.Need-top-started-requires Inv-loop μ-loop
+top-started-requires c κs = c .before .before .before .before .before .before .loop .inv .can .few-tasks
 
 -- the state at the head of the turn in which the next start tick and the job that runs were found
-abbrev at : tie.After-top-ready Inv-loop μ-loop → tie.At-loop Inv-loop μ-loop
-at c = c .before .before .before .before .before
+abbrev at : tie.After-top-started Inv-loop μ-loop → tie.At-loop Inv-loop μ-loop
+at c = c .before .before .before .before .before .before .before
 
 -- the stops fit
-room : (c : tie.After-top-ready Inv-loop μ-loop) → at c .loop .stops ≤ 2048
+room : (c : tie.After-top-started Inv-loop μ-loop) → at c .loop .stops ≤ 2048
 room c =
     let m = at c .loop .inv in
     omega (arith, m .counted, stops-few _ _ _ _ _ _ (m .can) (at c .loop .t) (m .time), m .can .few)
@@ -54,8 +62,8 @@ returns : tie.Need-returns Inv-loop μ-loop
 returns c =
     let b = c .before .before in
     let m = at b .loop .inv in
-    let w = b .before .before .before .next-wake .ensures in
-    moment-end _ _ _ _ _ _ (m .can) _ _ _ _ _ _ _ m _ _ (w .0) (w .1) _ (b .top-ready .ensures) (c .before .if1 .taken) (c .if2 .taken)
+    let w = b .before .before .before .before .next-wake .ensures in
+    moment-end _ _ _ _ _ _ (m .can) _ _ _ _ _ _ _ _ _ m _ _ _ (w .0) (w .1) _ (b .top-started .ensures) (c .before .if1 .taken) (c .if2 .taken)
 
 add-stops : tie.Need-add-stops Inv-loop μ-loop
 add-stops c = omega (arith, room (c .before .before))
@@ -64,23 +72,23 @@ loop-again : tie.Need-loop-again Inv-loop μ-loop
 loop-again c =
     let b = c .before .before in
     let m = at b .loop .inv in
-    let w = b .before .before .before .next-wake .ensures in
-    moment-wait _ _ _ _ _ _ (m .can) _ _ _ _ _ _ _ m _ _ (w .0) (w .1) _ (b .top-ready .ensures) (c .before .if1 .taken) (c .if2 .left)
+    let w = b .before .before .before .before .next-wake .ensures in
+    moment-wait _ _ _ _ _ _ (m .can) _ _ _ _ _ _ _ _ _ m _ _ _ (w .0) (w .1) _ (b .top-started .ensures) (c .before .if1 .taken) (c .if2 .left)
 
 loop-less : tie.Need-loop-less Inv-loop μ-loop
-loop-less c = omega (arith, loop-again c .time, c .before .before .before .before .before .next-wake .ensures .1)
+loop-less c = omega (arith, loop-again c .time, c .before .before .before .before .before .before .next-wake .ensures .1)
 
 -- some job may run: which, and when it ends at the earliest
 found : (c : tie.Else1 Inv-loop μ-loop)
     → let b = at (c .before) in
-    let a = b .before .before .before .before .before .before .before .before .args in
-    Front (a .n) (a .tasks) (b .loop .t) (b .loop .head) (b .loop .left) (c .before .top-ready .result)
-    (b .loop .t + getD (b .loop .left) (c .before .top-ready .result) 0)
+    let a = b .before .before .before .before .before .before .before .before .before .before .args in
+    Front (a .n) (a .tasks) (b .loop .t) (b .loop .head) (b .loop .left) (c .before .top-started .result)
+    (b .loop .t + getD (b .loop .left) (c .before .top-started .result) 0)
 found c =
     let b = c .before in
     let m = at b .loop .inv in
-    let w = b .before .before .before .next-wake .ensures in
-    front _ _ _ _ _ _ (m .can) _ _ _ _ _ _ _ m _ _ (w .0) (w .1) _ (b .top-ready .ensures) (c .if1 .left) _ refl
+    let w = b .before .before .before .before .next-wake .ensures in
+    front _ _ _ _ _ _ (m .can) _ _ _ _ _ _ _ _ _ m _ _ _ (w .0) (w .1) _ (b .top-started .ensures) (c .if1 .left) _ refl
 
 mul-wide : tie.Need-mul-wide Inv-loop μ-loop
 mul-wide c = omega (arith, found c, at (c .before) .loop .inv .can .few-tasks)
@@ -114,13 +122,13 @@ loop-again-2 c =
     let d = c .before .before in
     let b = d .before in
     let m = at b .loop .inv in
-    let w = b .before .before .before .next-wake .ensures in
-    moment-cut _ _ _ _ _ _ (m .can) _ _ _ _ _ _ _ m _ _ (w .0) (w .1) _ (b .top-ready .ensures) (d .if1 .left) _
+    let w = b .before .before .before .before .next-wake .ensures in
+    moment-cut _ _ _ _ _ _ (m .can) _ _ _ _ _ _ _ _ _ m _ _ _ (w .0) (w .1) _ (b .top-started .ensures) (d .if1 .left) _
     (ap (λ x. at b .loop .t + x) (c .before .wide .ensures))
     (c .if3 .taken)
 
 loop-less-2 : tie.Need-loop-less-2 Inv-loop μ-loop
-loop-less-2 c = omega (arith, loop-again-2 c .time, c .before .before .before .before .before .before .next-wake .ensures .1)
+loop-less-2 c = omega (arith, loop-again-2 c .time, c .before .before .before .before .before .before .before .next-wake .ensures .1)
 
 mul-p : tie.Need-mul-p Inv-loop μ-loop
 mul-p c = omega (arith, found (c .before .before), at (c .before .before .before) .loop .inv .can .few-tasks)
@@ -156,33 +164,44 @@ mul-head c = omega (arith, found (c .before .before .before), at (c .before .bef
 array-write-head : tie.Need-array-write-head Inv-loop μ-loop
 array-write-head c = omega (arith, found (c .before .before .before), at (c .before .before .before .before) .loop .inv .can .few-tasks)
 
+wake-of-requires : tie.Need-wake-of-requires Inv-loop μ-loop
+wake-of-requires c κs = at (c .before .before .before .before) .loop .inv .can .ready-long
+
+mul-since : tie.Need-mul-since Inv-loop μ-loop
+mul-since c = omega (arith, found (c .before .before .before .before), at (c .before .before .before .before .before) .loop .inv .can .few-tasks)
+
+array-write-since : tie.Need-array-write-since Inv-loop μ-loop
+array-write-since c = omega (arith, found (c .before .before .before .before), at (c .before .before .before .before .before) .loop .inv .can .few-tasks)
+
 work-of-requires : tie.Need-work-of-requires Inv-loop μ-loop
-work-of-requires c κs = at (c .before .before .before .before) .loop .inv .can .cost-long
+work-of-requires c κs = at (c .before .before .before .before .before) .loop .inv .can .cost-long
 
 mul-left-2 : tie.Need-mul-left-2 Inv-loop μ-loop
-mul-left-2 c = omega (arith, found (c .before .before .before .before), at (c .before .before .before .before .before) .loop .inv .can .few-tasks)
+mul-left-2 c = omega (arith, found (c .before .before .before .before .before), at (c .before .before .before .before .before .before) .loop .inv .can .few-tasks)
 
 array-write-left-2 : tie.Need-array-write-left-2 Inv-loop μ-loop
-array-write-left-2 c = omega (arith, found (c .before .before .before .before), at (c .before .before .before .before .before) .loop .inv .can .few-tasks)
+array-write-left-2 c =
+    omega (arith, found (c .before .before .before .before .before), at (c .before .before .before .before .before .before) .loop .inv .can .few-tasks)
 
 add-stops-3 : tie.Need-add-stops-3 Inv-loop μ-loop
-add-stops-3 c = omega (arith, room (c .before .before .before .before .before))
+add-stops-3 c = omega (arith, room (c .before .before .before .before .before .before))
 
 loop-again-3 : tie.Need-loop-again-3 Inv-loop μ-loop
 loop-again-3 c =
-    let f = c .before .before in
+    let f = c .before .before .before in
     let d = f .before .before in
     let b = d .before in
     let m = at b .loop .inv in
-    let w = b .before .before .before .next-wake .ensures in
-    moment-done _ _ _ _ _ _ (m .can) _ _ _ _ _ _ _ m _ _ (w .0) (w .1) _ (b .top-ready .ensures) (d .if1 .left) _ _ _
+    let w = b .before .before .before .before .next-wake .ensures in
+    moment-done _ _ _ _ _ _ (m .can) _ _ _ _ _ _ _ _ _ m _ _ _ (w .0) (w .1) _ (b .top-started .ensures) (d .if1 .left) _ _ _ _
     (ap (λ x. at b .loop .t + x) (f .before .wide .ensures))
     (f .if3 .left)
-    (c .before .next-of .ensures)
+    (c .before .before .next-of .ensures)
+    (c .before .wake-of .ensures)
     (c .work-of .ensures)
 
 loop-less-3 : tie.Need-loop-less-3 Inv-loop μ-loop
-loop-less-3 c = omega (arith, loop-again-3 c .time, found (c .before .before .before .before), c .before .before .before .wide .ensures)
+loop-less-3 c = omega (arith, loop-again-3 c .time, found (c .before .before .before .before .before), c .before .before .before .before .wide .ensures)
 
 pub fill-finish-spec : {M : Type 1} → statement M
 fill-finish-spec =
@@ -191,11 +210,13 @@ fill-finish-spec =
     Inv-loop
     μ-loop
     first-jobs-requires
+    first-starts-requires
     first-work-requires
     loop-holds
     slice-aggregate-next-wake
+    slice-aggregate-next-wake-2
     next-wake-requires
-    top-ready-requires
+    top-started-requires
     same-length
     returns
     add-stops
@@ -222,6 +243,9 @@ fill-finish-spec =
     next-of-requires
     mul-head
     array-write-head
+    wake-of-requires
+    mul-since
+    array-write-since
     work-of-requires
     mul-left-2
     array-write-left-2

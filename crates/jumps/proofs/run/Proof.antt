@@ -66,8 +66,7 @@ returns-2 c =
     let e = fine b in
     let d = b .before .before .before .before in
     let x = shaped _ _ _ _ _ _ _ _ e _ _ (ap refusalIn (b .enum-told .given .1)) (d .check-and-shape .ensures .1) in
-    let f = c .before .before .fill-finish .ensures in
-    (
+    let f = c .before .before .fill-finish .ensures in (
       jump-answered _ _ _ _ _ _ _ _ e _ _ x (f .1),
       (column-by _ _ _ _ _ (d .check-and-shape .ensures .1) (checks d), finish-written _ _ _ _ _ _ _ _ e _ _ x (f .0)),
     )

@@ -63,8 +63,7 @@ returns-2 : tie.Need-returns-2
 returns-2 c =
     let b = c .before .before .before .before .before in
     let e = fine b in
-    let d = b .before .before .before .before in
-    (
+    let d = b .before .before .before .before in (
       e .clear,
       (
         column-by _ _ _ _ _ (d .check-and-shape .ensures .1) (checks d),
