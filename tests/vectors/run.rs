@@ -1,16 +1,33 @@
-//! The cases of `vectors_run`.
+//! The cases of `vectors_run`: the ticking run, then the run that jumps on the same case, with columns of its own that held the
+//! same.
 
 use crate::case::*;
 use crate::lists::*;
-use crate::reference::{finish_ticks_by_tick, ready_ticks, run, Release};
+use crate::reference::{finish_ticks_by_tick, jump, ready_ticks, run, Release, Sheet};
 
+/// The line of both runs. The reference has a method for each, and both give the same columns and the same refusals.
 fn answer(c: &ListCall) -> String {
-    match run(&c.sheet, &c.kept, c.count, &c.columns(), c.ready.len(), c.finish.len()) {
-        Err(r) => refused(r) + &column(&c.ready) + &column(&c.finish),
-        Ok((ready, finish)) => {
-            format!(" fine{}{}", column(&written(&ready, &c.ready)), column(&written(&finish, &c.finish)))
+    let (ready_slots, finish_slots) = (c.ready.len(), c.finish.len());
+    let ticked = run(&c.sheet, &c.kept, c.count, &c.columns(), ready_slots, finish_slots);
+    let jumped = jump(&c.sheet, &c.kept, c.count, &c.columns(), ready_slots, finish_slots);
+    assert_eq!(ticked, jumped.clone().map(|j| (j.ready, j.finish)));
+    match jumped {
+        Err(r) => {
+            let half = refused(r) + &column(&c.ready) + &column(&c.finish);
+            format!("{half};{half}")
         }
+        Ok(j) => line(&after(c, &j.ready, &j.finish), j.stops),
     }
+}
+
+/// The two columns after a run that is not refused.
+fn after(c: &ListCall, ready: &[u32], finish: &[u32]) -> String {
+    column(&written(ready, &c.ready)) + &column(&written(finish, &c.finish))
+}
+
+/// The line of a case that is not refused: the columns after each run, and the stops of the one that jumps.
+fn line(columns: &str, stops: u64) -> String {
+    format!(" fine{columns}; {stops} stops{columns}")
 }
 
 fn blocks(c: &ListCall) -> Vec<Vec<u8>> {
@@ -23,49 +40,182 @@ fn blocks(c: &ListCall) -> Vec<Vec<u8>> {
 
 /// The printed example, with the kept jitters that document 01 prints and with D 11, and sum 12.
 fn worked(v: &mut Vectors) {
-    let mut add = |label: &str, c: &ListCall, line: &str| v.worked(label, &blocks(c), &answer(c), line);
+    let mut add = |label: &str, c: &ListCall, columns: &str, stops: u64| {
+        v.worked(label, &blocks(c), &answer(c), &line(columns, stops));
+    };
     let printed = ListCall::of(&printed_sheet(), &[1, 3, 0], &printed_list());
-    add("printed example", &printed, " fine, 0 0 5 - -, 3 5 8 - -");
+    add("printed example", &printed, ", 0 0 5 - -, 3 5 8 - -", 5);
     let folder = ListCall::of(&folder_sheet(), &[2, 4, 0], &printed_list());
-    add("printed example, D 11", &folder, " fine, 0 0 4 - -, 3 5 7 - -");
-    add("sum 12, no release", &ListCall::of(&printed_sheet(), &[1, 3, 0], &[]), " fine, - -, - -");
+    add("printed example, D 11", &folder, ", 0 0 4 - -, 3 5 7 - -", 4);
+    add("sum 12, no release", &ListCall::of(&printed_sheet(), &[1, 3, 0], &[]), ", - -, - -", 0);
     let one = |c: u32| ListCall::of(&sheet(&[(6, 1, 4, 6)]), &[1], &list(&[(0, 3, c)]));
-    add("sum 12, one release", &one(1), " fine, 3 - -, 5 - -");
-    add("sum 12, one release of cost 4", &one(4), " fine, 3 - -, 8 - -");
+    add("sum 12, one release", &one(1), ", 3 - -, 5 - -", 2);
+    add("sum 12, one release of cost 4", &one(4), ", 3 - -, 8 - -", 2);
 }
 
 /// A job may run from the tick after its ready tick. The kept jitters let three jobs of a task be ready at once, so that ready is
 /// release.
 fn picked_up(v: &mut Vectors) {
     let three = sheet(&[(50, 200, 20, 50), (60, 200, 20, 90), (70, 200, 20, 99)]);
-    let mut add = |label: &str, releases: &[(u32, u32, u32)], line: &str| {
+    let mut add = |label: &str, releases: &[(u32, u32, u32)], columns: &str, stops: u64| {
         let c = ListCall::of(&three, &[200, 200, 200], &list(releases));
-        v.worked(&format!("pickup, {label}"), &blocks(&c), &answer(&c), line);
+        v.worked(&format!("pickup, {label}"), &blocks(&c), &answer(&c), &line(columns, stops));
     };
-    add("nothing runs in tick 0", &[(0, 0, 1)], " fine, 0 - -, 2 - -");
+    add("nothing runs in tick 0", &[(0, 0, 1)], ", 0 - -, 2 - -", 2);
     // One after the other without an idle tick: ticks 1 and 2, 3 and 4, 5 and 6.
-    add("three tasks at tick 0", &[(2, 0, 2), (1, 0, 2), (0, 0, 2)], " fine, 0 0 0 - -, 7 5 3 - -");
-    add("three jobs of a task at tick 0", &[(1, 0, 2), (1, 0, 2), (1, 0, 2)], " fine, 0 0 0 - -, 3 5 7 - -");
+    add("three tasks at tick 0", &[(2, 0, 2), (1, 0, 2), (0, 0, 2)], ", 0 0 0 - -, 7 5 3 - -", 4);
+    add("three jobs of a task at tick 0", &[(1, 0, 2), (1, 0, 2), (1, 0, 2)], ", 0 0 0 - -, 3 5 7 - -", 4);
     // Task 2 runs in tick 1, task 0 in ticks 2 and 3, task 2 in ticks 4 and 5.
-    add("ready in the tick in which a lower one starts", &[(2, 0, 3), (0, 1, 2)], " fine, 0 1 - -, 6 4 - -");
+    add("ready in the tick in which a lower one starts", &[(2, 0, 3), (0, 1, 2)], ", 0 1 - -, 6 4 - -", 4);
     // Task 2 runs in ticks 1 and 2, task 0 in ticks 3 and 4, task 2 in tick 5.
-    add("ready while a lower one runs", &[(2, 0, 3), (0, 2, 2)], " fine, 0 2 - -, 6 5 - -");
+    add("ready while a lower one runs", &[(2, 0, 3), (0, 2, 2)], ", 0 2 - -, 6 5 - -", 4);
     // Task 2 runs in ticks 1 to 3, and is not preempted any more.
-    add("ready in the last tick of a lower one", &[(2, 0, 3), (0, 3, 2)], " fine, 0 3 - -, 4 6 - -");
+    add("ready in the last tick of a lower one", &[(2, 0, 3), (0, 3, 2)], ", 0 3 - -, 4 6 - -", 3);
     // Tick 4 is idle.
-    add("ready at the finish of a lower one", &[(2, 0, 3), (0, 4, 2)], " fine, 0 4 - -, 4 7 - -");
-    add("ready in the last tick of a higher one", &[(0, 0, 3), (2, 3, 2)], " fine, 0 3 - -, 4 6 - -");
-    add("ready at the finish of a higher one", &[(0, 0, 3), (2, 4, 2)], " fine, 0 4 - -, 4 7 - -");
-    add("ready in the last tick of the job before", &[(1, 0, 3), (1, 3, 2)], " fine, 0 3 - -, 4 6 - -");
-    add("ready at the finish of the job before", &[(1, 0, 3), (1, 4, 2)], " fine, 0 4 - -, 4 7 - -");
+    add("ready at the finish of a lower one", &[(2, 0, 3), (0, 4, 2)], ", 0 4 - -, 4 7 - -", 4);
+    add("ready in the last tick of a higher one", &[(0, 0, 3), (2, 3, 2)], ", 0 3 - -, 4 6 - -", 3);
+    add("ready at the finish of a higher one", &[(0, 0, 3), (2, 4, 2)], ", 0 4 - -, 4 7 - -", 4);
+    add("ready in the last tick of the job before", &[(1, 0, 3), (1, 3, 2)], ", 0 3 - -, 4 6 - -", 3);
+    add("ready at the finish of the job before", &[(1, 0, 3), (1, 4, 2)], ", 0 4 - -, 4 7 - -", 4);
     // Task 1 runs in ticks 1, 4 and 7: before, between and after the two jobs of task 0.
-    add("between two higher ones", &[(1, 0, 3), (0, 1, 2), (0, 4, 2)], " fine, 0 1 4 - -, 8 4 7 - -");
+    add("between two higher ones", &[(1, 0, 3), (0, 1, 2), (0, 4, 2)], ", 0 1 4 - -, 8 4 7 - -", 6);
     // Task 1 may run from tick 6, task 0 from tick 7.
-    add("a higher one a tick later", &[(1, 5, 2), (0, 6, 2)], " fine, 5 6 - -, 10 9 - -");
-    add("a higher one in the same tick", &[(1, 5, 2), (0, 5, 2)], " fine, 5 5 - -, 10 8 - -");
+    add("a higher one a tick later", &[(1, 5, 2), (0, 6, 2)], ", 5 6 - -, 10 9 - -", 4);
+    add("a higher one in the same tick", &[(1, 5, 2), (0, 5, 2)], ", 5 5 - -, 10 8 - -", 3);
     // Held: with K 0 the second job of task 0 is ready at 50, where task 2 has run in tick 50 alone.
     let held = ListCall::of(&three, &[0, 0, 0], &list(&[(0, 0, 5), (0, 1, 5), (2, 49, 3)]));
-    v.worked("pickup, held", &blocks(&held), &answer(&held), " fine, 0 50 49 - -, 6 56 58 - -");
+    v.worked("pickup, held", &blocks(&held), &answer(&held), &line(", 0 50 49 - -, 6 56 58 - -", 6));
+}
+
+fn four_tasks() -> Sheet {
+    sheet(&[(50, 200, 20, 50), (60, 200, 20, 90), (70, 200, 20, 99), (80, 200, 20, 99)])
+}
+
+/// Stops of the run that jumps. Before a case stand the different ticks that are a start, which is a ready tick plus 1, or a
+/// finish. The kept jitters let three jobs of a task be ready at once, so that ready is release.
+fn jumps(v: &mut Vectors) {
+    let four = four_tasks();
+    let mut add = |label: &str, releases: &[(u32, u32, u32)], columns: &str, stops: u64| {
+        let c = ListCall::of(&four, &[200; 4], &list(releases));
+        v.worked(&format!("jump, {label}"), &blocks(&c), &answer(&c), &line(columns, stops));
+    };
+    // 1, 3, 5, 8: task 3 runs in ticks 1 and 2, and from 5 on.
+    add("a higher one interrupts", &[(3, 0, 5), (0, 2, 2)], ", 0 2 - -, 8 5 - -", 4);
+    // 1, 2, 3, 4, 5, 9: task 3 runs in ticks 1 and 3, and from 5 on. The stop at 3 is a finish, the one at 4 a start.
+    add("interrupted twice", &[(3, 0, 6), (0, 1, 1), (0, 3, 1)], ", 0 1 3 - -, 9 3 5 - -", 6);
+    // 1, 2, 4, 6, 11: task 1 starts at 4, where task 0 is finished, and task 3 goes on at 6.
+    add("interrupted by two without a tick between", &[(3, 0, 6), (0, 1, 2), (1, 3, 2)], ", 0 1 3 - -, 11 4 6 - -", 5);
+    // 1, 2, 3, 4, 8, 11, 14, 17: each has run for one tick when the next starts.
+    add(
+        "chain of four, each interrupted by the next",
+        &[(3, 0, 4), (2, 1, 4), (1, 2, 4), (0, 3, 4)],
+        ", 0 1 2 3 - -, 17 14 11 8 - -",
+        8,
+    );
+    // 8, 10, 13, 17.
+    add("one stop for three tasks ready at once", &[(0, 7, 2), (1, 7, 3), (2, 7, 4)], ", 7 7 7 - -, 10 13 17 - -", 4);
+    // 5, 7, 9, 12.
+    add("one stop for three jobs of a task ready at once", &[(1, 4, 2), (1, 4, 2), (1, 4, 3)], ", 4 4 4 - -, 7 9 12 - -", 4);
+    // 5, 7, 9, 10, 13: both jobs of task 1, then those of task 2.
+    add(
+        "one stop for two jobs of each of two tasks",
+        &[(2, 4, 1), (1, 4, 2), (1, 4, 2), (2, 4, 3)],
+        ", 4 4 4 4 - -, 10 7 9 13 - -",
+        5,
+    );
+    // 1, 5, 7.
+    add("a higher one starts at a finish", &[(1, 0, 4), (0, 4, 2)], ", 0 4 - -, 5 7 - -", 3);
+    add("a lower one starts at a finish", &[(0, 0, 4), (3, 4, 2)], ", 0 4 - -, 5 7 - -", 3);
+    add("the next job of the task starts at a finish", &[(2, 0, 4), (2, 4, 2)], ", 0 4 - -, 5 7 - -", 3);
+    // 1, 2, 5, 7, 10: task 2 waits from 2 on, and task 1, which starts at 5, goes before it.
+    add("a job starts at a finish before a lower one that waits", &[(0, 0, 4), (2, 1, 3), (1, 4, 2)], ", 0 1 4 - -, 5 10 7 - -", 5);
+    // 1, 2, 5, 8, 10: task 1 waits from 2 on, and goes before task 2, which starts at 5.
+    add("a job starts at a finish after a higher one that waits", &[(0, 0, 4), (1, 1, 3), (2, 4, 2)], ", 0 1 4 - -, 5 8 10 - -", 5);
+    // 1, 3, 7, 9: at 3 the same job runs on.
+    add("a lower one starts while a job runs", &[(0, 0, 6), (3, 2, 2)], ", 0 2 - -, 7 9 - -", 4);
+    add("the next job of the task starts while a job runs", &[(1, 0, 6), (1, 2, 2)], ", 0 2 - -, 7 9 - -", 4);
+    // 1, 2, 3, 4, 7, 8, 9, 10.
+    add(
+        "three lower ones start while a job runs, the lowest first",
+        &[(0, 0, 6), (3, 1, 1), (2, 2, 1), (1, 3, 1)],
+        ", 0 1 2 3 - -, 7 10 9 8 - -",
+        8,
+    );
+    // 10, 12, 15.
+    add("ready at once, the lower one first in the list", &[(2, 9, 3), (0, 9, 2)], ", 9 9 - -, 15 12 - -", 3);
+    // 4, 5, 6, 7, 9.
+    add(
+        "ready at once, the lowest one first in the list",
+        &[(3, 3, 2), (0, 3, 1), (1, 3, 1), (2, 3, 1)],
+        ", 3 3 3 3 - -, 9 5 6 7 - -",
+        5,
+    );
+    // 1, 3, 4, 6: tick 3 is idle.
+    add("one idle tick", &[(0, 0, 2), (1, 3, 2)], ", 0 3 - -, 3 6 - -", 4);
+    // Ticks 3 to 1,000,002 are idle.
+    add("1000000 idle ticks", &[(0, 0, 2), (1, 1_000_002, 2)], ", 0 1000002 - -, 3 1000005 - -", 4);
+    add("two releases, ticks 0 and 2000000", &[(0, 0, 2), (0, 2_000_000, 2)], ", 0 2000000 - -, 3 2000003 - -", 4);
+    add("one release, tick 5000000", &[(2, 5_000_000, 3)], ", 5000000 - -, 5000004 - -", 2);
+    add("two releases, tick 0 and the limit", &[(3, 0, 1), (0, 1_000_000_000, 20)], ", 0 1000000000 - -, 2 1000000021 - -", 4);
+}
+
+/// Stops of the run that jumps where jobs are ready after their release: no jitter is kept, so that the jobs of a task are ready at
+/// least a period apart.
+fn held_jumps(v: &mut Vectors) {
+    let four = four_tasks();
+    let mut add = |label: &str, c: &ListCall, columns: &str, stops: u64| {
+        v.worked(&format!("jump, {label}"), &blocks(c), &answer(c), &line(columns, stops));
+    };
+    let of = |releases: &[(u32, u32, u32)]| ListCall::of(&four, &[0; 4], &list(releases));
+    // 1, 6, 41, 51, 56: task 3 runs in ticks 41 to 50.
+    let lower = of(&[(0, 0, 5), (0, 1, 5), (3, 40, 10)]);
+    add("a held job starts at the finish of a lower one", &lower, ", 0 50 40 - -, 6 56 51 - -", 5);
+    // 1, 6, 41, 61, 66: task 0 runs in ticks 41 to 60.
+    let higher = of(&[(1, 0, 5), (1, 1, 5), (0, 40, 20)]);
+    add("a held job starts at the finish of a higher one", &higher, ", 0 60 40 - -, 6 66 61 - -", 5);
+    // 1, 6, 11, 16.
+    let row = ListCall::of(&sheet(&[(5, 0, 5, 9)]), &[0], &list(&[(0, 0, 5), (0, 0, 5), (0, 0, 5)]));
+    add("held jobs, each starts at the finish of the one before", &row, ", 0 5 10 - -, 6 11 16 - -", 4);
+    // 1, 6, 46, 51, 56, 61: task 3 runs in ticks 46 to 50, and from 56 on.
+    let interrupts = of(&[(0, 0, 5), (0, 1, 5), (3, 45, 10)]);
+    add("a held job interrupts", &interrupts, ", 0 50 45 - -, 6 56 61 - -", 6);
+    // 1, 3, 4, 6, 51, 53.
+    let passed = of(&[(0, 0, 2), (0, 1, 2), (1, 3, 2)]);
+    add("a held job is ready after one released later", &passed, ", 0 50 3 - -, 3 53 6 - -", 6);
+    // 1, 3, 6, 10, 51, 53, 61, 64, 71, 75.
+    let pairs = of(&[(2, 0, 4), (2, 0, 4), (1, 0, 3), (1, 0, 3), (0, 0, 2), (0, 0, 2)]);
+    add("a held job of each of three tasks", &pairs, ", 0 70 0 60 0 50 - -, 10 75 6 64 3 53 - -", 10);
+    // 1, 3, 81, 84, 86: the second job of task 3 is held up to the release of task 0.
+    let tie = of(&[(3, 0, 2), (3, 1, 2), (0, 80, 3)]);
+    add("ready at once, the lower one released before", &tie, ", 0 80 80 - -, 3 86 84 - -", 5);
+}
+
+/// Stops of the run that jumps on as many tasks and as many releases as there may be.
+fn many_jumps(v: &mut Vectors) {
+    let full = sheet(&[(100, 0, 4, 200); 32]);
+    let from_lowest = |tick: fn(u32) -> u32, cost: u32| {
+        let all: Vec<Release> = (0..32).map(|p| Release { task: 31 - p, tick: tick(p), cost }).collect();
+        ListCall::of(&full, &[0; 32], &all)
+    };
+    let single = |period: u32, cost: u32| {
+        let all: Vec<Release> = (0..1024).map(|p| Release { task: 0, tick: period * p, cost }).collect();
+        ListCall::of(&sheet(&[(period, 0, cost, period)]), &[0], &all)
+    };
+    let mut add = |label: &str, c: &ListCall, ready: fn(u32) -> u32, finish: fn(u32) -> u32, stops: u64| {
+        let ticks = |of: fn(u32) -> u32| (0..c.count as u32).map(of).collect::<Vec<u32>>();
+        let by_hand = line(&after(c, &ticks(ready), &ticks(finish)), stops);
+        v.worked(&format!("jump, {label}"), &blocks(c), &answer(c), &by_hand);
+    };
+    // 1, and the finishes 2 to 33.
+    add("32 tasks ready at once, the lowest first in the list", &from_lowest(|_| 0, 1), |_| 0, |p| 33 - p, 33);
+    // The starts 1 to 32, and the finishes 34 to 65.
+    add("chain of 32, each interrupted by the next", &from_lowest(|p| p, 2), |p| p, |p| 65 - p, 64);
+    // The starts 1, 2, .. 32: all but the first are finishes too; and the finish 33.
+    add("32 tasks, each starts at the finish of the one before", &from_lowest(|p| p, 1), |p| p, |p| p + 2, 33);
+    // 1, 5, .. 4,097: the fewest stops of 1,024 jobs.
+    add("1024 releases, each starts at the finish of the one before", &single(4, 4), |p| 4 * p, |p| 4 * p + 5, 1025);
+    // 1, 2, 4, 5, .. 3,070, 3,071: the most.
+    add("1024 releases, each starts after an idle tick", &single(3, 1), |p| 3 * p, |p| 3 * p + 2, 2048);
 }
 
 /// Runs of a few jobs.
@@ -139,8 +289,11 @@ pub fn vectors() -> Vectors {
             let all: Vec<Release> =
                 (0..c.count).map(|p| Release { task: c.task[p], tick: c.tick[p], cost: c.cost[p] }).collect();
             let ready = ready_ticks(&c.sheet, &c.kept, &all);
-            let by_tick: Vec<u32> = finish_ticks_by_tick(&all, &ready).iter().map(|&t| t as u32).collect();
-            assert!(answer(c).ends_with(&column(&written(&by_tick, &c.finish))), "{label}");
+            let finish = finish_ticks_by_tick(&all, &ready);
+            let end = finish.iter().copied().max().unwrap_or(0);
+            let stops = (0..=end).filter(|t| finish.contains(t) || ready.contains(&(t - 1))).count() as u64;
+            let slots = |ticks: &[i64]| ticks.iter().map(|&t| t as u32).collect::<Vec<u32>>();
+            assert_eq!(answer(c), line(&after(c, &slots(&ready), &slots(&finish)), stops), "{label}");
         }
         v.case(label, &blocks(c), &answer(c));
     }
@@ -150,5 +303,8 @@ pub fn vectors() -> Vectors {
     for (label, c) in &finish_refusals() {
         v.case(label, &blocks(c), &answer(c));
     }
+    jumps(&mut v);
+    held_jumps(&mut v);
+    many_jumps(&mut v);
     v
 }

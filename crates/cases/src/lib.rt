@@ -154,6 +154,11 @@ pub fn print_column(column: &[u32]) {
     }
 }
 
+// Prints the mark between the two halves of a line.
+pub fn print_half() {
+    io::write_all(STDOUT_FILENO, b";");
+}
+
 // Prints the numbers of a task after a comma.
 fn print_task(t: Task) {
     io::write_all(STDOUT_FILENO, b",");

@@ -1,4 +1,6 @@
-// Runs the stored cases of the run, and prints a line for each: the answer, and every slot of the lent columns of ready and finish ticks.
+// Runs the stored cases of both runs, and prints a line for each: the answer of the ticking run and every slot of its lent columns of ready and
+// finish ticks, then those of the run that jumps, whose columns held the same.
+use jumps::JumpAnswer;
 use taskset::TaskSet;
 ghost use mathlib.Core.Path.{_≡_};
 ghost use Rattle.model.specs.Choice.{column};
@@ -40,6 +42,49 @@ fn run_call(
     cases::print_column(finish);
 }
 
+// Prints what the run that jumps answers.
+fn print_jump(answer: JumpAnswer) {
+    match answer {
+        JumpAnswer::Ran { stops } => {
+            cases::print_number(stops as u64);
+            cases::print_words(b"stops");
+        }
+        JumpAnswer::Refused { number, place } => cases::print_refusal(number, place),
+    }
+}
+
+// Calls the run that jumps, and prints the answer and the columns lent.
+fn jump_call(
+    set: TaskSet,
+    kept: &[u32],
+    count: usize,
+    task: &[u32],
+    tick: &[u32],
+    cost: &[u32],
+    ready: &mut [u32],
+    finish: &mut [u32],
+)
+    ensures ticks { λ _. ⌜
+        now (ready .exit)
+        ≡ columnAfter
+        (refusalOf (runInputs (viewOf set) (now (kept .entry)) count (now (task .entry)) (now (tick .entry)) (now (cost .entry)) (now (ready .entry)) (now (finish .entry))))
+        (readyList (viewOf set) (column (now (kept .entry))) (releasesOf count (now (task .entry)) (now (tick .entry)) (now (cost .entry))))
+        (now (ready .entry))
+        ⌝ }
+    ensures finishes { λ _. ⌜
+        now (finish .exit)
+        ≡ columnAfter
+        (refusalOf (runInputs (viewOf set) (now (kept .entry)) count (now (task .entry)) (now (tick .entry)) (now (cost .entry)) (now (ready .entry)) (now (finish .entry))))
+        (finishList (viewOf set) (column (now (kept .entry))) (releasesOf count (now (task .entry)) (now (tick .entry)) (now (cost .entry))))
+        (now (finish .entry))
+        ⌝ }
+{
+    let answer = jumps::run(set, kept, count, task, tick, cost, ready, finish);
+    print_jump(answer);
+    cases::print_column(ready);
+    cases::print_column(finish);
+}
+
 // A case: count of releases; then kept jitters, tasks, ticks, costs, and the columns of ready and finish ticks.
 fn run_case(head: &[u32; 136]) {
     let set = cases::task_set(head);
@@ -56,6 +101,8 @@ fn run_case(head: &[u32; 136]) {
     let readies = cases::read_column(&mut ready);
     let mut finish = [0u32; 1056];
     let finishes = cases::read_column(&mut finish);
+    let mut ready2 = ready;
+    let mut finish2 = finish;
     run_call(
         set,
         &kept[..keeps],
@@ -65,6 +112,17 @@ fn run_case(head: &[u32; 136]) {
         &cost[..costs],
         &mut ready[..readies],
         &mut finish[..finishes],
+    );
+    cases::print_half();
+    jump_call(
+        set,
+        &kept[..keeps],
+        count,
+        &task[..tasks],
+        &tick[..ticks],
+        &cost[..costs],
+        &mut ready2[..readies],
+        &mut finish2[..finishes],
     );
 }
 

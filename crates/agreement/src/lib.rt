@@ -1,0 +1,39 @@
+// The run that jumps and the ticking run give the same: a consequence of their two contracts, stated over a function that makes both.
+use jumps::JumpAnswer;
+use taskset::Checked;
+use taskset::TaskSet;
+ghost use mathlib.Core.Path.{_≡_};
+ghost use Rattle.agreement.specs.Agreement.{SameEnds};
+
+// What the ticking run and the run that jumps answered.
+pub struct BothAnswers {
+    pub ticked: Checked,
+    pub jumped: JumpAnswer,
+}
+
+// Both runs of a list, the ticking one with the first two columns and the one that jumps with the other two. Where the columns held the
+// same before, the refusals are the same, and so are the columns, slot by slot.
+pub fn both_runs(
+    s: TaskSet,
+    kept: &[u32],
+    count: usize,
+    task: &[u32],
+    tick: &[u32],
+    cost: &[u32],
+    ready: &mut [u32],
+    finish: &mut [u32],
+    readies: &mut [u32],
+    finishes: &mut [u32],
+) -> BothAnswers
+    ensures { λ r. ⌜
+        (now (ready .entry) ≡ now (readies .entry) → now (finish .entry) ≡ now (finishes .entry)
+        → SameEnds (r .ticked) (now (ready .exit)) (now (finish .exit)) (r .jumped) (now (readies .exit)) (now (finishes .exit)))
+        ⌝ }
+{
+    let ticked = schedule::run(s, kept, count, task, tick, cost, ready, finish);
+    let jumped = jumps::run(s, kept, count, task, tick, cost, readies, finishes);
+    BothAnswers {
+        ticked: ticked,
+        jumped: jumped,
+    }
+}
