@@ -253,11 +253,11 @@ fn next_of(task: &[u32], n: usize, i: u32, from: usize) -> usize {
 pub fn run(tasks: &[Task], kept: &[u32], n: usize, list: Columns, ready: &mut [u32], finish: &mut [u32]) -> Checked {
     check_call(tasks, kept, n, list, ready.len().min(finish.len()))?;
     fill_ready(tasks, kept, n, list, ready);
-    let mut left = [0u32; MAX_RELEASES];
-    left[..n].copy_from_slice(&list.cost[..n]);
-    let mut head = [0usize; 32];
+    let work_of = |p: usize| if p < n { list.cost[p] } else { 0 };
+    let (mut head, mut left) = ([n; 32], [0u32; 32]);
     for i in 0..tasks.len() {
         head[i] = next_of(list.task, n, i as u32, 0);
+        left[i] = work_of(head[i]);
     }
     let wake_of = |p: usize, ready: &[u32]| if p < n { ready[p] as u64 + PICKUP } else { u64::MAX };
     let may_run = |p: usize, ready: &[u32], t: u64| p < n && ready[p] as u64 + PICKUP <= t;
@@ -272,11 +272,11 @@ pub fn run(tasks: &[Task], kept: &[u32], n: usize, list: Columns, ready: &mut [u
                     }
                 }
                 Some(i) => {
-                    let p = head[i];
-                    left[p] -= 1;
-                    if left[p] == 0 {
-                        finish[p] = (t + 1) as u32;
-                        head[i] = next_of(list.task, n, i as u32, p + 1);
+                    left[i] -= 1;
+                    if left[i] == 0 {
+                        finish[head[i]] = (t + 1) as u32;
+                        head[i] = next_of(list.task, n, i as u32, head[i] + 1);
+                        left[i] = work_of(head[i]);
                     }
                 }
             }
@@ -288,30 +288,36 @@ pub fn run(tasks: &[Task], kept: &[u32], n: usize, list: Columns, ready: &mut [u
 /// Over every tick in which a job may start: no job is to come.
 const NEVER: u64 = 1 << 32;
 
-/// The run that jumps; returns its stops. Of each task: the oldest unfinished job, the work that is left of it, and the first job
-/// whose start is to come. `wake` is the least of these starts.
+/// The run that jumps; returns its stops. Of each task: the oldest unfinished job with its start and the work that is left of it, and
+/// the first job whose start is to come with that start. `wake` is the least of the starts to come.
 pub fn jump(tasks: &[Task], kept: &[u32], n: usize, list: Columns, ready: &mut [u32], finish: &mut [u32]) -> Result<u64, Refusal> {
     check_call(tasks, kept, n, list, ready.len().min(finish.len()))?;
     fill_ready(tasks, kept, n, list, ready);
-    let (mut head, mut left, mut coming) = ([n; 32], [0u32; 32], [n; 32]);
-    for i in 0..tasks.len() {
-        let p = next_of(list.task, n, i as u32, 0);
-        (head[i], coming[i]) = (p, p);
-        left[i] = if p < n { list.cost[p] } else { 0 };
-    }
     let start_of = |p: usize, ready: &[u32]| if p < n { ready[p] as u64 + PICKUP } else { NEVER };
+    let work_of = |p: usize| if p < n { list.cost[p] } else { 0 };
+    let (mut head, mut since, mut left) = ([n; 32], [NEVER; 32], [0u32; 32]);
+    for i in 0..tasks.len() {
+        head[i] = next_of(list.task, n, i as u32, 0);
+        since[i] = start_of(head[i], ready);
+        left[i] = work_of(head[i]);
+    }
+    let (mut coming, mut due) = (head, since);
     let (mut t, mut wake, mut stops) = (0u64, 0u64, 0u64);
     loop {
         if wake <= t {
             wake = NEVER;
             for i in 0..tasks.len() {
-                while start_of(coming[i], ready) <= t {
-                    coming[i] = next_of(list.task, n, i as u32, coming[i] + 1);
+                if due[i] <= t {
+                    let mut p = coming[i];
+                    while p < n && (list.task[p] != i as u32 || start_of(p, ready) <= t) {
+                        p += 1;
+                    }
+                    (coming[i], due[i]) = (p, start_of(p, ready));
                 }
-                wake = wake.min(start_of(coming[i], ready));
+                wake = wake.min(due[i]);
             }
         }
-        match (0..tasks.len()).find(|&i| start_of(head[i], ready) <= t) {
+        match (0..tasks.len()).find(|&i| since[i] <= t) {
             None => {
                 if wake == NEVER {
                     return Ok(stops);
@@ -321,13 +327,13 @@ pub fn jump(tasks: &[Task], kept: &[u32], n: usize, list: Columns, ready: &mut [
             Some(i) => {
                 let end = t + left[i] as u64;
                 if wake < end {
-                    left[i] -= (wake - t) as u32;
+                    left[i] = (end - wake) as u32;
                     t = wake;
                 } else {
-                    let p = head[i];
-                    finish[p] = end as u32;
-                    head[i] = next_of(list.task, n, i as u32, p + 1);
-                    left[i] = if head[i] < n { list.cost[head[i]] } else { 0 };
+                    finish[head[i]] = end as u32;
+                    head[i] = next_of(list.task, n, i as u32, head[i] + 1);
+                    since[i] = start_of(head[i], ready);
+                    left[i] = work_of(head[i]);
                     t = end;
                 }
             }

@@ -1,5 +1,5 @@
 /*
- * The sheet of examples/folder.sheet from C: choice, verdicts, arrival count, trace check, ready ticks, run, write, read and load.
+ * The sheet of examples/folder.sheet from C: choice, verdicts, arrival count, trace check, ready ticks, both runs, write, read and load.
  * Build, after ./install:
  *   cc -O2 examples/c/sheet.c -lnolkrada -o sheet
  * or, without installing, after `rt staticlib nolkrada`:
@@ -64,6 +64,17 @@ static int print_run(const uint32_t *kept) {
     return 0;
 }
 
+/* The run that jumps, for lists with late ticks or long gaps: the same columns, and how often it stopped. */
+static int print_jump(const uint32_t *kept) {
+    uint32_t ready[RELEASES], finish[RELEASES];
+    uint64_t stops[1];
+    if (refused("jump", nolkrada_jump(sheet, LENGTH(sheet), TASKS, kept, TASKS, RELEASES, task, RELEASES, tick, RELEASES, cost,
+                                      RELEASES, ready, RELEASES, finish, RELEASES, stops, 1)))
+        return 1;
+    printf("the last job finishes at %u; the run that jumps made %llu stops\n", finish[RELEASES - 1], (unsigned long long)stops[0]);
+    return 0;
+}
+
 static int print_file(void) {
     /* Buffers that hold whatever a file may hold. */
     static uint8_t file[NOLKRADA_READ_BYTES];
@@ -99,6 +110,7 @@ int main(void) {
     if (refused("arrival count", nolkrada_arrival_count(sheet, LENGTH(sheet), TASKS, 0, kept, TASKS, 8, arrivals, 1))) return 1;
     printf("task 0 arrives at most %llu times in 8 ticks\n", (unsigned long long)arrivals[0]);
     if (print_run(kept)) return 1;
+    if (print_jump(kept)) return 1;
     if (print_file()) return 1;
     if (print_text()) return 1;
     /* One less than the choice. */

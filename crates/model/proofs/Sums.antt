@@ -68,7 +68,7 @@ sums = (
                     (refl, tt),
                     (
                       (refl, (full, tt)),
-                      (((refl, refl), ((refl, refl), tt)), ((refl, (refl, (refl, ((refl, refl), (refl, (refl, tt)))))), ((refl, (refl, (refl, (refl, (refl, (refl, tt)))))), tt))),
+                      (((refl, refl), ((refl, refl), tt)), ((refl, (refl, (refl, ((refl, refl), (refl, (refl, tt)))))), ((refl, (refl, (refl, (refl, (refl, (refl, ((refl, refl), tt))))))), tt))),
                     ),
                   ),
                 ),
