@@ -148,6 +148,13 @@ fn legal_list_of(n: usize) -> List {
     list_with(sheet, &all)
 }
 
+/// n releases of 32 tasks, one in each tick and of cost 1: every tick up to the last finish is a stop.
+fn dense_list_of(n: u32) -> List {
+    let tasks: Vec<Task> = (0..32).map(|_| Task { p: 32, j: 0, e: 1, d: 1_000_000 }).collect();
+    let all: Vec<Release> = (0..n).map(|p| Release { task: p % 32, tick: p, cost: 1 }).collect();
+    list_with(Sheet::of(&tasks), &all)
+}
+
 /// One release at the last tick that is allowed.
 fn late_list() -> List {
     let mut list = list_of(1);
@@ -396,6 +403,9 @@ fn full_size() {
     line("ready ticks of 1,024 releases", &time_ready(&list));
     line("run of 1,024 releases", &time_run(&list));
     line("jumping run of 1,024 releases", &time_jump(&list));
+    let dense = dense_list_of(1024);
+    line("run of 1,024 releases, a stop in every tick", &time_run(&dense));
+    line("jumping run of 1,024 releases, a stop in every tick", &time_jump(&dense));
     line("run of one release at tick 1,000,000,000", &time_run(&late_list()));
     line("jumping run of two releases, at 0 and 1,000,000,000", &time_jump(&two_releases(reference::MAX_TICK)));
     line("read of 10,785 bytes", &time_read(&list));

@@ -164,8 +164,9 @@ uint64_t nolkrada_run(const uint32_t *sheet, size_t sheet_length, uint32_t count
                       const uint32_t *cost, size_t cost_length, uint32_t *ready, size_t ready_length, uint32_t *finish,
                       size_t finish_length);
 
-/* Run that jumps: the ready and finish ticks of nolkrada_run, and its refusals, for every sheet and list. It goes from one tick
- * that is a ready tick plus 1 or a finish to the next, so its time grows with releases and tasks and not with the ticks.
+/* Run that jumps: the ready and finish ticks of nolkrada_run for every sheet and list and, where answer has its slot, its refusals.
+ * It goes from one tick that is a ready tick plus 1 or a finish to the next, so its time grows with releases and tasks and not with
+ * the ticks.
  * ready, finish: n slots each, written. answer: 1 slot, the stops: how many different ticks are a ready tick plus 1 or a finish,
  * 0 without a release, at most NOLKRADA_MAX_STOPS.                                        Refuses 5 4 6 10 13 12 7 8 9. */
 uint64_t nolkrada_jump(const uint32_t *sheet, size_t sheet_length, uint32_t count, const uint32_t *kept, size_t kept_length,

@@ -629,7 +629,7 @@ fn long_gaps(r: &mut Random, tally: &mut Tally, cases: u32, sizes: &[usize]) {
 }
 
 /// Jumping runs of two releases, the first at 0 and the second up to the limit: of one task and of two, in both orders. With the
-/// ticking run too, but at the limit once alone.
+/// ticking run too up to 1,000,000, and once at the limit.
 fn two_releases(r: &mut Random, tally: &mut Tally) {
     let sheet = sums::printed_sheet();
     for tick in [0, 1, 2, 3, 4, 5, 6, 1_000, 1_000_000, MAX_TICK - 1, MAX_TICK] {

@@ -5,23 +5,19 @@ use mathlib.Core.Option.{Option, some, none}
 use mathlib.Core.List.{List}
 use native.Mathlib.Omega.{arith}
 use Rattle.model.specs.Tasks.{Tasks}
-use Rattle.model.specs.Choice.{column}
 use Rattle.model.specs.Refusal.{Refusal, Answer, refused, answered}
 use Rattle.model.specs.Checks.{Inputs, refusalOf, answerOf}
-use Rattle.model.specs.Ready.{readyList}
-use Rattle.model.specs.Run.{finishList}
-use Rattle.model.specs.Calls.{releasesOf, columnAfter, runInputs, jumpCall}
+use Rattle.model.specs.Calls.{runInputs, jumpCall}
 use Rattle.model.proofs.OrderLaws.{answers, refuses}
 use Rattle.taskset.specs.declared.Checked.{Checked}
-use Rattle.taskset.specs.TaskSet.{refusalIn}
 use Rattle.jumps.specs.declared.JumpAnswer.{JumpAnswer}
 use Rattle.jumps.specs.declared.JumpAnswer.the-variants.{Ran, Refused}
 use Rattle.jumps.specs.Jumps.{jumpIn}
-use Rattle.agreement.specs.Agreement.{refusalOfJump, SameEnds}
+use Rattle.agreement.specs.Agreement.{refusalOfJump, Ticked, Jumped, SameEnds}
 
 -- an answer that is a call's answer has the call's refusal
 same-refusal : (r : JumpAnswer) (c : Inputs) (a : ℕ) → jumpIn r ≡ answerOf c a → refusalOfJump r ≡ refusalOf c
-same-refusal r c a h = go r (refusalOf c) refl (h)
+same-refusal r c a h = go r (refusalOf c) refl h
   where
     go : (x : JumpAnswer) (o : Option Refusal) → refusalOf c ≡ o → jumpIn x ≡ answerOf c a → refusalOfJump x ≡ refusalOf c
     go (Ran n) none e g = sym e
@@ -38,22 +34,16 @@ same-refusal r c a h = go r (refusalOf c) refl (h)
 
 module _ (s : Tasks) (kept : List ℕ) (n : ℕ) (task tick cost ready finish readies finishes : List ℕ) where
   pub same-ends : (ticked : Checked) (jumped : JumpAnswer) (a b c d : List ℕ)
-      → refusalIn ticked ≡ refusalOf (runInputs s kept n task tick cost ready finish)
-      → a ≡ columnAfter (refusalOf (runInputs s kept n task tick cost ready finish)) (readyList s (column kept) (releasesOf n task tick cost)) ready
-      → b ≡ columnAfter (refusalOf (runInputs s kept n task tick cost ready finish)) (finishList s (column kept) (releasesOf n task tick cost)) finish
-      → jumpIn jumped ≡ jumpCall s kept n task tick cost readies finishes
-      → c ≡ columnAfter (refusalOf (runInputs s kept n task tick cost readies finishes)) (readyList s (column kept) (releasesOf n task tick cost)) readies
-      → d ≡ columnAfter (refusalOf (runInputs s kept n task tick cost readies finishes)) (finishList s (column kept) (releasesOf n task tick cost)) finishes
+      → Ticked s kept n task tick cost ready finish ticked a b
+      → Jumped s kept n task tick cost readies finishes jumped c d
       → ready ≡ readies
       → finish ≡ finishes
       → SameEnds ticked a b jumped c d
   unfolding jumpCall
-  same-ends ticked jumped a b c d et ea eb ej ec ed g h =
-      let ej′ = rw (← g, ← h) at ej in
-      let ec′ = rw (← g, ← h) at ec in
-      let ed′ = rw (← g, ← h) at ed in
+  same-ends ticked jumped a b c d t j g h =
+      let j′ : Jumped s kept n task tick cost ready finish jumped c d = rw (g, h) j in
       record {
-        refusal = et ∙ sym (same-refusal jumped (runInputs s kept n task tick cost ready finish) _ ej′);
-        ready-column = ea ∙ sym ec′;
-        finish-column = eb ∙ sym ed′;
+        refusal = t .refusal ∙ sym (same-refusal jumped (runInputs s kept n task tick cost ready finish) _ (j′ .answer));
+        ready-column = t .ready-column ∙ sym (j′ .ready-column);
+        finish-column = t .finish-column ∙ sym (j′ .finish-column);
       }

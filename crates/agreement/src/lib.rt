@@ -3,7 +3,8 @@ use jumps::JumpAnswer;
 use taskset::Checked;
 use taskset::TaskSet;
 ghost use mathlib.Core.Path.{_≡_};
-ghost use Rattle.agreement.specs.Agreement.{SameEnds};
+ghost use Rattle.taskset.specs.TaskSet.{viewOf};
+ghost use Rattle.agreement.specs.Agreement.{Ticked, Jumped, SameEnds};
 
 // What the ticking run and the run that jumps answered.
 pub struct BothAnswers {
@@ -11,8 +12,8 @@ pub struct BothAnswers {
     pub jumped: JumpAnswer,
 }
 
-// Both runs of a list, the ticking one with the first two columns and the one that jumps with the other two. Where the columns held the
-// same before, the refusals are the same, and so are the columns, slot by slot.
+// Both runs of a list, the ticking one with the first two columns and the one that jumps with the other two: what each answers and leaves in
+// its columns. Where the columns held the same before, the refusals are the same, and so are the columns, slot by slot.
 pub fn both_runs(
     s: TaskSet,
     kept: &[u32],
@@ -25,7 +26,15 @@ pub fn both_runs(
     readies: &mut [u32],
     finishes: &mut [u32],
 ) -> BothAnswers
-    ensures { λ r. ⌜
+    ensures ticks { λ r. ⌜
+        Ticked (viewOf s) (now (kept .entry)) count (now (task .entry)) (now (tick .entry)) (now (cost .entry)) (now (ready .entry)) (now (finish .entry))
+        (r .ticked) (now (ready .exit)) (now (finish .exit))
+        ⌝ }
+    ensures jumps { λ r. ⌜
+        Jumped (viewOf s) (now (kept .entry)) count (now (task .entry)) (now (tick .entry)) (now (cost .entry)) (now (readies .entry)) (now (finishes .entry))
+        (r .jumped) (now (readies .exit)) (now (finishes .exit))
+        ⌝ }
+    ensures same { λ r. ⌜
         (now (ready .entry) ≡ now (readies .entry) → now (finish .entry) ≡ now (finishes .entry)
         → SameEnds (r .ticked) (now (ready .exit)) (now (finish .exit)) (r .jumped) (now (readies .exit)) (now (finishes .exit)))
         ⌝ }

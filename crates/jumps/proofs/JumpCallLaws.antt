@@ -1,8 +1,8 @@
 -- Laws of the call: the stops of the jobs in columns are the definition's, and what the call answers.
-use Prim.Native.Nat.{ℕ, _+_, _<_}
+use Prim.Native.Nat.{ℕ, _+_}
 use mathlib.Core.Path.{_≡_, sym, ap, ap₂, _∙_}
 use mathlib.Core.Option.{some}
-use mathlib.Core.List.{List, _++_, map}
+use mathlib.Core.List.{List, _++_}
 use lib.ListN.{length}
 use Rattle.model.specs.Series.{table}
 use Rattle.model.specs.Tasks.{Tasks}
@@ -10,7 +10,7 @@ use Rattle.model.specs.Choice.{column}
 use Rattle.model.specs.Refusal.{Refusal, refused, answered}
 use Rattle.model.specs.Checks.{refusalOf}
 use Rattle.model.specs.Ready.{readyAt, readyList}
-use Rattle.model.specs.Run.{finishOf, finishAt, finishList}
+use Rattle.model.specs.Run.{finishAt, finishList}
 use Rattle.model.specs.Stops.{different, stopTicks, stopCount}
 use Rattle.model.specs.Calls.{releasesOf, runInputs, jumpCall}
 use Rattle.model.proofs.TableLaws.{table-agree, map-table}

@@ -19,11 +19,11 @@ use Rattle.theory.proofs.FinishLaws.{finish-by, finish-done, finish-late}
 use Rattle.theory.proofs.JumpLaws.{Keeps, Rests, NoStart, left-rests, left-keeps, left-others, rests, keeps, finish-keeps, finish-soonest, rests-none, keeps-only}
 use Rattle.queues.specs.Queues.{jobsOf, maxFinish, firstFrom, nextOf, topReady, never, wakeOf, workOf, Holds, Runnable}
 use Rattle.queues.proofs.SearchedLaws.{work-in}
-use Rattle.queues.proofs.HeadLaws.{Ordered, Heads, May, start-soon, head-first, head-none, all-finished, heads-rest, heads-run, heads-done}
+use Rattle.queues.proofs.HeadLaws.{Ordered, Heads, May, start-soon, head-first, head-none, heads-rest, heads-run, heads-done}
 use Rattle.queues.proofs.ColumnLaws.{ordered, heads-start, none-above, none-found, one-found}
 use Rattle.queues.proofs.LeftColumnLaws.{Lefts, lefts-start, lefts-rest, lefts-run, lefts-done}
 use Rattle.queues.proofs.FinishColumnLaws.{Written, written-start, written-rest, written-run, written-done, written-end}
-use Rattle.jumps.specs.Jumps.{stopsOf, Queued, Next, Waking, Sinces}
+use Rattle.jumps.specs.Jumps.{stopsOf, Queued, Waking, Sinces}
 use Rattle.jumps.proofs.WakeLaws.{awake-start, waking-later, since-top, sinces-done}
 
 -- what holds at tick t, a stop or the beginning. The column of finish ticks held `held`
@@ -140,9 +140,10 @@ module _ (n tasks : ℕ) (task cost ready held : List ℕ) (r : Runnable n tasks
     new-stop : (new ≡ never → ⊥) → (has (stopsOf j) new ≡ true) × (new ≤ maxFinish)
     new-stop h = go (w .next ahead .real)
       where
-        go : (new ≡ never) ⊎ ((q : ℕ) × (q < n) × (t < j .start q) × (j .start q ≡ new)) → (has (stopsOf j) new ≡ true) × (new ≤ maxFinish)
+        go : (new ≡ never) ⊎ ((q : ℕ) × (q < n) × (j .task q < tasks) × (t < j .start q) × (j .start q ≡ new))
+            → (has (stopsOf j) new ≡ true) × (new ≤ maxFinish)
         go (inl x) = absurd (h x)
-        go (inr (q, a, b, x)) = (rw x at (start-stop q a), omega (arith, start-soon j tasks order q a))
+        go (inr (q, a, k, b, x)) = (rw x at (start-stop q a), omega (arith, start-soon j tasks order q a))
 
     later-waking : (u : ℕ) → t ≤ u → Waking n tasks task ready u new later soon
     later-waking u h = waking-later n tasks task ready t u new later soon h ahead w

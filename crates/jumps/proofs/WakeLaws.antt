@@ -1,5 +1,5 @@
 -- Laws of the next start tick: a search task by task, from the first job of each task that may not run yet.
-use Prim.Native.Nat.{ℕ, suc, _+_, _-_, _≤_, _<_, min}
+use Prim.Native.Nat.{ℕ, _+_, _-_, _≤_, _<_, min}
 use mathlib.Core.Path.{_≡_, refl, sym, ap, _∙_}
 use mathlib.Core.Logic.{_⊎_, inl, inr}
 use mathlib.Core.Bool.{Bool, true, false, _&&_, not}
@@ -75,10 +75,10 @@ waking-later n tasks task ready t u wake coming due h l w =
     }
   where
     go : u < wake
-        → (wake ≡ never) ⊎ ((q : ℕ) × (q < n) × (t < startAt ready q) × (startAt ready q ≡ wake))
-        → (wake ≡ never) ⊎ ((q : ℕ) × (q < n) × (u < startAt ready q) × (startAt ready q ≡ wake))
+        → (wake ≡ never) ⊎ ((q : ℕ) × (q < n) × (getD task q 0 < tasks) × (t < startAt ready q) × (startAt ready q ≡ wake))
+        → (wake ≡ never) ⊎ ((q : ℕ) × (q < n) × (getD task q 0 < tasks) × (u < startAt ready q) × (startAt ready q ≡ wake))
     go g (inl e) = inl e
-    go g (inr (q, a, b, e)) = inr (q, a, omega arith, e)
+    go g (inr (q, a, k, b, e)) = inr (q, a, k, omega arith, e)
 
 -- the place of task i: a job of the task that may not run in tick t yet, before which every one may, or n. Its start tick is the task's next
 module _ (n tasks : ℕ) (task ready : List ℕ) (s : Queued n tasks task ready) (t i p : ℕ) (high : p ≤ n) (own : p < n → getD task p 0 ≡ i)
@@ -94,9 +94,9 @@ module _ (n tasks : ℕ) (task ready : List ℕ) (s : Queued n tasks task ready)
           go (inr x) = let y : p < n = omega arith in omega (arith, wake-in ready n p y, s .in-order p q x a (own y ∙ sym g))
 
       real : (n ≤ p) ⊎ (p < n)
-          → (wakeOf ready n p ≡ never) ⊎ ((q : ℕ) × (q < n) × (t < startAt ready q) × (startAt ready q ≡ wakeOf ready n p))
+          → (wakeOf ready n p ≡ never) ⊎ ((q : ℕ) × (q < n) × (getD task q 0 ≡ i) × (t < startAt ready q) × (startAt ready q ≡ wakeOf ready n p))
       real (inl b) = inl (wake-out ready n p b)
-      real (inr b) = inr (p, b, later b, sym (wake-in ready n p b))
+      real (inr b) = inr (p, b, own b, later b, sym (wake-in ready n p b))
 
 module _ (n tasks : ℕ) (task ready : List ℕ) (s : Queued n tasks task ready) (t : ℕ) (coming due : List ℕ) (w : Awake n tasks task ready t coming due) (i : ℕ)
     (l : i < tasks) where
@@ -190,18 +190,29 @@ next-next n task ready t i least soon h g = record { low = low; real = real (le-
         go (inl x) = omega (arith, h .low q a x d)
         go (inr x) = omega (arith, g .low q a x d)
 
-    real : (least ≤ soon) ⊎ (soon < least)
-        → (min least soon ≡ never) ⊎ ((q : ℕ) × (q < n) × (t < startAt ready q) × (startAt ready q ≡ min least soon))
-    real (inl x) = let y : min least soon ≡ least = omega arith in rw y (h .real)
-    real (inr x) = let y : min least soon ≡ soon = omega arith in rw y (g .real)
+    -- a start tick of one of these tasks
+    Real : ℕ → Type 0
+    Real x = (x ≡ never) ⊎ ((q : ℕ) × (q < n) × (getD task q 0 < i + 1) × (t < startAt ready q) × (startAt ready q ≡ x))
+
+    before : (least ≡ never) ⊎ ((q : ℕ) × (q < n) × (getD task q 0 < i) × (t < startAt ready q) × (startAt ready q ≡ least)) → Real least
+    before (inl e) = inl e
+    before (inr (q, a, k, b, e)) = inr (q, a, omega arith, b, e)
+
+    its : (soon ≡ never) ⊎ ((q : ℕ) × (q < n) × (getD task q 0 ≡ i) × (t < startAt ready q) × (startAt ready q ≡ soon)) → Real soon
+    its (inl e) = inl e
+    its (inr (q, a, k, b, e)) = inr (q, a, omega arith, b, e)
+
+    real : (least ≤ soon) ⊎ (soon < least) → Real (min least soon)
+    real (inl x) = let y : min least soon ≡ least = omega arith in rw y (before (h .real))
+    real (inr x) = let y : min least soon ≡ soon = omega arith in rw y (its (g .real))
 
 -- the tick found is after t
 pub next-after : (n : ℕ) (task ready : List ℕ) (those : ℕ → Type 0) (t wake : ℕ) → t < never → Next n task ready those t wake → t < wake
 next-after n task ready those t wake h w = go (w .real)
   where
-    go : (wake ≡ never) ⊎ ((q : ℕ) × (q < n) × (t < startAt ready q) × (startAt ready q ≡ wake)) → t < wake
+    go : (wake ≡ never) ⊎ ((q : ℕ) × (q < n) × those (getD task q 0) × (t < startAt ready q) × (startAt ready q ≡ wake)) → t < wake
     go (inl e) = omega arith
-    go (inr (q, a, b, e)) = omega arith
+    go (inr (q, a, k, b, e)) = omega arith
 
 -- the column of start ticks of the oldest unfinished jobs: the search over it is the search over the jobs
 pub since-top : (n tasks : ℕ) (ready head since : List ℕ) (t i : ℕ) → Sinces n tasks ready head since → i ≡ firstFrom (λ k. leb (getD since k 0) t) tasks 0

@@ -47,7 +47,7 @@ startAt ready p = plain .start (getD ready p 0)
 -- wake is the first start tick after t of the jobs of some tasks, or never
 pub record Next (n : ℕ) (task ready : List ℕ) (those : ℕ → Type 0) (t wake : ℕ) : Type 0 where
   pub low : (q : ℕ) → q < n → those (getD task q 0) → t < startAt ready q → wake ≤ startAt ready q
-  pub real : (wake ≡ never) ⊎ ((q : ℕ) × (q < n) × (t < startAt ready q) × (startAt ready q ≡ wake))
+  pub real : (wake ≡ never) ⊎ ((q : ℕ) × (q < n) × those (getD task q 0) × (t < startAt ready q) × (startAt ready q ≡ wake))
 
 -- for each task the place of a job of the task before which every one may run in tick t, or n, and its start tick
 pub record Awake (n tasks : ℕ) (task ready : List ℕ) (t : ℕ) (coming due : List ℕ) : Type 0 where

@@ -49,7 +49,7 @@ has-either (y ∷ a) b x h = go (eqb x y) h (has-either a b x)
     go false g i = i g
 
 -- a list of one
-pub has-one : (y x : ℕ) → has (y ∷ []) x ≡ true → x ≡ y
+has-one : (y x : ℕ) → has (y ∷ []) x ≡ true → x ≡ y
 unfolding has
 has-one y x h = go (eqb x y) refl h
   where

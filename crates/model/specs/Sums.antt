@@ -1,4 +1,5 @@
--- Document 01's twelve sums, and the figures of document 02, as one table, and what it means that they hold; proofs/Sums.antt proves it (`sums`).
+-- Document 01's twelve sums, the figures of document 02, and stops and a run counted by hand, as one table, and what it means that they hold;
+-- proofs/Sums.antt proves it (`sums`).
 use Prim.Native.Nat.{ℕ}
 use mathlib.Core.Path.{_≡_}
 use mathlib.Core.Bool.{Bool, true, false}
@@ -94,8 +95,8 @@ abbrev pub printedReleases : List Release
 printedReleases = release 0 0 2 ∷ release 2 0 2 ∷ release 0 1 2 ∷ []
 
 -- the sums, in document 01's order, 7 to 12 with the pickup of document 02's R-2; then R-2's own figures: the choice on the printed sheet, which ends in 15 at task 2,
--- of its tasks 0 and 1 alone and with D 11, the run with D 11, and the stop of the walk, which has no pickup: W(0) = d_K(1), W(0) = d_K(1) + 1; then stops of R-5: no release, one, two
--- with the same ready tick, a finish that is another's ready tick plus 1, a job that another interrupts, and the printed list;
+-- of its tasks 0 and 1 alone and with D 11, the run with D 11, and the stop of the walk, which has no pickup: W(0) = d_K(1), W(0) = d_K(1) + 1;
+-- then stops of R-5: no release, one, two with the same ready tick, a finish that is another's ready tick plus 1, a job that another interrupts, and the printed list;
 -- and a run in which the job of the higher task, though later in the list, goes before one with the same ready tick
 abbrev pub pad : List (List Row)
 pad =

@@ -65,7 +65,7 @@ module _ (j : Jobs) (tasks : ℕ) (o : Ordered j tasks) where
         go (inl e) = rw e (omega arith)
         go (inr l) = o .in-order (getD head (j .task p) 0) p l a (h .own (j .task p) (o .known p a) (omega arith))
 
-    pub head-may : (p : ℕ) → p < j .count → j .start p ≤ t → 0 < leftAt j t p → May j t head (j .task p)
+    head-may : (p : ℕ) → p < j .count → j .start p ≤ t → 0 < leftAt j t p → May j t head (j .task p)
     head-may p a b d = (omega (arith, head-le p a d), omega (arith, head-start p a d))
 
     -- the highest-priority task whose oldest unfinished job may run: that job goes before every job that may run, and runs

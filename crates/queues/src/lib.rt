@@ -1,4 +1,5 @@
-// What both runs share: the jobs of a list in columns, as a queue for each task with its oldest unfinished job at the head.
+// The jobs of a list in columns, as a queue for each task with its oldest unfinished job at the head: what both runs share, and the searches
+// of the ticking run.
 use taskset::PICKUP;
 ghost use mathlib.Core.Path.{_≡_};
 ghost use Prim.Native.Nat.{_≤_, min};

@@ -1,21 +1,17 @@
 -- The run over columns: from the functions' answers to the state of the next tick, and from the last state to the finish column.
-use Prim.Native.Nat.{ℕ, zero, suc, _+_, _-_, _≤_, _<_}
-use mathlib.Core.Path.{_≡_, refl, sym, ap₂, _∙_}
+use Prim.Native.Nat.{ℕ, suc, _+_, _-_, _≤_, _<_}
+use mathlib.Core.Path.{_≡_, _∙_}
 use mathlib.Core.Logic.{_⊎_, inl, inr}
 use mathlib.Core.Option.{some}
-use mathlib.Core.Bool.{true, false}
-use mathlib.Core.List.{List, [], _∷_, _++_}
+use mathlib.Core.List.{List, _++_}
 use native.Mathlib.Omega.{arith}
-use lib.ListN.{length, getD, set, take, drop, take-append-drop}
-use lib.Seq.{take-suc}
-use lib.Dec.{leb, eqb}
-use borrow.Author.Tests.{leb-true, leb-false, eqb-true, eqb-false}
+use lib.ListN.{getD, set, drop}
 use Rattle.model.specs.Series.{table}
 use Rattle.model.specs.Run.{Jobs, leftAt, runs, finishOf}
 use Rattle.model.proofs.SeriesLaws.{le-by}
-use Rattle.theory.proofs.RunLaws.{runs-nothing, left-zero}
+use Rattle.theory.proofs.RunLaws.{runs-nothing}
 use Rattle.queues.specs.Queues.{jobsOf, maxFinish, nextOf, topReady, wakeOf, wakeAll, never, workOf, Holds, Runnable}
-use Rattle.queues.proofs.SearchedLaws.{work-in, Least, least-is, wake-in, wake-out, earliest-le, earliest-is}
+use Rattle.queues.proofs.SearchedLaws.{work-in, wake-in, wake-out, earliest-le, earliest-is}
 use Rattle.queues.proofs.HeadLaws.{Ordered, May, start-soon, not-over, head-le, head-start, runs-head, runs-idle, all-finished}
 use Rattle.queues.proofs.ColumnLaws.{ordered, heads-start, none-above, none-found, one-found}
 use Rattle.queues.proofs.LeftColumnLaws.{lefts-start}

@@ -78,7 +78,7 @@ module _ (j : Jobs) (t : ℕ) where
           go false o = none-some q (sym (runs-off j (t + k) o) ∙ g)
 
   -- in any k ticks a job does at most k ticks of work
-  pub left-slow : (p k : ℕ) → leftAt j t p ≤ leftAt j (t + k) p + k
+  left-slow : (p k : ℕ) → leftAt j t p ≤ leftAt j (t + k) p + k
   left-slow p zero = let e : t + 0 ≡ t = omega arith in rw e (omega arith)
   left-slow p (suc k) = let e : t + suc k ≡ suc (t + k) = omega arith in rw e (go (left-slow p k) (runs-or j (t + k) p))
     where

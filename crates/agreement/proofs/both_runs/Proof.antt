@@ -1,6 +1,7 @@
 -- Both contracts, over columns that held the same.
 use borrow.Author.Needs.{needs}
 use Rattle.taskset.specs.TaskSet.{viewOf}
+use Rattle.agreement.specs.Agreement.{Ticked, Jumped}
 use Rattle.agreement.proofs.AgreementLaws.{same-ends}
 use Rattle.agreement.proofs.both_runs.Statement.{statement}
 use Rattle.agreement.proofs.both_runs.Tie as tie
@@ -28,8 +29,13 @@ returns c =
     let j = c .before .before .before .before in
     let t = j .before .before .before .before .before .before .before in
     let a = t .before .before .before .before .before .before .before .before .before .before .before .args in
-    same-ends (viewOf (a .s)) (a .kept .now) (a .count) (a .task .now) (a .tick .now) (a .cost .now) (a .ready .now) (a .finish .now) (a .readies .now) (a .finishes .now)
-    _ _ _ _ _ _ (t .run .ensures .0) (t .run .ensures .1 .0) (t .run .ensures .1 .1) (j .run2 .ensures .0) (j .run2 .ensures .1 .0) (j .run2 .ensures .1 .1)
+    let ticked : Ticked (viewOf (a .s)) (a .kept .now) (a .count) (a .task .now) (a .tick .now) (a .cost .now) (a .ready .now) (a .finish .now) _ _ _ =
+    record { refusal = t .run .ensures .0; ready-column = t .run .ensures .1 .0; finish-column = t .run .ensures .1 .1 }
+    in
+    let jumped : Jumped (viewOf (a .s)) (a .kept .now) (a .count) (a .task .now) (a .tick .now) (a .cost .now) (a .readies .now) (a .finishes .now) _ _ _ =
+    record { answer = j .run2 .ensures .0; ready-column = j .run2 .ensures .1 .0; finish-column = j .run2 .ensures .1 .1 }
+    in
+    (ticked, (jumped, same-ends _ _ _ _ _ _ _ _ _ _ _ _ _ _ _ _ ticked jumped))
 
 pub both-runs-spec : {M : Type 1} → statement M
 both-runs-spec =
