@@ -14,7 +14,7 @@ mod reference;
 mod same_method;
 
 use generator::{legal_list_for, list_for, numbers_of, Random};
-use reference::{Budget, Release, Sheet, Task};
+use reference::{Budget, Release, Sheet, Task, MAX_SHORT_TICK, MAX_TICK};
 use std::hint::black_box;
 
 const REPETITIONS: usize = 21;
@@ -114,7 +114,7 @@ struct List {
     sheet: Sheet,
     kept: Vec<u32>,
     task: Vec<u32>,
-    tick: Vec<u32>,
+    tick: Vec<u64>,
     cost: Vec<u32>,
 }
 
@@ -151,19 +151,27 @@ fn legal_list_of(n: usize) -> List {
 /// n releases of 32 tasks, one in each tick and of cost 1: every tick up to the last finish is a stop.
 fn dense_list_of(n: u32) -> List {
     let tasks: Vec<Task> = (0..32).map(|_| Task { p: 32, j: 0, e: 1, d: 1_000_000 }).collect();
-    let all: Vec<Release> = (0..n).map(|p| Release { task: p % 32, tick: p, cost: 1 }).collect();
+    let all: Vec<Release> = (0..n).map(|p| Release { task: p % 32, tick: p as u64, cost: 1 }).collect();
     list_with(Sheet::of(&tasks), &all)
 }
 
-/// One release at the last tick that is allowed.
+/// The same releases as in `list_of`, the last one at the last tick that is allowed: the largest file.
+fn long_list_of(n: usize) -> List {
+    let mut list = list_of(n);
+    let by = MAX_TICK - list.tick[n - 1];
+    list.tick.iter_mut().for_each(|t| *t += by);
+    list
+}
+
+/// One release at the largest tick of kind 2: later ones take a ticking run minutes and days.
 fn late_list() -> List {
     let mut list = list_of(1);
-    list.tick[0] = reference::MAX_TICK;
+    list.tick[0] = MAX_SHORT_TICK;
     list
 }
 
 /// Two releases, at tick 0 and at this one.
-fn two_releases(tick: u32) -> List {
+fn two_releases(tick: u64) -> List {
     let mut list = list_of(2);
     list.tick = vec![0, tick];
     list
@@ -248,7 +256,7 @@ fn time_trace(l: &List) -> Vec<f64> {
 
 fn time_ready(l: &List) -> Vec<f64> {
     let numbers = numbers_of(&l.sheet);
-    let (mut a, mut b) = (vec![0u32; 1024], vec![0u32; 1024]);
+    let (mut a, mut b) = (vec![0u64; 1024], vec![0u64; 1024]);
     assert_eq!(library::ready(&numbers, 32, &l.kept, l.n(), l.library(), &mut a), 0);
     assert!(same_method::ready(&l.sheet.tasks, &l.kept, l.n() as usize, l.same(), &mut b).is_ok());
     assert_eq!(a, b);
@@ -267,7 +275,7 @@ fn time_ready(l: &List) -> Vec<f64> {
 
 fn time_run(l: &List) -> Vec<f64> {
     let numbers = numbers_of(&l.sheet);
-    let (mut a, mut b, mut c, mut d) = (vec![0u32; 1024], vec![0u32; 1024], vec![0u32; 1024], vec![0u32; 1024]);
+    let (mut a, mut b, mut c, mut d) = (vec![0u64; 1024], vec![0u64; 1024], vec![0u64; 1024], vec![0u64; 1024]);
     assert_eq!(library::run(&numbers, 32, &l.kept, l.n(), l.library(), &mut a, &mut b), 0);
     assert!(same_method::run(&l.sheet.tasks, &l.kept, l.n() as usize, l.same(), &mut c, &mut d).is_ok());
     assert_eq!((&a, &b), (&c, &d));
@@ -287,7 +295,7 @@ fn time_run(l: &List) -> Vec<f64> {
 
 fn time_jump(l: &List) -> Vec<f64> {
     let numbers = numbers_of(&l.sheet);
-    let (mut a, mut b, mut c, mut d) = (vec![0u32; 1024], vec![0u32; 1024], vec![0u32; 1024], vec![0u32; 1024]);
+    let (mut a, mut b, mut c, mut d) = (vec![0u64; 1024], vec![0u64; 1024], vec![0u64; 1024], vec![0u64; 1024]);
     let mut answer = [0u64; 1];
     assert_eq!(library::jump(&numbers, 32, &l.kept, l.n(), l.library(), &mut a, &mut b, &mut answer), 0);
     assert_eq!(same_method::jump(&l.sheet.tasks, &l.kept, l.n() as usize, l.same(), &mut c, &mut d).unwrap(), answer[0]);
@@ -310,8 +318,8 @@ fn time_jump(l: &List) -> Vec<f64> {
 fn time_read(l: &List) -> Vec<f64> {
     let file = reference::write(&l.sheet, l.n() as usize, &l.reference(), 1 << 20).unwrap();
     let (mut sheet, mut answer) = ([0u32; 128], [0u64; 2]);
-    let (mut a, mut b, mut c) = (vec![0u32; 1024], vec![0u32; 1024], vec![0u32; 1024]);
-    let (mut d, mut e, mut f) = (vec![0u32; 1024], vec![0u32; 1024], vec![0u32; 1024]);
+    let (mut a, mut b, mut c) = (vec![0u32; 1024], vec![0u64; 1024], vec![0u32; 1024]);
+    let (mut d, mut e, mut f) = (vec![0u32; 1024], vec![0u64; 1024], vec![0u32; 1024]);
     let mut tasks = [Task { p: 0, j: 0, e: 0, d: 0 }; 32];
     assert_eq!(library::read(&file, &mut sheet, &mut a, &mut b, &mut c, &mut answer), 0);
     assert_eq!(same_method::read(&file, &mut tasks, &mut d, &mut e, &mut f).unwrap(), (32, l.task.len()));
@@ -331,7 +339,8 @@ fn time_read(l: &List) -> Vec<f64> {
 
 fn time_write(l: &List) -> Vec<f64> {
     let numbers = numbers_of(&l.sheet);
-    let (mut a, mut b, mut answer) = (vec![0u8; 10_785], vec![0u8; 10_785], [0u64; 1]);
+    let size = reference::bytes_needed(32, &l.tick);
+    let (mut a, mut b, mut answer) = (vec![0u8; size], vec![0u8; size], [0u64; 1]);
     assert_eq!(library::write(&numbers, 32, l.n(), l.library(), &mut a, &mut answer), 0);
     assert!(same_method::write(&l.sheet.tasks, l.n() as usize, l.same(), &mut b).is_ok());
     assert_eq!(a, b);
@@ -343,7 +352,7 @@ fn time_write(l: &List) -> Vec<f64> {
             black_box(same_method::write(black_box(&l.sheet.tasks), l.n() as usize, l.same(), black_box(&mut b)).is_ok());
         },
         &mut || {
-            black_box(reference::write(black_box(&l.sheet), l.n() as usize, &l.reference(), 10_785).is_ok());
+            black_box(reference::write(black_box(&l.sheet), l.n() as usize, &l.reference(), size).is_ok());
         },
     ])
 }
@@ -407,9 +416,13 @@ fn full_size() {
     line("run of 1,024 releases, a stop in every tick", &time_run(&dense));
     line("jumping run of 1,024 releases, a stop in every tick", &time_jump(&dense));
     line("run of one release at tick 1,000,000,000", &time_run(&late_list()));
-    line("jumping run of two releases, at 0 and 1,000,000,000", &time_jump(&two_releases(reference::MAX_TICK)));
+    line("jumping run of two releases, at 0 and 1,000,000,000", &time_jump(&two_releases(MAX_SHORT_TICK)));
+    line("jumping run of two releases, at 0 and 1,000,000,000,000,000", &time_jump(&two_releases(MAX_TICK)));
     line("read of 10,785 bytes", &time_read(&list));
     line("write of 10,785 bytes", &time_write(&list));
+    let long = long_list_of(1024);
+    line("read of 14,881 bytes", &time_read(&long));
+    line("write of 14,881 bytes", &time_write(&long));
     line("load of a text of 1,024 bytes", &time_load(&longest_text()));
     line("load of one line of 1,000,000 digits", &time_load(&long_number()));
 }
@@ -434,9 +447,11 @@ fn growth() {
         line(&format!("write of {}", n), &time_write(&list));
     }
     head("Two releases, the first at 0");
-    for tick in [1_000, 1_000_000, reference::MAX_TICK] {
+    for tick in [1_000, 1_000_000, MAX_SHORT_TICK, 1_000_000_000_000, MAX_TICK] {
         let list = two_releases(tick);
-        line(&format!("run to the second at {}", tick), &time_run(&list));
+        if tick <= MAX_SHORT_TICK {
+            line(&format!("run to the second at {}", tick), &time_run(&list));
+        }
         line(&format!("jumping run to the second at {}", tick), &time_jump(&list));
     }
 }

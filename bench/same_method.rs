@@ -3,7 +3,7 @@
 //! next, a reader in two passes, a writer in one, a loader that looks once at each byte.
 //! Each makes the checks of its call. Used as the measure of the archive's speed.
 
-use crate::reference::{number_at, record_at, task_at, Refusal, Task, HORIZON, MAX_RELEASES, MAX_TASKS, MAX_TICK, MAX_TIME};
+use crate::reference::{Refusal, Task, HORIZON, MAX_RELEASES, MAX_SHORT_TICK, MAX_TASKS, MAX_TICK, MAX_TIME};
 
 type Checked = Result<(), Refusal>;
 
@@ -42,7 +42,7 @@ fn check_kept(tasks: &[Task], kept: &[u32]) -> Checked {
     }
 }
 
-fn check_release(tasks: &[Task], before: u32, task: u32, tick: u32, cost: u32) -> Option<u32> {
+fn check_release(tasks: &[Task], before: u64, task: u32, tick: u64, cost: u32) -> Option<u32> {
     if task as usize >= tasks.len() {
         return Some(7);
     }
@@ -59,8 +59,14 @@ fn check_release(tasks: &[Task], before: u32, task: u32, tick: u32, cost: u32) -
 #[derive(Clone, Copy)]
 pub struct Columns<'a> {
     pub task: &'a [u32],
-    pub tick: &'a [u32],
+    pub tick: &'a [u64],
     pub cost: &'a [u32],
+}
+
+fn check_columns(n: usize, list: Columns) -> Checked {
+    check_slots(list.task.len(), n)?;
+    check_slots(list.tick.len(), n)?;
+    check_slots(list.cost.len(), n)
 }
 
 fn check_list(tasks: &[Task], n: usize, list: Columns) -> Checked {
@@ -198,26 +204,24 @@ fn check_call(tasks: &[Task], kept: &[u32], n: usize, list: Columns, slots: usiz
         return refuse(10, MAX_RELEASES);
     }
     check_slots(kept.len(), tasks.len())?;
-    for column in [list.task, list.tick, list.cost] {
-        check_slots(column.len(), n)?;
-    }
+    check_columns(n, list)?;
     check_slots(slots, n)?;
     check_kept(tasks, kept)?;
     check_list(tasks, n, list)
 }
 
-fn fill_ready(tasks: &[Task], kept: &[u32], n: usize, list: Columns, ready: &mut [u32]) {
+fn fill_ready(tasks: &[Task], kept: &[u32], n: usize, list: Columns, ready: &mut [u64]) {
     let (mut last, mut next) = ([0u64; 32], [0u64; 32]);
     for p in 0..n {
         let i = list.task[p] as usize;
-        let r = (list.tick[p] as u64).max(last[i]).max(next[i].saturating_sub(kept[i] as u64));
+        let r = list.tick[p].max(last[i]).max(next[i].saturating_sub(kept[i] as u64));
         last[i] = r;
         next[i] = next[i].max(r) + tasks[i].p as u64;
-        ready[p] = r as u32;
+        ready[p] = r;
     }
 }
 
-pub fn ready(tasks: &[Task], kept: &[u32], n: usize, list: Columns, ready: &mut [u32]) -> Checked {
+pub fn ready(tasks: &[Task], kept: &[u32], n: usize, list: Columns, ready: &mut [u64]) -> Checked {
     check_call(tasks, kept, n, list, ready.len())?;
     fill_ready(tasks, kept, n, list, ready);
     Ok(())
@@ -229,14 +233,12 @@ pub fn trace_check(tasks: &[Task], n: usize, list: Columns) -> Result<Option<usi
     if n > MAX_RELEASES {
         return refuse(10, MAX_RELEASES);
     }
-    for column in [list.task, list.tick, list.cost] {
-        check_slots(column.len(), n)?;
-    }
+    check_columns(n, list)?;
     check_list(tasks, n, list)?;
     let (mut last, mut next) = ([0u64; 32], [0u64; 32]);
     for p in 0..n {
         let i = list.task[p] as usize;
-        let at = list.tick[p] as u64;
+        let at = list.tick[p];
         if at < last[i].max(next[i].saturating_sub(tasks[i].j as u64)) {
             return Ok(Some(p));
         }
@@ -250,7 +252,7 @@ fn next_of(task: &[u32], n: usize, i: u32, from: usize) -> usize {
     (from..n).find(|&p| task[p] == i).unwrap_or(n)
 }
 
-pub fn run(tasks: &[Task], kept: &[u32], n: usize, list: Columns, ready: &mut [u32], finish: &mut [u32]) -> Checked {
+pub fn run(tasks: &[Task], kept: &[u32], n: usize, list: Columns, ready: &mut [u64], finish: &mut [u64]) -> Checked {
     check_call(tasks, kept, n, list, ready.len().min(finish.len()))?;
     fill_ready(tasks, kept, n, list, ready);
     let work_of = |p: usize| if p < n { list.cost[p] } else { 0 };
@@ -259,8 +261,8 @@ pub fn run(tasks: &[Task], kept: &[u32], n: usize, list: Columns, ready: &mut [u
         head[i] = next_of(list.task, n, i as u32, 0);
         left[i] = work_of(head[i]);
     }
-    let wake_of = |p: usize, ready: &[u32]| if p < n { ready[p] as u64 + PICKUP } else { u64::MAX };
-    let may_run = |p: usize, ready: &[u32], t: u64| p < n && ready[p] as u64 + PICKUP <= t;
+    let wake_of = |p: usize, ready: &[u64]| if p < n { ready[p] + PICKUP } else { u64::MAX };
+    let may_run = |p: usize, ready: &[u64], t: u64| p < n && ready[p] + PICKUP <= t;
     let (mut t, mut wake) = (0u64, 0u64);
     loop {
         if t >= wake {
@@ -274,7 +276,7 @@ pub fn run(tasks: &[Task], kept: &[u32], n: usize, list: Columns, ready: &mut [u
                 Some(i) => {
                     left[i] -= 1;
                     if left[i] == 0 {
-                        finish[head[i]] = (t + 1) as u32;
+                        finish[head[i]] = t + 1;
                         head[i] = next_of(list.task, n, i as u32, head[i] + 1);
                         left[i] = work_of(head[i]);
                     }
@@ -286,14 +288,14 @@ pub fn run(tasks: &[Task], kept: &[u32], n: usize, list: Columns, ready: &mut [u
 }
 
 /// Over every tick in which a job may start: no job is to come.
-const NEVER: u64 = 1 << 32;
+const NEVER: u64 = u64::MAX;
 
 /// The run that jumps; returns its stops. Of each task: the oldest unfinished job with its start and the work that is left of it, and
 /// the first job whose start is to come with that start. `wake` is the least of the starts to come.
-pub fn jump(tasks: &[Task], kept: &[u32], n: usize, list: Columns, ready: &mut [u32], finish: &mut [u32]) -> Result<u64, Refusal> {
+pub fn jump(tasks: &[Task], kept: &[u32], n: usize, list: Columns, ready: &mut [u64], finish: &mut [u64]) -> Result<u64, Refusal> {
     check_call(tasks, kept, n, list, ready.len().min(finish.len()))?;
     fill_ready(tasks, kept, n, list, ready);
-    let start_of = |p: usize, ready: &[u32]| if p < n { ready[p] as u64 + PICKUP } else { NEVER };
+    let start_of = |p: usize, ready: &[u64]| if p < n { ready[p] + PICKUP } else { NEVER };
     let work_of = |p: usize| if p < n { list.cost[p] } else { 0 };
     let (mut head, mut since, mut left) = ([n; 32], [NEVER; 32], [0u32; 32]);
     for i in 0..tasks.len() {
@@ -330,7 +332,7 @@ pub fn jump(tasks: &[Task], kept: &[u32], n: usize, list: Columns, ready: &mut [
                     left[i] = (end - wake) as u32;
                     t = wake;
                 } else {
-                    finish[head[i]] = end as u32;
+                    finish[head[i]] = end;
                     head[i] = next_of(list.task, n, i as u32, head[i] + 1);
                     since[i] = start_of(head[i], ready);
                     left[i] = work_of(head[i]);
@@ -344,15 +346,17 @@ pub fn jump(tasks: &[Task], kept: &[u32], n: usize, list: Columns, ready: &mut [
 
 // ---- Files -------------------------------------------------------------------------------------------------------------
 
+/// Bytes of a release of kind 2 and of kind 4.
+const SHORT: usize = 10;
+const LONG: usize = 14;
+
 pub fn write(tasks: &[Task], n: usize, list: Columns, out: &mut [u8]) -> Result<usize, Refusal> {
     check_sheet(tasks)?;
     if n > MAX_RELEASES {
         return refuse(10, MAX_RELEASES);
     }
-    for column in [list.task, list.tick, list.cost] {
-        check_slots(column.len(), n)?;
-    }
-    let size = 17 * tasks.len() + 10 * n + 1;
+    check_columns(n, list)?;
+    let size = 17 * tasks.len() + list.tick[..n].iter().map(|&t| if t <= MAX_SHORT_TICK { SHORT } else { LONG }).sum::<usize>() + 1;
     check_slots(out.len(), size)?;
     check_list(tasks, n, list)?;
     let mut at = 0;
@@ -364,11 +368,19 @@ pub fn write(tasks: &[Task], n: usize, list: Columns, out: &mut [u8]) -> Result<
         at += 17;
     }
     for p in 0..n {
-        out[at] = 2;
+        let (tick, cost) = (list.tick[p].to_le_bytes(), list.cost[p].to_le_bytes());
         out[at + 1] = list.task[p] as u8;
-        out[at + 2..at + 6].copy_from_slice(&list.tick[p].to_le_bytes());
-        out[at + 6..at + 10].copy_from_slice(&list.cost[p].to_le_bytes());
-        at += 10;
+        if list.tick[p] <= MAX_SHORT_TICK {
+            out[at] = 2;
+            out[at + 2..at + 6].copy_from_slice(&tick[..4]);
+            out[at + 6..at + 10].copy_from_slice(&cost);
+            at += SHORT;
+        } else {
+            out[at] = 4;
+            out[at + 2..at + 10].copy_from_slice(&tick);
+            out[at + 10..at + 14].copy_from_slice(&cost);
+            at += LONG;
+        }
     }
     out[at] = 3;
     Ok(size)
@@ -379,6 +391,47 @@ struct Scanned {
     tasks: [Task; 32],
     count: usize,
     releases: usize,
+}
+
+#[inline(always)]
+fn number_at(file: &[u8], at: usize) -> u32 {
+    u32::from_le_bytes([file[at], file[at + 1], file[at + 2], file[at + 3]])
+}
+
+fn task_at(file: &[u8], at: usize) -> Task {
+    Task { p: number_at(file, at), j: number_at(file, at + 4), e: number_at(file, at + 8), d: number_at(file, at + 12) }
+}
+
+/// Kind and size of the record at an offset: refused with 1 for another kind, with 2 where the file ends in it or before it.
+fn record_at(file: &[u8], at: usize) -> Result<(u8, usize), Refusal> {
+    let Some(&kind) = file.get(at) else {
+        return refuse(2, at);
+    };
+    let size = match kind {
+        1 => 17,
+        2 => SHORT,
+        3 => 1,
+        4 => LONG,
+        _ => return refuse(1, at),
+    };
+    if file.len() - at < size {
+        return refuse(2, at);
+    }
+    Ok((kind, size))
+}
+
+/// Task, tick and cost of the record of kind 2 at an offset.
+#[inline(always)]
+fn short_at(file: &[u8], at: usize) -> (u32, u64, u32) {
+    let r: &[u8; SHORT] = file[at..at + SHORT].try_into().unwrap();
+    (r[1] as u32, number_at(r, 2) as u64, number_at(r, 6))
+}
+
+/// The same of kind 4.
+#[inline(always)]
+fn long_at(file: &[u8], at: usize) -> (u32, u64, u32) {
+    let r: &[u8; LONG] = file[at..at + LONG].try_into().unwrap();
+    (r[1] as u32, number_at(r, 2) as u64 + ((number_at(r, 6) as u64) << 32), number_at(r, 10))
 }
 
 /// Checks a whole file, record by record.
@@ -402,11 +455,13 @@ fn scan(file: &[u8]) -> Result<Scanned, Refusal> {
                 tasks[count] = t;
                 count += 1;
             }
-            2 => {
+            2 | 4 => {
                 if count == 0 {
                     return refuse(5, at);
                 }
-                let (task, tick, cost) = release_at(file, at + 1);
+                let (task, tick, cost) = if kind == 2 { short_at(file, at) } else { long_at(file, at) };
+                // a tick of the other kind counts as one over the limit
+                let tick = if (kind == 2) == (tick <= MAX_SHORT_TICK) { tick } else { u64::MAX };
                 if let Some(number) = check_release(&tasks[..count], before, task, tick, cost) {
                     return refuse(number, at);
                 }
@@ -430,14 +485,10 @@ fn scan(file: &[u8]) -> Result<Scanned, Refusal> {
     }
 }
 
-#[inline(always)]
-fn release_at(file: &[u8], at: usize) -> (u32, u32, u32) {
-    (file[at] as u32, number_at(file, at + 1), number_at(file, at + 5))
-}
-
-/// Reads a file: the sheet and three columns; the counts of tasks and releases. A second pass decodes the releases.
+/// Reads a file: the sheet and three columns; the counts of tasks and releases. A second pass decodes the releases, whose kinds give
+/// the offset of the next.
 pub fn read(
-    file: &[u8], sheet: &mut [Task; 32], task: &mut [u32], tick: &mut [u32], cost: &mut [u32],
+    file: &[u8], sheet: &mut [Task; 32], task: &mut [u32], tick: &mut [u64], cost: &mut [u32],
 ) -> Result<(usize, usize), Refusal> {
     let s = scan(file)?;
     let n = s.releases;
@@ -446,9 +497,15 @@ pub fn read(
     }
     *sheet = s.tasks;
     let (task, tick, cost) = (&mut task[..n], &mut tick[..n], &mut cost[..n]);
-    let records = file[17 * s.count..].chunks_exact(10);
-    for (p, r) in records.take(n).enumerate() {
-        (task[p], tick[p], cost[p]) = release_at(r, 1);
+    let mut at = 17 * s.count;
+    for p in 0..n {
+        if file[at] == 2 {
+            (task[p], tick[p], cost[p]) = short_at(file, at);
+            at += SHORT;
+        } else {
+            (task[p], tick[p], cost[p]) = long_at(file, at);
+            at += LONG;
+        }
     }
     Ok((s.count, n))
 }

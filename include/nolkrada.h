@@ -8,9 +8,10 @@
  *
  * Every call ends, but not always soon. A verdict or a choice takes microseconds on most sheets; where the tasks load the processor
  * whole or a little more, it may walk over millions of q: with 31 tasks (62,0,1,1000000) above (2,1,1,1000000), kept at 1, the
- * verdict of the lowest takes seconds. A run goes tick by tick: some 0.4 s for one release at tick 1000000000. A run that jumps
- * (nolkrada_jump) goes from one ready or finish moment to the next: microseconds for a few releases, whatever their ticks, and
- * below a millisecond for 1024. docs/BENCHMARK.md has the figures.
+ * verdict of the lowest takes seconds. A run goes tick by tick: some 0.4 s for each 1000000000 ticks up to the last finish, so that
+ * one release near the last tick allowed makes nolkrada_run go on for days. Take nolkrada_jump for such lists. A run that jumps goes
+ * from one ready or finish moment to the next: microseconds for a few releases, whatever their ticks, and below a millisecond for
+ * 1024. docs/BENCHMARK.md has the figures.
  *
  * WHAT A CALL RETURNS
  *   0 where it answered. Otherwise a refusal, number * 2^32 + place; nolkrada_number and nolkrada_place take it apart.
@@ -28,7 +29,14 @@
  *
  * RELEASES
  *   n releases, at most 1024, in three arrays of at least n slots each, each with its own length: task (its number), tick
- *   (0 to 1000000000, never falling along the list) and cost (1 to the task's E).
+ *   (0 to 1000000000000000, never falling along the list) and cost (1 to the task's E). Release, ready and finish ticks have 64
+ *   bits, the other numbers of a list 32.
+ *
+ * FILE
+ *   Records, numbers little-endian: tasks first, then releases with ticks that never fall, then one end record, then nothing.
+ *   Kind 1, task: P, J, E, D, four bytes each (17 bytes with the kind). Kind 2, release with a tick up to 1000000000: task number,
+ *   one byte; tick, four; cost, four (10 bytes). Kind 4, release with a later tick: task number, one byte; tick, eight; cost, four
+ *   (14 bytes). Kind 3, end: no body.
  *
  * PROCESSOR
  *   In each tick the highest-priority task's oldest job runs, of the jobs that were ready before that tick and are unfinished: the
@@ -43,14 +51,15 @@
  * writes must not overlap each other or an array that it reads.
  *
  * REFUSALS (number: condition, place)
- *    1  read: kind byte not 1, 2 or 3; offset of the kind byte
+ *    1  read: kind byte not 1, 2, 3 or 4; offset of the kind byte
  *    2  read: the file ends inside a record, or where a kind is due; offset of that kind
  *    3  read: task after a release; offset of the record
  *    4  over 32 tasks; 32 (read: offset; load: the line)
  *    5  no task: count 0; 0 (read: release or end before any task; offset. load: an empty text; 0)
  *    6  P, J, E or D outside its range; the task (read: offset; load: the line, however long a number is)
  *    7  release of a task that is not in the sheet; the release (read: offset)
- *    8  tick below the one before, or over 1000000000; the release (read: offset)
+ *    8  tick below the one before, or over 1000000000000000; the release (read: offset; also a tick over 1000000000 in kind 2, and
+ *       one up to 1000000000 in kind 4)
  *    9  cost 0 or over the task's E; the release (read: offset)
  *   10  over 1024 releases; 1024 (read: offset)
  *   11  read: a byte follows the end record; its offset
@@ -77,23 +86,29 @@ extern "C" {
 
 /* The version of this interface. The archive has no symbol for it: take header and archive of one build. */
 #define NOLKRADA_VERSION_MAJOR 0
-#define NOLKRADA_VERSION_MINOR 4
+#define NOLKRADA_VERSION_MINOR 5
 #define NOLKRADA_VERSION_PATCH 0
-#define NOLKRADA_VERSION "0.4.0"
+#define NOLKRADA_VERSION "0.5.0"
 
 /* Tasks of a sheet, numbers of a sheet that is read or loaded (P, J, E, D of 32 tasks), releases of a list. */
 #define NOLKRADA_MAX_TASKS 32
 #define NOLKRADA_SHEET_NUMBERS 128
 #define NOLKRADA_MAX_RELEASES 1024
+/* The last tick of a release, and the last of one that is written as kind 2; later ones are written as kind 4. */
+#define NOLKRADA_MAX_TICK UINT64_C(1000000000000000)
+#define NOLKRADA_MAX_SHORT_TICK UINT64_C(1000000000)
+/* The largest finish: 1024 jobs of cost 1000000 released at the last tick. */
+#define NOLKRADA_MAX_FINISH UINT64_C(1000001024000001)
 /* Ticks from a job's ready tick to the first in which it may run. */
 #define NOLKRADA_PICKUP 1
 /* The most stops of a run that jumps: a ready tick plus 1 and a finish for each release. */
 #define NOLKRADA_MAX_STOPS 2048
-/* Bytes of the largest file: 17 for each task, 10 for each release, 1 for the end. nolkrada_write writes no more. */
-#define NOLKRADA_MAX_FILE 10785
+/* Bytes of the largest file: 17 for each task, 14 for each release with a tick over NOLKRADA_MAX_SHORT_TICK, 1 for the end.
+ * nolkrada_write writes no more. */
+#define NOLKRADA_MAX_FILE 14881
 /* Bytes that decide a read: none past these changes what it answers. Make a buffer that is filled from an input this long: one of
  * NOLKRADA_MAX_FILE bytes may hold a whole file and miss the byte that follows it, which is refusal 11. */
-#define NOLKRADA_READ_BYTES 10801
+#define NOLKRADA_READ_BYTES 14897
 /* Bytes of the longest text that is accepted: 32 lines of four numbers of 7 digits, three commas and a line feed. A longer text is
  * refused; what its refusal is may depend on every byte. Make a buffer that is filled from an input one byte longer: the first
  * NOLKRADA_MAX_TEXT bytes of a longer text may be accepted, the first NOLKRADA_MAX_TEXT + 1 never are. */
@@ -147,21 +162,21 @@ uint64_t nolkrada_choice(const uint32_t *sheet, size_t sheet_length, uint32_t co
  * answer: 2 slots. 0, 0: they do. 1, p: release p is the first that is too close to an earlier one of its task.
  *                                                                                             Refuses 5 4 6 10 13 7 8 9. */
 uint64_t nolkrada_trace_check(const uint32_t *sheet, size_t sheet_length, uint32_t count, uint32_t n, const uint32_t *task,
-                              size_t task_length, const uint32_t *tick, size_t tick_length, const uint32_t *cost,
+                              size_t task_length, const uint64_t *tick, size_t tick_length, const uint32_t *cost,
                               size_t cost_length, uint64_t *answer, size_t answer_length);
 
 /* Ready ticks: when the shapers let each job through.
  * ready: n slots, written.                                                                Refuses 5 4 6 10 13 12 7 8 9. */
 uint64_t nolkrada_ready(const uint32_t *sheet, size_t sheet_length, uint32_t count, const uint32_t *kept, size_t kept_length,
-                        uint32_t n, const uint32_t *task, size_t task_length, const uint32_t *tick, size_t tick_length,
-                        const uint32_t *cost, size_t cost_length, uint32_t *ready, size_t ready_length);
+                        uint32_t n, const uint32_t *task, size_t task_length, const uint64_t *tick, size_t tick_length,
+                        const uint32_t *cost, size_t cost_length, uint64_t *ready, size_t ready_length);
 
 /* Run: ready and finish tick of each job, from tick 0 with no earlier job. Finish is the last tick in which the job ran, plus 1;
- * response is finish - tick. No finish is over 2024000001.
+ * response is finish - tick. No finish is over NOLKRADA_MAX_FINISH. The time grows with the last finish: see above.
  * ready, finish: n slots each, written.                                                   Refuses 5 4 6 10 13 12 7 8 9. */
 uint64_t nolkrada_run(const uint32_t *sheet, size_t sheet_length, uint32_t count, const uint32_t *kept, size_t kept_length,
-                      uint32_t n, const uint32_t *task, size_t task_length, const uint32_t *tick, size_t tick_length,
-                      const uint32_t *cost, size_t cost_length, uint32_t *ready, size_t ready_length, uint32_t *finish,
+                      uint32_t n, const uint32_t *task, size_t task_length, const uint64_t *tick, size_t tick_length,
+                      const uint32_t *cost, size_t cost_length, uint64_t *ready, size_t ready_length, uint64_t *finish,
                       size_t finish_length);
 
 /* Run that jumps: the ready and finish ticks of nolkrada_run for every sheet and list and, where answer has its slot, its refusals.
@@ -170,8 +185,8 @@ uint64_t nolkrada_run(const uint32_t *sheet, size_t sheet_length, uint32_t count
  * ready, finish: n slots each, written. answer: 1 slot, the stops: how many different ticks are a ready tick plus 1 or a finish,
  * 0 without a release, at most NOLKRADA_MAX_STOPS.                                        Refuses 5 4 6 10 13 12 7 8 9. */
 uint64_t nolkrada_jump(const uint32_t *sheet, size_t sheet_length, uint32_t count, const uint32_t *kept, size_t kept_length,
-                       uint32_t n, const uint32_t *task, size_t task_length, const uint32_t *tick, size_t tick_length,
-                       const uint32_t *cost, size_t cost_length, uint32_t *ready, size_t ready_length, uint32_t *finish,
+                       uint32_t n, const uint32_t *task, size_t task_length, const uint64_t *tick, size_t tick_length,
+                       const uint32_t *cost, size_t cost_length, uint64_t *ready, size_t ready_length, uint64_t *finish,
                        size_t finish_length, uint64_t *answer, size_t answer_length);
 
 /* Read a file. Lend it whole, or its first NOLKRADA_READ_BYTES bytes.
@@ -179,13 +194,14 @@ uint64_t nolkrada_jump(const uint32_t *sheet, size_t sheet_length, uint32_t coun
  * written: NOLKRADA_MAX_RELEASES slots take any file.
  * answer: 2 slots, the tasks and the releases of the file.                                           Refuses 1 to 11, 13. */
 uint64_t nolkrada_read(const uint8_t *file, size_t file_length, uint32_t *sheet, size_t sheet_length, uint32_t *task,
-                       size_t task_length, uint32_t *tick, size_t tick_length, uint32_t *cost, size_t cost_length,
+                       size_t task_length, uint64_t *tick, size_t tick_length, uint32_t *cost, size_t cost_length,
                        uint64_t *answer, size_t answer_length);
 
-/* Write a file: 17 bytes for each task, 10 for each release, 1 for the end.
+/* Write a file: 17 bytes for each task, 10 for each release with a tick up to NOLKRADA_MAX_SHORT_TICK and 14 for each other, 1 for
+ * the end. 13 comes before 7, 8 and 9 and counts the bytes by the ticks as they are given, 14 for one over the limit too.
  * out: the bytes, written. answer: 1 slot, how many.                                             Refuses 5 4 6 10 13 7 8 9. */
 uint64_t nolkrada_write(const uint32_t *sheet, size_t sheet_length, uint32_t count, uint32_t n, const uint32_t *task,
-                        size_t task_length, const uint32_t *tick, size_t tick_length, const uint32_t *cost, size_t cost_length,
+                        size_t task_length, const uint64_t *tick, size_t tick_length, const uint32_t *cost, size_t cost_length,
                         uint8_t *out, size_t out_length, uint64_t *answer, size_t answer_length);
 
 /* Load a text. Lend it whole.

@@ -5,6 +5,7 @@
  * or, without installing, after `rt staticlib nolkrada`:
  *   cc -O2 -Iinclude examples/c/sheet.c target/staticlib/libnolkrada.a -o sheet
  */
+#include <inttypes.h>
 #include <stdio.h>
 #include <string.h>
 
@@ -18,7 +19,7 @@ static const uint32_t sheet[] = {6, 5, 2, 6, 8, 7, 2, 8, 10, 0, 2, 11};
 
 /* Three releases: task 0 at tick 0, task 2 at tick 0, task 0 at tick 1, all of cost 2. */
 static const uint32_t task[] = {0, 2, 0};
-static const uint32_t tick[] = {0, 0, 1};
+static const uint64_t tick[] = {0, 0, 1};
 static const uint32_t cost[] = {2, 2, 2};
 #define RELEASES 3
 
@@ -40,13 +41,12 @@ static uint64_t print_verdict(const uint32_t *kept, uint32_t i) {
     uint64_t answer[3];
     const uint64_t code = nolkrada_verdict(sheet, LENGTH(sheet), TASKS, i, kept, TASKS, answer, 3);
     if (!refused("verdict", code))
-        printf("task %u with kept jitter %u: %s, q %llu, R %llu\n", i, kept[i], kinds[answer[0]], (unsigned long long)answer[1],
-               (unsigned long long)answer[2]);
+        printf("task %u with kept jitter %u: %s, q %" PRIu64 ", R %" PRIu64 "\n", i, kept[i], kinds[answer[0]], answer[1], answer[2]);
     return code;
 }
 
 static int print_run(const uint32_t *kept) {
-    uint32_t ready[RELEASES], finish[RELEASES];
+    uint64_t ready[RELEASES], finish[RELEASES];
     uint64_t close[2];
     if (refused("trace check", nolkrada_trace_check(sheet, LENGTH(sheet), TASKS, RELEASES, task, RELEASES, tick, RELEASES, cost,
                                                     RELEASES, close, 2)))
@@ -60,18 +60,31 @@ static int print_run(const uint32_t *kept) {
         return 1;
     printf("job task release ready finish response\n");
     for (int p = 0; p < RELEASES; p++)
-        printf("%d %u %u %u %u %u\n", p, task[p], tick[p], ready[p], finish[p], finish[p] - tick[p]);
+        printf("%d %u %" PRIu64 " %" PRIu64 " %" PRIu64 " %" PRIu64 "\n", p, task[p], tick[p], ready[p], finish[p],
+               finish[p] - tick[p]);
     return 0;
 }
 
 /* The run that jumps, for lists with late ticks or long gaps: the same columns, and how often it stopped. */
 static int print_jump(const uint32_t *kept) {
-    uint32_t ready[RELEASES], finish[RELEASES];
+    uint64_t ready[RELEASES], finish[RELEASES];
     uint64_t stops[1];
     if (refused("jump", nolkrada_jump(sheet, LENGTH(sheet), TASKS, kept, TASKS, RELEASES, task, RELEASES, tick, RELEASES, cost,
                                       RELEASES, ready, RELEASES, finish, RELEASES, stops, 1)))
         return 1;
-    printf("the last job finishes at %u; the run that jumps made %llu stops\n", finish[RELEASES - 1], (unsigned long long)stops[0]);
+    printf("the last job finishes at %" PRIu64 "; the run that jumps made %" PRIu64 " stops\n", finish[RELEASES - 1], stops[0]);
+    return 0;
+}
+
+/* The same releases, the last one three months later, with ticks of a microsecond. A run tick by tick would take close to an hour. */
+static int print_months(const uint32_t *kept) {
+    static const uint64_t later[] = {0, 0, UINT64_C(7776000000000)};
+    uint64_t ready[RELEASES], finish[RELEASES];
+    uint64_t stops[1];
+    if (refused("jump", nolkrada_jump(sheet, LENGTH(sheet), TASKS, kept, TASKS, RELEASES, task, RELEASES, later, RELEASES, cost,
+                                      RELEASES, ready, RELEASES, finish, RELEASES, stops, 1)))
+        return 1;
+    printf("released at %" PRIu64 " it finishes at %" PRIu64 "\n", later[RELEASES - 1], finish[RELEASES - 1]);
     return 0;
 }
 
@@ -79,7 +92,8 @@ static int print_file(void) {
     /* Buffers that hold whatever a file may hold. */
     static uint8_t file[NOLKRADA_READ_BYTES];
     static uint32_t again[NOLKRADA_SHEET_NUMBERS];
-    static uint32_t tasks[NOLKRADA_MAX_RELEASES], ticks[NOLKRADA_MAX_RELEASES], costs[NOLKRADA_MAX_RELEASES];
+    static uint32_t tasks[NOLKRADA_MAX_RELEASES], costs[NOLKRADA_MAX_RELEASES];
+    static uint64_t ticks[NOLKRADA_MAX_RELEASES];
     uint64_t bytes[1], counts[2];
     if (refused("write", nolkrada_write(sheet, LENGTH(sheet), TASKS, RELEASES, task, RELEASES, tick, RELEASES, cost, RELEASES,
                                         file, sizeof file, bytes, 1)))
@@ -87,8 +101,8 @@ static int print_file(void) {
     if (refused("read", nolkrada_read(file, bytes[0], again, LENGTH(again), tasks, LENGTH(tasks), ticks, LENGTH(ticks), costs,
                                       LENGTH(costs), counts, 2)))
         return 1;
-    printf("%llu bytes, %llu tasks, %llu releases, %s\n", (unsigned long long)bytes[0], (unsigned long long)counts[0],
-           (unsigned long long)counts[1], memcmp(again, sheet, sizeof sheet) == 0 ? "the same sheet" : "another sheet");
+    printf("%" PRIu64 " bytes, %" PRIu64 " tasks, %" PRIu64 " releases, %s\n", bytes[0], counts[0], counts[1],
+           memcmp(again, sheet, sizeof sheet) == 0 ? "the same sheet" : "another sheet");
     return 0;
 }
 
@@ -97,7 +111,7 @@ static int print_text(void) {
     static uint32_t loaded[NOLKRADA_SHEET_NUMBERS];
     uint64_t count[1];
     if (refused("load", nolkrada_load((const uint8_t *)text, strlen(text), loaded, LENGTH(loaded), count, 1))) return 1;
-    printf("%llu lines of text, %s\n", (unsigned long long)count[0],
+    printf("%" PRIu64 " lines of text, %s\n", count[0],
            memcmp(loaded, sheet, sizeof sheet) == 0 ? "the same sheet" : "another sheet");
     return 0;
 }
@@ -108,9 +122,10 @@ int main(void) {
     if (print_choice(kept)) return 1;
     if (print_verdict(kept, 1)) return 1;
     if (refused("arrival count", nolkrada_arrival_count(sheet, LENGTH(sheet), TASKS, 0, kept, TASKS, 8, arrivals, 1))) return 1;
-    printf("task 0 arrives at most %llu times in 8 ticks\n", (unsigned long long)arrivals[0]);
+    printf("task 0 arrives at most %" PRIu64 " times in 8 ticks\n", arrivals[0]);
     if (print_run(kept)) return 1;
     if (print_jump(kept)) return 1;
+    if (print_months(kept)) return 1;
     if (print_file()) return 1;
     if (print_text()) return 1;
     /* One less than the choice. */

@@ -8,9 +8,14 @@ mod reference;
 mod sums;
 
 use generator::*;
-use reference::{Budget, Refusal, Release, Sheet, Task, Verdict, MAX_RELEASES, MAX_TICK, MAX_TIME};
+use reference::{add_release, Budget, Refusal, Release, Sheet, Task, Verdict};
+use reference::{MAX_RELEASES, MAX_SHORT_TICK, MAX_TICK, MAX_TIME};
 
 const SEED: u64 = 20_240_601;
+
+/// The ticks that a ticking run may go through in comparisons that are made often, and in a few: a thousand million take some 0.4 s.
+const SOON: u64 = 10_000_000;
+const LATE: u64 = 2_100_000_000;
 
 /// Slots lent to a call: filled with numbers that no answer depends on.
 struct Lent<T> {
@@ -65,7 +70,7 @@ struct Case {
     kept: Vec<u32>,
     n: u32,
     task: Vec<u32>,
-    tick: Vec<u32>,
+    tick: Vec<u64>,
     cost: Vec<u32>,
 }
 
@@ -104,7 +109,7 @@ impl Case {
             11 => self.numbers.push(r.bits() as u32),
             _ => {
                 self.task.push(r.bits() as u32);
-                self.tick.push(r.bits() as u32);
+                self.tick.push(r.bits());
                 self.cost.push(r.bits() as u32);
             }
         }
@@ -118,6 +123,17 @@ impl Case {
     }
     fn library_list(&self) -> library::Columns<'_> {
         library::Columns { task: &self.task, tick: &self.tick, cost: &self.cost }
+    }
+    /// Whether a ticking run of the case, with so many slots of ready and finish ticks, is refused or goes through at most so many
+    /// ticks: no job is ready later than a largest period for each release after the last tick, and then all of them run at most.
+    fn ends_by(&self, slots: [usize; 2], ticks: u64) -> bool {
+        let checked = reference::check_run(&self.sheet(), &self.kept, self.n as usize, &self.reference_list(), slots[0], slots[1]);
+        let Ok(list) = checked else {
+            return true;
+        };
+        let period = self.sheet().tasks.iter().map(|t| t.p as u64).max().unwrap_or(0);
+        let work: u64 = list.iter().map(|x| x.cost as u64).sum();
+        list.last().map_or(0, |x| x.tick) + list.len() as u64 * period + 1 + work <= ticks
     }
     fn show(&self) -> String {
         format!(
@@ -136,7 +152,12 @@ struct Tally {
     /// Of the runs that jump: the most stops, and how many have fewer than two for each release.
     most_stops: u64,
     shared_stops: u64,
+    /// The largest ready tick and the largest finish.
+    last_ready: u64,
+    last_finish: u64,
     passed_over: u64,
+    /// Runs that were not made tick by tick, since the ticks are too many.
+    not_ticked: u64,
     differences: u64,
 }
 
@@ -144,6 +165,10 @@ const NAMES: [&str; 10] =
     ["arrival count", "verdict", "choice", "trace check", "ready ticks", "run", "read", "write", "load", "jumping run"];
 
 impl Tally {
+    /// A ticking run that is not refused where it should be may go on for days: with such ticks none is made once something differed.
+    fn may_tick(&self, case: &Case) -> bool {
+        self.differences == 0 || case.tick.iter().all(|&tick| tick <= LATE)
+    }
     fn note(&mut self, call: usize, expected: Option<Refusal>, got: u64, slots: bool, show: impl Fn() -> String) {
         self.calls[call] += 1;
         if let Some(r) = expected {
@@ -254,7 +279,7 @@ fn compare_trace_check(r: &mut Random, tally: &mut Tally, case: &Case) {
 
 fn compare_ready(r: &mut Random, tally: &mut Tally, case: &Case) {
     let slots = around(r, case.n.min(1030) as usize);
-    let mut ready = numbers(r, slots);
+    let mut ready = words(r, slots);
     let expected = reference::ready(&case.sheet(), &case.kept, case.n as usize, &case.reference_list(), slots);
     let got = library::ready(&case.numbers, case.count, &case.kept, case.n, case.library_list(), &mut ready.now);
     let same = ready.holds(expected.as_ref().ok().map(|c| &c[..]));
@@ -263,10 +288,15 @@ fn compare_ready(r: &mut Random, tally: &mut Tally, case: &Case) {
     });
 }
 
-fn compare_run(r: &mut Random, tally: &mut Tally, case: &Case) {
+/// The ticking run, where it is refused or goes through at most so many ticks.
+fn compare_run(r: &mut Random, tally: &mut Tally, case: &Case, ticks: u64) {
     let needed = case.n.min(1030) as usize;
     let (a, b) = (around(r, needed), around(r, needed));
-    let (mut ready, mut finish) = (numbers(r, a), numbers(r, b));
+    if !case.ends_by([a, b], ticks) || !tally.may_tick(case) {
+        tally.not_ticked += 1;
+        return;
+    }
+    let (mut ready, mut finish) = (words(r, a), words(r, b));
     let expected = reference::run(&case.sheet(), &case.kept, case.n as usize, &case.reference_list(), a, b);
     let got = library::run(
         &case.numbers, case.count, &case.kept, case.n, case.library_list(), &mut ready.now, &mut finish.now,
@@ -282,7 +312,7 @@ fn compare_run(r: &mut Random, tally: &mut Tally, case: &Case) {
 fn compare_jump(r: &mut Random, tally: &mut Tally, case: &Case) {
     let needed = case.n.min(1030) as usize;
     let (a, b, w) = (around(r, needed), around(r, needed), around(r, 1));
-    let (mut ready, mut finish, mut answer) = (numbers(r, a), numbers(r, b), words(r, w));
+    let (mut ready, mut finish, mut answer) = (words(r, a), words(r, b), words(r, w));
     let given = reference::jump(&case.sheet(), &case.kept, case.n as usize, &case.reference_list(), a, b);
     let expected = in_words(w, 1, given);
     let got = library::jump(
@@ -293,9 +323,11 @@ fn compare_jump(r: &mut Random, tally: &mut Tally, case: &Case) {
     let same = ready.holds(jumped.map(|j| &j.ready[..]))
         && finish.holds(jumped.map(|j| &j.finish[..]))
         && answer.holds(stops.as_ref().map(|s| &s[..]));
-    if let Some([stops]) = stops {
-        tally.most_stops = tally.most_stops.max(stops);
-        tally.shared_stops += (stops < 2 * case.n as u64) as u64;
+    if let Some(j) = jumped {
+        let largest = |ticks: &[u64], before: u64| ticks.iter().copied().fold(before, u64::max);
+        tally.most_stops = tally.most_stops.max(j.stops);
+        tally.shared_stops += (j.stops < 2 * case.n as u64) as u64;
+        (tally.last_ready, tally.last_finish) = (largest(&j.ready, tally.last_ready), largest(&j.finish, tally.last_finish));
     }
     tally.note(9, expected.as_ref().err().copied(), got, same, || {
         format!("ready {:?} finish {:?} answer {:?} expected {:?} {}", ready.now, finish.now, answer.now, expected, case.show())
@@ -303,11 +335,16 @@ fn compare_jump(r: &mut Random, tally: &mut Tally, case: &Case) {
 }
 
 /// The run that jumps and the ticking run, both of the archive, with lent slots that held the same: the same code, and the same in
-/// every slot. The answer has its slot, so that both refuse the same.
-fn compare_jump_with_run(r: &mut Random, tally: &mut Tally, case: &Case) {
+/// every slot. The answer has its slot, so that both refuse the same. Where the ticking run is refused or goes through at most so
+/// many ticks.
+fn compare_jump_with_run(r: &mut Random, tally: &mut Tally, case: &Case, ticks: u64) {
     let needed = case.n.min(1030) as usize;
     let (a, b) = (around(r, needed), around(r, needed));
-    let (mut ready, mut finish, mut answer) = (numbers(r, a), numbers(r, b), words(r, 1));
+    if !case.ends_by([a, b], ticks) || !tally.may_tick(case) {
+        tally.not_ticked += 1;
+        return;
+    }
+    let (mut ready, mut finish, mut answer) = (words(r, a), words(r, b), words(r, 1));
     let (mut ticked_ready, mut ticked_finish) = (ready.held.clone(), finish.held.clone());
     let got = library::jump(
         &case.numbers, case.count, &case.kept, case.n, case.library_list(), &mut ready.now, &mut finish.now, &mut answer.now,
@@ -329,7 +366,7 @@ fn compare_read(r: &mut Random, tally: &mut Tally, file: &[u8]) {
     let slots = [around(r, releases), around(r, releases), around(r, releases)];
     let (a, s) = (around(r, 2), around(r, 128));
     let (mut answer, mut sheet) = (words(r, a), numbers(r, s));
-    let (mut task, mut tick, mut cost) = (numbers(r, slots[0]), numbers(r, slots[1]), numbers(r, slots[2]));
+    let (mut task, mut tick, mut cost) = (numbers(r, slots[0]), words(r, slots[1]), numbers(r, slots[2]));
     let expected = read_into(file, s, slots, a);
     let got = library::read(file, &mut sheet.now, &mut task.now, &mut tick.now, &mut cost.now, &mut answer.now);
     let same = match &expected {
@@ -343,16 +380,43 @@ fn compare_read(r: &mut Random, tally: &mut Tally, file: &[u8]) {
             answer.holds(Some(&[s.count as u64, list.len() as u64]))
                 && sheet.holds(Some(&whole))
                 && task.holds(Some(&column(|x| x.task)))
-                && tick.holds(Some(&column(|x| x.tick)))
+                && tick.holds(Some(&list.iter().map(|x| x.tick).collect::<Vec<u64>>()))
                 && cost.holds(Some(&column(|x| x.cost)))
         }
     };
     tally.note(6, expected.as_ref().err().copied(), got, same, || format!("slots {:?} file {:?}", slots, file));
+    if reference::decode(file).is_ok() {
+        compare_again(tally, file);
+    }
+}
+
+/// A file that is accepted, read and written again by the archive: the same bytes.
+fn compare_again(tally: &mut Tally, file: &[u8]) {
+    let (mut sheet, mut counts, mut length) = ([0; 128], [0; 2], [0; 1]);
+    let (mut task, mut tick, mut cost) = ([0; MAX_RELEASES], [0; MAX_RELEASES], [0; MAX_RELEASES]);
+    let mut out = vec![0; file.len()];
+    let got = library::read(file, &mut sheet, &mut task, &mut tick, &mut cost, &mut counts);
+    let [tasks, releases] = counts.map(|n| n as u32);
+    let list = library::Columns { task: &task, tick: &tick, cost: &cost };
+    let and = library::write(&sheet, tasks, releases, list, &mut out, &mut length);
+    let same = out == file && length[0] == file.len() as u64;
+    tally.note(7, None, if got == 0 { and } else { got }, same, || format!("read and written again: {:?}", file));
+}
+
+/// The bytes that a write of a case needs, more or less where its columns are short.
+fn bytes_of(case: &Case) -> usize {
+    let ticks = &case.tick[..case.tick.len().min(case.n.min(1030) as usize)];
+    reference::bytes_needed(case.count.min(40) as usize, ticks)
 }
 
 /// A write, and a read of what was written.
 fn compare_write(r: &mut Random, tally: &mut Tally, case: &Case) {
-    let slots = around(r, 17 * case.count.min(40) as usize + 10 * case.n.min(1030) as usize + 1);
+    let slots = around(r, bytes_of(case));
+    compare_write_to(r, tally, case, slots);
+}
+
+/// The same with so many bytes lent.
+fn compare_write_to(r: &mut Random, tally: &mut Tally, case: &Case, slots: usize) {
     let a = around(r, 1);
     let (mut answer, mut out) = (words(r, a), bytes(r, slots));
     let expected = in_words(a, 1, reference::write(&case.sheet(), case.n as usize, &case.reference_list(), slots));
@@ -396,12 +460,12 @@ fn compare_load_with_read(r: &mut Random, tally: &mut Tally, text: &[u8], given:
     tally.note(8, None, if got == 0 { and } else { got }, same, || format!("loaded and read: {}", text.escape_ascii()));
 }
 
-fn compare_list_calls(r: &mut Random, tally: &mut Tally, case: &Case) {
+fn compare_list_calls(r: &mut Random, tally: &mut Tally, case: &Case, ticks: u64) {
     compare_trace_check(r, tally, case);
     compare_ready(r, tally, case);
-    compare_run(r, tally, case);
+    compare_run(r, tally, case, ticks);
     compare_jump(r, tally, case);
-    compare_jump_with_run(r, tally, case);
+    compare_jump_with_run(r, tally, case, ticks);
     compare_write(r, tally, case);
 }
 
@@ -429,7 +493,7 @@ fn small(r: &mut Random, tally: &mut Tally, cases: u32) {
         }
         let budget = if r.once_in(400) { 20_000_000 } else { 40_000 };
         compare_sheet_calls(r, tally, &case, budget);
-        compare_list_calls(r, tally, &case);
+        compare_list_calls(r, tally, &case, SOON);
     }
 }
 
@@ -526,7 +590,7 @@ fn boundary(r: &mut Random, tally: &mut Tally, cases: u32) {
             case.damage(r);
         }
         compare_sheet_calls(r, tally, &case, 10_000);
-        compare_list_calls(r, tally, &case);
+        compare_list_calls(r, tally, &case, SOON);
     }
 }
 
@@ -536,7 +600,7 @@ fn list_for_any(r: &mut Random, sheet: &Sheet) -> Vec<Release> {
     let mut tick = 0;
     (0..n)
         .map(|_| {
-            tick += r.within(0, 5);
+            tick += r.tick(0, 5);
             Release { task: r.within(0, sheet.count as u32 - 1), tick, cost: 1 }
         })
         .collect()
@@ -554,40 +618,99 @@ fn long_lists(r: &mut Random, tally: &mut Tally, cases: u32) {
             damage_list(r, &sheet, &mut list);
         }
         let case = Case::sound(r, &sheet, &list);
-        compare_list_calls(r, tally, &case);
+        compare_list_calls(r, tally, &case, SOON);
     }
 }
 
-/// Ticks at the limit of 1,000,000,000.
+/// Ticks at the largest one of kind 2, the last that a ticking run is asked to reach here.
 fn late_ticks(r: &mut Random, tally: &mut Tally, cases: u32) {
     for _ in 0..cases {
         let sheet = loaded_sheet(r, 3, 1_000);
         let mut list = list_for(r, &sheet, 8, 50);
         for x in list.iter_mut() {
-            x.tick = MAX_TICK - 400 + x.tick.min(400);
+            x.tick = MAX_SHORT_TICK - 200 + x.tick.min(400);
         }
         let case = Case::sound(r, &sheet, &list);
-        compare_list_calls(r, tally, &case);
+        compare_list_calls(r, tally, &case, LATE);
     }
 }
 
-/// The largest finish tick, in both runs: 1,024 jobs of the largest cost and period, all released at the limit. Each but the last
-/// is finished where the next one starts, hence the stops.
+/// Lists that lie around the largest tick of kind 2, around what four bytes hold, up to the limit and over it: sound and damaged.
+/// The ticking run is compared where it refuses.
+fn long_ticks(r: &mut Random, tally: &mut Tally, cases: u32, sizes: &[usize]) {
+    for _ in 0..cases {
+        let (tasks, top) = (r.of(&[1, 2, 5, 32]), r.of(&[40, 1_000, 1_000_000]));
+        let sheet = if r.once_in(3) { loaded_sheet(r, tasks, top) } else { small_sheet(r) };
+        let (n, step) = (r.of(sizes), r.of(&[0, 3, 40, 2_000]));
+        let list = if r.once_in(3) { legal_list_for(r, &sheet, n) } else { list_for(r, &sheet, n, step) };
+        let (tick, over) = (r.of(&MIDDLE_TICKS), if r.once_in(8) { r.tick(1, 50) } else { 0 });
+        let mut list = moved(&list, way_to(r, &list, tick) + over);
+        if r.once_in(5) {
+            damage_list(r, &sheet, &mut list);
+        }
+        let mut case = Case::sound(r, &sheet, &list);
+        if r.once_in(5) {
+            case.damage(r);
+        }
+        compare_list_calls(r, tally, &case, SOON);
+    }
+}
+
+/// Lists of each form, moved to long ticks: ready ticks and jumping run.
+fn moved_lists(r: &mut Random, tally: &mut Tally, cases: u32, sizes: &[usize]) {
+    for _ in 0..cases {
+        for form in FORMS {
+            let n = r.of(sizes);
+            let (sheet, list) = form(r, n);
+            let case = Case::sound(r, &sheet, &list);
+            let tick = r.of(&MIDDLE_TICKS);
+            let by = way_to(r, &list, tick);
+            let later = Case { tick: case.tick.iter().map(|t| t + by).collect(), ..case.clone() };
+            compare_ready(r, tally, &later);
+            compare_jump(r, tally, &later);
+            compare_moved(tally, &case, &later, by);
+        }
+    }
+}
+
+/// The jumping run of the moved list gives what the ticking run gives of the list as it was, so much later; both of the archive.
+fn compare_moved(tally: &mut Tally, case: &Case, later: &Case, by: u64) {
+    let n = case.n as usize;
+    let (mut ready, mut finish) = (vec![0; n], vec![0; n]);
+    let (mut late_ready, mut late_finish) = (vec![0; n], vec![0; n]);
+    let ticked = library::run(&case.numbers, case.count, &case.kept, case.n, case.library_list(), &mut ready, &mut finish);
+    let list = later.library_list();
+    let got = library::jump(&case.numbers, case.count, &case.kept, case.n, list, &mut late_ready, &mut late_finish, &mut [0]);
+    let moved = |ticks: &[u64]| ticks.iter().map(|t| t + by).collect::<Vec<u64>>();
+    let same = ticked == 0 && (moved(&ready), moved(&finish)) == (late_ready, late_finish);
+    tally.note(9, None, got, same, || format!("{} ticks later than {}", by, case.show()));
+}
+
+/// The largest ready and finish ticks: 1,024 jobs of the largest cost and period, all released at one tick. Each but the last is
+/// finished where the next one starts, hence the stops. At the limit in the jumping run, at the largest tick of kind 2 in both runs.
 fn largest_finish(r: &mut Random, tally: &mut Tally) {
     let sheet = Sheet::of(&[Task { p: MAX_TIME, j: 0, e: MAX_TIME, d: MAX_TIME }]);
-    let case = Case::sound(r, &sheet, &[Release { task: 0, tick: MAX_TICK, cost: MAX_TIME }; 1024]);
-    let expected = reference::run(&case.sheet(), &case.kept, 1024, &case.reference_list(), 1024, 1024).unwrap();
-    assert_eq!((expected.0[1023], expected.1[1023]), (2_023_000_000, 2_024_000_001));
-    let jumped = reference::jump(&case.sheet(), &case.kept, 1024, &case.reference_list(), 1024, 1024).unwrap();
-    assert_eq!((&jumped.ready, &jumped.finish, jumped.stops), (&expected.0, &expected.1, 1_025));
-    let (mut ready, mut finish) = (numbers(r, 1024), numbers(r, 1024));
-    let got = library::run(
-        &case.numbers, case.count, &case.kept, case.n, case.library_list(), &mut ready.now, &mut finish.now,
-    );
-    let same = ready.holds(Some(&expected.0)) && finish.holds(Some(&expected.1));
-    tally.note(5, None, got, same, || format!("last ready {} finish {}", ready.now[1023], finish.now[1023]));
-    for _ in 0..20 {
-        compare_jump(r, tally, &case);
+    for (tick, last) in [
+        (MAX_SHORT_TICK, (2_023_000_000, 2_024_000_001)),
+        (MAX_TICK, (1_000_001_023_000_000, 1_000_001_024_000_001)),
+    ] {
+        let case = Case::sound(r, &sheet, &[Release { task: 0, tick, cost: MAX_TIME }; 1024]);
+        let expected = reference::run(&case.sheet(), &case.kept, 1024, &case.reference_list(), 1024, 1024).unwrap();
+        assert_eq!((expected.0[1023], expected.1[1023]), last);
+        let jumped = reference::jump(&case.sheet(), &case.kept, 1024, &case.reference_list(), 1024, 1024).unwrap();
+        assert_eq!((&jumped.ready, &jumped.finish, jumped.stops), (&expected.0, &expected.1, 1_025));
+        let (mut ready, mut finish) = (words(r, 1024), words(r, 1024));
+        if tick == MAX_SHORT_TICK {
+            let got = library::run(
+                &case.numbers, case.count, &case.kept, case.n, case.library_list(), &mut ready.now, &mut finish.now,
+            );
+            let same = ready.holds(Some(&expected.0)) && finish.holds(Some(&expected.1));
+            tally.note(5, None, got, same, || format!("last ready {} finish {}", ready.now[1023], finish.now[1023]));
+        }
+        for _ in 0..20 {
+            compare_jump(r, tally, &case);
+            compare_ready(r, tally, &case);
+        }
     }
 }
 
@@ -603,7 +726,7 @@ fn formed_lists(r: &mut Random, tally: &mut Tally, cases: u32, sizes: &[usize]) 
             for kept in [case.kept.clone(), full, vec![0; sheet.count]] {
                 case.kept = kept;
                 compare_jump(r, tally, &case);
-                compare_jump_with_run(r, tally, &case);
+                compare_jump_with_run(r, tally, &case, SOON);
             }
         }
     }
@@ -629,10 +752,11 @@ fn long_gaps(r: &mut Random, tally: &mut Tally, cases: u32, sizes: &[usize]) {
 }
 
 /// Jumping runs of two releases, the first at 0 and the second up to the limit: of one task and of two, in both orders. With the
-/// ticking run too up to 1,000,000, and once at the limit.
+/// ticking run too up to 1,000,000, and once at the largest tick of kind 2.
 fn two_releases(r: &mut Random, tally: &mut Tally) {
     let sheet = sums::printed_sheet();
-    for tick in [0, 1, 2, 3, 4, 5, 6, 1_000, 1_000_000, MAX_TICK - 1, MAX_TICK] {
+    let short = [0, 1, 2, 3, 4, 5, 6, 1_000, 1_000_000];
+    for tick in short.into_iter().chain(EDGE_TICKS) {
         for tasks in [[0, 0], [0, 2], [2, 0]] {
             for cost in [1, 2] {
                 let list = [(tasks[0], 0), (tasks[1], tick)].map(|(task, tick)| Release { task, tick, cost });
@@ -640,20 +764,20 @@ fn two_releases(r: &mut Random, tally: &mut Tally) {
                 for _ in 0..20 {
                     compare_jump(r, tally, &case);
                 }
-                if tick <= 1_000_000 || (tick, tasks, cost) == (MAX_TICK, [0, 0], 2) {
-                    compare_jump_with_run(r, tally, &case);
-                }
+                let ticks = if (tick, tasks, cost) == (MAX_SHORT_TICK, [0, 0], 2) { LATE } else { SOON };
+                compare_jump_with_run(r, tally, &case, ticks);
             }
         }
     }
 }
 
-/// Sound files cut at every byte and with every byte changed; random records; files at the limits.
+/// Sound files of short and of long ticks, cut at every byte and with every byte changed; random records.
 fn files(r: &mut Random, tally: &mut Tally, cases: u32) {
     for _ in 0..cases {
         let (tasks, releases) = (r.within(1, 4) as usize, r.within(0, 6) as usize);
-        let file = file_for(r, tasks, releases);
-        for end in 0..file.len() {
+        let tick = r.of(&MIDDLE_TICKS);
+        let file = if r.once_in(2) { file_for(r, tasks, releases) } else { late_file_for(r, tasks, releases, tick) };
+        for end in 0..=file.len() {
             compare_read(r, tally, &file[..end]);
         }
         for at in 0..file.len() {
@@ -662,22 +786,99 @@ fn files(r: &mut Random, tally: &mut Tally, cases: u32) {
             compare_read(r, tally, &other);
         }
         let mut longer = file.clone();
-        longer.push(r.within(0, 4) as u8);
+        longer.push(r.within(0, 5) as u8);
         compare_read(r, tally, &longer);
         for _ in 0..20 {
             let any = random_file(r);
             compare_read(r, tally, &any);
         }
-        let noise: Vec<u8> = (0..r.within(0, 40)).map(|_| r.within(0, 4) as u8).collect();
+        let noise: Vec<u8> = (0..r.within(0, 40)).map(|_| r.within(0, 5) as u8).collect();
         compare_read(r, tally, &noise);
     }
 }
 
-/// 32 and 33 tasks, 1,024 and 1,025 releases, whole and cut at every byte near the end.
+/// The record of the task (6,5,2,6).
+fn one_task() -> Vec<u8> {
+    let mut file = reference::encode(&[Task { p: 6, j: 5, e: 2, d: 6 }], &[]);
+    file.pop();
+    file
+}
+
+/// Two releases with ticks at the edges, each in either kind. Sound ones whole and cut at every byte, then with a task that is not
+/// there, a cost of 0, or both, in the second.
+fn edge_files(r: &mut Random, tally: &mut Tally) {
+    let ticks = || [0, 1].into_iter().chain(EDGE_TICKS).flat_map(|tick| [(2, tick), (4, tick)]);
+    for (kind, tick) in ticks() {
+        for (then, next) in ticks() {
+            for (task, cost) in [(0, 2), (1, 2), (0, 0), (1, 0)] {
+                let mut file = one_task();
+                add_release(&mut file, kind, Release { task: 0, tick, cost: 1 });
+                add_release(&mut file, then, Release { task, tick: next, cost });
+                file.push(3);
+                compare_read(r, tally, &file);
+                for end in (0..file.len()).filter(|_| (task, cost) == (0, 2)) {
+                    compare_read(r, tally, &file[..end]);
+                }
+            }
+        }
+    }
+}
+
+/// Up to five records of every kind in every order: whole, cut in the last one, and with a byte after it. Ticks rise in the order of
+/// the kinds, so that a release of kind 2 after one of kind 4 has a tick that falls.
+fn record_orders(r: &mut Random, tally: &mut Tally) {
+    let mut all: Vec<Vec<u8>> = vec![Vec::new()];
+    for turn in 0..5 {
+        let record = |kind: u8| match kind {
+            1 => one_task(),
+            3 => vec![3],
+            _ => {
+                let mut record = Vec::new();
+                let tick = if kind == 2 { MAX_SHORT_TICK - 5 } else { MAX_SHORT_TICK + 1 } + turn;
+                add_release(&mut record, kind, Release { task: 0, tick, cost: 1 });
+                record
+            }
+        };
+        let mut longer = Vec::new();
+        for file in &all {
+            for kind in 1..=4 {
+                let whole = [&file[..], &record(kind)].concat();
+                for end in file.len() + 1..=whole.len() {
+                    compare_read(r, tally, &whole[..end]);
+                }
+                let after = r.within(0, 5) as u8;
+                compare_read(r, tally, &[&whole[..], &[after]].concat());
+                longer.push(whole);
+            }
+        }
+        all = longer;
+    }
+}
+
+/// Files of the kinds 1, 2 and 3 alone, as there were before the longer ticks: the releases that they had, and the same bytes again.
+fn old_files(r: &mut Random, tally: &mut Tally, cases: u32) {
+    for _ in 0..cases {
+        let (tasks, n) = (r.of(&[1, 3, 32]), r.of(&[1, 2, 7, 30, 1024]));
+        let sheet = sheet_for(r, tasks);
+        let list = list_for(r, &sheet, n, 9);
+        let by = if r.once_in(2) { MAX_SHORT_TICK - list[n - 1].tick } else { r.tick(0, MAX_SHORT_TICK / 2) };
+        let list = moved(&list, by);
+        let mut file = reference::encode(&sheet.tasks, &[]);
+        file.pop();
+        for &x in &list {
+            add_release(&mut file, 2, x);
+        }
+        file.push(3);
+        assert_eq!((file.len(), reference::decode(&file)), (17 * sheet.count + 10 * n + 1, Ok((sheet, list))));
+        compare_read(r, tally, &file);
+    }
+}
+
+/// 32 and 33 tasks, 1,024 and 1,025 releases of short, of both and of long ticks, whole and cut at every byte near the end.
 fn full_files(r: &mut Random, tally: &mut Tally) {
     for tasks in [32, 33] {
-        for releases in [0, 1, 1024, 1025] {
-            let file = file_for(r, tasks, releases);
+        for (releases, tick) in [0, 1, 1024, 1025].into_iter().flat_map(|n| [(n, 0), (n, MAX_SHORT_TICK), (n, MAX_TICK)]) {
+            let file = if tick == 0 { file_for(r, tasks, releases) } else { late_file_for(r, tasks, releases, tick) };
             for end in (0..=file.len()).filter(|e| e % 97 == 0 || e + 40 > file.len()) {
                 compare_read(r, tally, &file[..end]);
             }
@@ -690,6 +891,53 @@ fn full_files(r: &mut Random, tally: &mut Tally) {
             let mut longer = file.clone();
             longer.extend_from_slice(&[1; 20]);
             compare_read(r, tally, &longer);
+        }
+    }
+}
+
+/// The largest file and what may follow its last release: 14,897 bytes decide a read, and of a task there 14,896 do not.
+fn deciding_bytes(r: &mut Random, tally: &mut Tally) {
+    const DECIDE: usize = 17 * 32 + 14 * 1024 + 17;
+    let file = late_file_for(r, 32, 1024, MAX_TICK);
+    assert_eq!((file.len(), DECIDE), (14_881, 14_897));
+    let releases = &file[..file.len() - 1];
+    let mut long = Vec::new();
+    add_release(&mut long, 4, Release { task: 0, tick: MAX_TICK, cost: 1 });
+    let mut short = Vec::new();
+    add_release(&mut short, 2, Release { task: 0, tick: MAX_SHORT_TICK, cost: 1 });
+    for (record, number, place) in
+        [(&one_task()[..], 3, 14_880), (&long, 10, 14_880), (&short, 8, 14_880), (&[3], 11, 14_881), (&[5], 1, 14_880)]
+    {
+        let whole = [releases, record, &[3; 40]].concat();
+        let refused = Err(Refusal { number, place });
+        assert_eq!((reference::decode(&whole), reference::decode(&whole[..DECIDE])), (refused.clone(), refused));
+        for end in file.len() - 1..=whole.len() {
+            compare_read(r, tally, &whole[..end]);
+        }
+    }
+    let cut = [releases, &one_task()].concat();
+    assert_eq!(cut.len(), DECIDE);
+    assert_eq!(reference::decode(&cut[..DECIDE - 1]), Err(Refusal { number: 2, place: 14_880 }));
+}
+
+/// The bytes that a write needs, with ticks of any size and in any order: 13 with their number where fewer are lent, whatever else is
+/// wrong with the releases.
+fn write_places(r: &mut Random, tally: &mut Tally, cases: u32, sizes: &[usize]) {
+    for _ in 0..cases {
+        let sheet = small_sheet(r);
+        let n = r.of(sizes);
+        let mut list = list_for(r, &sheet, n, 9);
+        let any = r.once_in(2);
+        for x in list.iter_mut() {
+            x.tick = if any { r.of(&EDGE_TICKS) } else { MAX_SHORT_TICK - 20 + x.tick };
+        }
+        if r.once_in(3) {
+            damage_list(r, &sheet, &mut list);
+        }
+        let case = Case::sound(r, &sheet, &list);
+        let needed = bytes_of(&case);
+        for slots in [0, needed - 1, needed, needed + 3] {
+            compare_write_to(r, tally, &case, slots);
         }
     }
 }
@@ -810,7 +1058,7 @@ fn printed(r: &mut Random, tally: &mut Tally) {
         let case = Case::sound(r, &sheet, &sums::printed_releases());
         for _ in 0..50 {
             compare_sheet_calls(r, tally, &case, 1_000_000);
-            compare_list_calls(r, tally, &case);
+            compare_list_calls(r, tally, &case, SOON);
         }
     }
 }
@@ -844,27 +1092,32 @@ fn short_answers(r: &mut Random, tally: &mut Tally) {
         tally.note(1, refused(verdict.0, verdict.1), got, answer.holds(None), || format!("two slots, task {} {}", task, case.show()));
     }
 
-    // a list of three: what a trace check with one slot and a write with none refuse; the file has 82 bytes
-    let lists: [(fn(&mut Case), [(u32, u64); 2]); 8] = [
-        (|_| (), [(13, 2), (13, 1)]),
-        (|c| c.count = 0, [(5, 0), (5, 0)]),
-        (|c| c.numbers[0] = 0, [(6, 0), (6, 0)]),
-        (|c| c.n = 1025, [(10, 1024), (10, 1024)]),
-        (|c| c.tick.truncate(2), [(13, 3), (13, 3)]),
-        (|c| c.task[1] = 3, [(13, 2), (13, 1)]),
-        (|c| c.tick[2] = MAX_TICK + 1, [(13, 2), (13, 1)]),
-        (|c| c.cost[0] = 0, [(13, 2), (13, 1)]),
+    // a list of three: what a trace check with one slot and a write with none refuse, and the bytes that the write needs
+    let lists: [(fn(&mut Case), [(u32, u64); 2], usize); 12] = [
+        (|_| (), [(13, 2), (13, 1)], 82),
+        (|c| c.count = 0, [(5, 0), (5, 0)], 0),
+        (|c| c.numbers[0] = 0, [(6, 0), (6, 0)], 0),
+        (|c| c.n = 1025, [(10, 1024), (10, 1024)], 0),
+        (|c| c.tick.truncate(2), [(13, 3), (13, 3)], 0),
+        (|c| c.task[1] = 3, [(13, 2), (13, 1)], 82),
+        (|c| c.cost[0] = 0, [(13, 2), (13, 1)], 82),
+        (|c| c.tick[2] = MAX_SHORT_TICK, [(13, 2), (13, 1)], 82),
+        (|c| c.tick[2] = MAX_SHORT_TICK + 1, [(13, 2), (13, 1)], 86),
+        (|c| c.tick[2] = MAX_TICK + 1, [(13, 2), (13, 1)], 86),
+        (|c| c.tick = vec![u64::MAX, 0, 1 << 32], [(13, 2), (13, 1)], 90),
+        (|c| c.tick = vec![MAX_TICK; 4], [(13, 2), (13, 1)], 94),
     ];
-    for (change, [check, write]) in lists {
+    for (change, [check, write], needed) in lists {
         let case = changed(change);
-        let (mut answer, mut out) = (words(r, 1), bytes(r, 82));
+        let (mut answer, mut out) = (words(r, 1), bytes(r, needed));
         let got = library::trace_check(&case.numbers, case.count, case.n, case.library_list(), &mut answer.now);
         tally.note(3, refused(check.0, check.1), got, answer.holds(None), || format!("one slot {}", case.show()));
         let got = library::write(&case.numbers, case.count, case.n, case.library_list(), &mut out.now, &mut answer.now[..0]);
         tally.note(7, refused(write.0, write.1), got, out.holds(None), || format!("no slot {}", case.show()));
-        if case.n == 3 && write == (13, 1) {
-            let got = library::write(&case.numbers, case.count, 3, case.library_list(), &mut out.now[..81], &mut answer.now[..0]);
-            tally.note(7, refused(13, 82), got, out.holds(None), || format!("no slot, 81 bytes {}", case.show()));
+        if needed > 0 {
+            let short = &mut out.now[..needed - 1];
+            let got = library::write(&case.numbers, case.count, 3, case.library_list(), short, &mut answer.now[..0]);
+            tally.note(7, refused(13, needed as u64), got, out.holds(None), || format!("no slot, a byte too few {}", case.show()));
         }
     }
 
@@ -905,7 +1158,7 @@ fn short_answers(r: &mut Random, tally: &mut Tally) {
     for (change, [a, b], none, one) in jumps {
         let mut case = Case { kept: vec![1, 3, 0], n: 2, ..sound.clone() };
         change(&mut case);
-        let (mut ready, mut finish, mut answer) = (numbers(r, a), numbers(r, b), words(r, 1));
+        let (mut ready, mut finish, mut answer) = (words(r, a), words(r, b), words(r, 1));
         for (slots, expected) in [(0, Some(none)), (1, one)] {
             let Some((number, place)) = expected else {
                 continue;
@@ -914,6 +1167,9 @@ fn short_answers(r: &mut Random, tally: &mut Tally) {
             let got = library::jump(&case.numbers, case.count, &case.kept, case.n, case.library_list(), lent.0, lent.1, lent.2);
             let same = ready.holds(None) && finish.holds(None) && answer.holds(None);
             tally.note(9, refused(number, place), got, same, || format!("{} slots for the answer {}", slots, case.show()));
+        }
+        if !tally.may_tick(&case) {
+            continue;
         }
         let got = library::run(
             &case.numbers, case.count, &case.kept, case.n, case.library_list(), &mut ready.now, &mut finish.now,
@@ -928,7 +1184,8 @@ fn short_answers(r: &mut Random, tally: &mut Tally) {
     let file = reference::encode(&sheet.tasks[..sheet.count], &sums::printed_releases());
     let mut longer = file.clone();
     longer.push(3);
-    let files: [(&[u8], usize, [usize; 3], usize, (u32, u64)); 10] = [
+    let late = reference::encode(&sheet.tasks[..sheet.count], &moved(&sums::printed_releases(), MAX_TICK - 1));
+    let files: [(&[u8], usize, [usize; 3], usize, (u32, u64)); 13] = [
         (&file, 127, [3, 3, 3], 2, (13, 128)),
         (&file, 128, [3, 3, 3], 1, (13, 2)),
         (&file, 0, [0, 3, 3], 0, (13, 128)),
@@ -939,10 +1196,13 @@ fn short_answers(r: &mut Random, tally: &mut Tally) {
         (&file[..81], 0, [3, 3, 3], 2, (2, 81)),
         (&longer, 127, [0, 0, 0], 0, (11, 82)),
         (&file[17 * 3..], 128, [3, 3, 3], 0, (5, 0)),
+        (&late, 128, [3, 2, 3], 2, (13, 3)),
+        (&late[..93], 0, [0, 0, 0], 0, (2, 93)),
+        (&late[17 * 3..], 0, [0, 0, 0], 0, (5, 0)),
     ];
     for (file, s, slots, a, (number, place)) in files {
         let (mut answer, mut sheet) = (words(r, a), numbers(r, s));
-        let (mut task, mut tick, mut cost) = (numbers(r, slots[0]), numbers(r, slots[1]), numbers(r, slots[2]));
+        let (mut task, mut tick, mut cost) = (numbers(r, slots[0]), words(r, slots[1]), numbers(r, slots[2]));
         let got = library::read(file, &mut sheet.now, &mut task.now, &mut tick.now, &mut cost.now, &mut answer.now);
         let same = answer.holds(None) && sheet.holds(None) && task.holds(None) && tick.holds(None) && cost.holds(None);
         tally.note(6, refused(number, place), got, same, || format!("sheet {} slots {:?} answer {} file {:?}", s, slots, a, file));
@@ -1007,15 +1267,25 @@ fn main() {
     timed("loaded sheets", || loaded(r, tally, 3_000, &[1, 2, 3, 5, 8, 16]));
     timed("full sheets", || loaded(r, tally, 400, &[31, 32]));
     timed("long lists", || long_lists(r, tally, 60));
-    timed("ticks at the limit", || late_ticks(r, tally, 3));
-    timed("largest finish tick", || largest_finish(r, tally));
+    timed("ticks at 1,000,000,000", || late_ticks(r, tally, 3));
+    timed("ticks past it, up to the limit", || long_ticks(r, tally, 20_000, &[0, 1, 2, 5, 12]));
+    timed("the same with 1,024 releases", || long_ticks(r, tally, 60, &[1023, 1024, 1024, 1025]));
+    timed("largest ready and finish ticks", || largest_finish(r, tally));
     timed("jumps: bursts, chains, equal ticks, gaps", || formed_lists(r, tally, 1_500, &[2, 5, 33, 100]));
     timed("jumps: the same with 1,024 releases", || formed_lists(r, tally, 30, &[1024]));
     timed("jumps: long gaps", || long_gaps(r, tally, 20_000, &[1, 2, 3, 10, 60]));
     timed("jumps: long gaps, 1,024 releases", || long_gaps(r, tally, 300, &[1024]));
     timed("jumps: two releases", || two_releases(r, tally));
+    timed("jumps: bursts and so on, later", || moved_lists(r, tally, 500, &[2, 5, 33, 100]));
+    timed("jumps: the same with 1,024 releases", || moved_lists(r, tally, 10, &[1024]));
     timed("files, cut and changed at every byte", || files(r, tally, 1_000));
+    timed("releases of both kinds at the edges", || edge_files(r, tally));
+    timed("records in every order", || record_orders(r, tally));
+    timed("files without long ticks", || old_files(r, tally, 300));
     timed("full files", || full_files(r, tally));
+    timed("bytes that decide a read", || deciding_bytes(r, tally));
+    timed("bytes that a write needs", || write_places(r, tally, 2_000, &[0, 1, 2, 5, 12]));
+    timed("the same with 1,024 releases", || write_places(r, tally, 20, &[1024]));
     timed("texts, cut and changed at every byte", || texts(r, tally, 200));
     timed("numbers and lines at the limits", || full_texts(r, tally));
     timed("long walks", || long_walks(r, tally));
@@ -1027,11 +1297,13 @@ fn main() {
     let [horizon, late, fits] = tally.verdicts;
     println!("verdicts  horizon {}  late {}  fits {}; too close {}; passed over {}", horizon, late, fits, tally.too_close, tally.passed_over);
     println!("jumping runs  most stops {}; fewer than two stops for each release {}", tally.most_stops, tally.shared_stops);
+    println!("largest ready tick {}, finish {}; too many ticks to be ticked through {}", tally.last_ready, tally.last_finish, tally.not_ticked);
     println!("outside comparison: {} calls, {} differences", tally.calls.iter().sum::<u64>(), tally.differences);
     let stops = tally.most_stops == 2 * MAX_RELEASES as u64 && tally.shared_stops > 0;
-    let missing = (1..17).any(|n| tally.refusals[n] == 0) || tally.verdicts.contains(&0) || !stops;
+    let ticks = (tally.last_ready, tally.last_finish) == (1_000_001_023_000_000, 1_000_001_024_000_001);
+    let missing = (1..17).any(|n| tally.refusals[n] == 0) || tally.verdicts.contains(&0) || !stops || !ticks;
     if missing {
-        println!("some refusal, verdict or number of stops never came up");
+        println!("some refusal, verdict, number of stops or largest tick never came up");
     }
     std::process::exit(if tally.differences == 0 && !missing { 0 } else { 1 });
 }

@@ -1,6 +1,7 @@
 //! Seeded cases: sheets, kept jitters, lists of releases, files and texts, sound and damaged.
 
-use crate::reference::{encode, finish_ticks_by_job, text_of, Release, Sheet, Task, MAX_TICK, MAX_TIME};
+use crate::reference::{add_release, encode, finish_ticks_by_job, text_of, Release, Sheet, Task};
+use crate::reference::{MAX_SHORT_TICK, MAX_TICK, MAX_TIME};
 
 /// SplitMix64.
 pub struct Random {
@@ -22,6 +23,10 @@ impl Random {
     pub fn within(&mut self, low: u32, high: u32) -> u32 {
         low + (self.bits() % (high as u64 - low as u64 + 1)) as u32
     }
+    /// The same for a tick.
+    pub fn tick(&mut self, low: u64, high: u64) -> u64 {
+        low + self.bits() % (high - low + 1)
+    }
     /// True once in n times.
     pub fn once_in(&mut self, n: u32) -> bool {
         self.within(1, n) == 1
@@ -33,6 +38,15 @@ impl Random {
 
 /// Values at the limits of a period, jitter or deadline, and beyond.
 pub const BOUNDARY: [u32; 9] = [0, 1, 2, 3, 999_999, 1_000_000, 1_000_001, 1 << 31, u32::MAX];
+
+/// Ticks at the largest one of kind 2, at what four bytes hold, at the limit, and beyond.
+pub const EDGE_TICKS: [u64; 10] = [
+    MAX_SHORT_TICK - 1, MAX_SHORT_TICK, MAX_SHORT_TICK + 1, (1 << 32) - 1, 1 << 32, MAX_TICK - 1, MAX_TICK, MAX_TICK + 1, 1 << 63,
+    u64::MAX,
+];
+
+/// Ticks that a list may lie around: both sides of each are allowed, but for the last.
+pub const MIDDLE_TICKS: [u64; 6] = [MAX_SHORT_TICK, MAX_SHORT_TICK + 1, 1 << 32, 3 << 32, 1 << 49, MAX_TICK];
 
 fn small_task(r: &mut Random) -> Task {
     let p = r.within(1, 24);
@@ -49,9 +63,14 @@ fn small_task(r: &mut Random) -> Task {
 
 /// One to five tasks with small numbers.
 pub fn small_sheet(r: &mut Random) -> Sheet {
-    let n = r.within(1, 5);
-    let tasks: Vec<Task> = (0..n).map(|_| small_task(r)).collect();
-    Sheet::of(&tasks)
+    let n = r.within(1, 5) as usize;
+    sheet_for(r, n)
+}
+
+/// So many tasks with small numbers.
+pub fn sheet_for(r: &mut Random, tasks: usize) -> Sheet {
+    let all: Vec<Task> = (0..tasks).map(|_| small_task(r)).collect();
+    Sheet::of(&all)
 }
 
 /// Tasks whose costs add up to a chosen share of the processor; periods up to `top`.
@@ -121,11 +140,11 @@ pub fn kept_for(r: &mut Random, sheet: &Sheet) -> Vec<u32> {
 
 /// A list that passes the checks; ticks rise by up to `step`.
 pub fn list_for(r: &mut Random, sheet: &Sheet, n: usize, step: u32) -> Vec<Release> {
-    let mut tick = 0u32;
+    let mut tick = 0;
     (0..n)
         .map(|_| {
             if !r.once_in(3) {
-                tick = tick.saturating_add(r.within(0, step)).min(MAX_TICK);
+                tick = (tick + r.within(0, step) as u64).min(MAX_TICK);
             }
             let task = r.within(0, sheet.count as u32 - 1);
             let e = sheet.task(task as usize).e;
@@ -151,9 +170,24 @@ pub fn legal_list_for(r: &mut Random, sheet: &Sheet, n: usize) -> Vec<Release> {
         }
         now = tick;
         ticks[i].push(tick);
-        all.push(Release { task: i as u32, tick: tick as u32, cost: r.within(1, t.e) });
+        all.push(Release { task: i as u32, tick: tick as u64, cost: r.within(1, t.e) });
     }
     all
+}
+
+/// How much later a list has to be so that some release of it has this tick; the last one, where it is the limit.
+pub fn way_to(r: &mut Random, list: &[Release], tick: u64) -> u64 {
+    let n = list.len();
+    if n == 0 {
+        return 0;
+    }
+    let p = if tick == MAX_TICK { n - 1 } else { r.within(0, n as u32 - 1) as usize };
+    tick.saturating_sub(list[p].tick)
+}
+
+/// The same releases, each as much later.
+pub fn moved(list: &[Release], by: u64) -> Vec<Release> {
+    list.iter().map(|x| Release { tick: x.tick + by, ..*x }).collect()
 }
 
 /// One number of a list changed, so that most lists are refused with 7, 8 or 9.
@@ -164,7 +198,7 @@ pub fn damage_list(r: &mut Random, sheet: &Sheet, list: &mut [Release]) {
     let p = r.within(0, list.len() as u32 - 1) as usize;
     match r.within(0, 5) {
         0 => list[p].task = r.of(&[sheet.count as u32, sheet.count as u32 + 1, 32, 255, 256, u32::MAX]),
-        1 => list[p].tick = r.of(&[0, 1, MAX_TICK + 1, u32::MAX]),
+        1 => list[p].tick = if r.once_in(4) { r.of(&[0, 1]) } else { r.of(&EDGE_TICKS) },
         2 => list[p].tick = list[p].tick.wrapping_sub(1),
         3 => list[p].cost = 0,
         4 => list[p].cost = sheet.task(list[p].task as usize).e + 1,
@@ -172,18 +206,25 @@ pub fn damage_list(r: &mut Random, sheet: &Sheet, list: &mut [Release]) {
     }
 }
 
-/// A sound file.
+/// A sound file, with ticks from 0 on.
 pub fn file_for(r: &mut Random, tasks: usize, releases: usize) -> Vec<u8> {
-    let all: Vec<Task> = (0..tasks).map(|_| small_task(r)).collect();
-    let sheet = Sheet::of(&all);
+    let sheet = sheet_for(r, tasks);
     let list = list_for(r, &sheet, releases, 9);
-    encode(&all, &list)
+    encode(&sheet.tasks, &list)
+}
+
+/// A sound file with ticks around this one, or up to it where it is the limit.
+pub fn late_file_for(r: &mut Random, tasks: usize, releases: usize, tick: u64) -> Vec<u8> {
+    let sheet = sheet_for(r, tasks);
+    let list = list_for(r, &sheet, releases, 9);
+    let by = way_to(r, &list, tick);
+    encode(&sheet.tasks, &moved(&list, by))
 }
 
 /// Records in any order, with numbers at and beyond the limits.
 pub fn random_file(r: &mut Random) -> Vec<u8> {
     let mut file = Vec::new();
-    let mut tick = 0u32;
+    let mut tick = if r.once_in(2) { 0 } else { r.of(&MIDDLE_TICKS) - 20 };
     for _ in 0..r.within(0, 12) {
         match r.within(0, 9) {
             0..=3 => {
@@ -200,11 +241,12 @@ pub fn random_file(r: &mut Random) -> Vec<u8> {
                 }
             }
             4..=7 => {
-                tick = if r.once_in(12) { r.of(&[0, MAX_TICK, MAX_TICK + 1, u32::MAX]) } else { tick.saturating_add(r.within(0, 9)) };
-                file.push(2);
-                file.push(if r.once_in(12) { r.within(0, 255) as u8 } else { r.within(0, 2) as u8 });
-                file.extend_from_slice(&tick.to_le_bytes());
-                file.extend_from_slice(&r.within(0, 3).to_le_bytes());
+                let next = tick.saturating_add(r.tick(0, 9));
+                tick = if r.once_in(12) { r.of(&EDGE_TICKS) } else if r.once_in(24) { 0 } else { next };
+                let short = (tick <= MAX_SHORT_TICK) != r.once_in(12);
+                let task = if r.once_in(12) { r.within(0, 255) } else { r.within(0, 2) };
+                let cost = r.within(0, 3);
+                add_release(&mut file, if short { 2 } else { 4 }, Release { task, tick, cost });
             }
             8 => file.push(3),
             _ => file.push(r.within(0, 5) as u8),
@@ -231,7 +273,7 @@ fn bursts(r: &mut Random, n: usize) -> (Sheet, Vec<Release>) {
     let list = (0..n)
         .map(|_| {
             if r.once_in(n as u32 / 3 + 1) {
-                tick += r.within(1, gap);
+                tick += r.within(1, gap) as u64;
             }
             Release { task: r.within(0, tasks - 1), tick, cost: r.within(1, 8) }
         })
@@ -246,7 +288,7 @@ fn chains(r: &mut Random, n: usize) -> (Sheet, Vec<Release>) {
     let list = (0..n as u32)
         .map(|k| {
             if k > 0 {
-                tick += if k % tasks == 0 { r.within(1, gap) } else { step };
+                tick += if k % tasks == 0 { r.within(1, gap) } else { step } as u64;
             }
             Release { task: tasks - 1 - k % tasks, tick, cost: r.within(step + 1, 9) }
         })
@@ -260,7 +302,7 @@ fn equal_ticks(r: &mut Random, n: usize) -> (Sheet, Vec<Release>) {
     let (tasks, p, at_once) = (r.of(&[2, 7, 32]), r.of(&[4, 30, 250]), r.once_in(2));
     let list = (0..n as u32)
         .map(|k| {
-            let tick = if at_once { 0 } else { k / tasks * p };
+            let tick = if at_once { 0 } else { k / tasks * p } as u64;
             Release { task: k % tasks, tick, cost: r.within(1, p.min(5)) }
         })
         .collect();
@@ -270,11 +312,11 @@ fn equal_ticks(r: &mut Random, n: usize) -> (Sheet, Vec<Release>) {
 /// Each job alone, with idle ticks before it: with full jitters kept every start and every finish is a tick of its own.
 fn jobs_apart(r: &mut Random, n: usize) -> (Sheet, Vec<Release>) {
     let (tasks, p, gap) = (r.of(&[1, 4, 32]), r.of(&[3, 20]), r.of(&[1, 2, 50, 1_000]));
-    let mut tick = r.within(0, gap);
+    let mut tick = r.within(0, gap) as u64;
     let list = (0..n)
         .map(|_| {
             let one = Release { task: r.within(0, tasks - 1), tick, cost: r.within(1, p) };
-            tick += one.cost + r.within(1, gap);
+            tick += (one.cost + r.within(1, gap)) as u64;
             one
         })
         .collect();
@@ -284,11 +326,11 @@ fn jobs_apart(r: &mut Random, n: usize) -> (Sheet, Vec<Release>) {
 /// Jobs that start in the tick in which the one before is finished, some a tick sooner or later.
 fn jobs_touching(r: &mut Random, n: usize) -> (Sheet, Vec<Release>) {
     let (tasks, p) = (r.of(&[1, 2, 32]), r.of(&[2, 9, 300]));
-    let mut tick = r.within(0, 3);
+    let mut tick = r.within(0, 3) as u64;
     let list = (0..n)
         .map(|_| {
             let one = Release { task: r.within(0, tasks - 1), tick, cost: r.within(1, p) };
-            tick += one.cost + r.of(&[1, 1, 1, 1, 0, 2]) - 1;
+            tick += (one.cost + r.of(&[1, 1, 1, 1, 0, 2]) - 1) as u64;
             one
         })
         .collect();
@@ -301,7 +343,7 @@ fn jobs_meeting(r: &mut Random, n: usize) -> (Sheet, Vec<Release>) {
     let mut list = vec![Release { task: tasks - 1, tick: 0, cost: r.within(1, p) }];
     while list.len() < n.min(40) {
         let ready: Vec<i64> = list.iter().map(|x| x.tick as i64).collect();
-        let finish = r.of(&finish_ticks_by_job(&list, &ready)) as u32;
+        let finish = r.of(&finish_ticks_by_job(&list, &ready)) as u64;
         let before = list[list.len() - 1].tick;
         let tick = (finish + r.of(&[1, 1, 0, 2]) - 2).max(before);
         list.push(Release { task: r.within(0, tasks - 1), tick, cost: r.within(1, p) });
@@ -315,13 +357,14 @@ pub const FORMS: [fn(&mut Random, usize) -> (Sheet, Vec<Release>); 6] =
 
 /// A list with ticks that mostly rise by a little and now and then by much, up to the limit.
 pub fn gapped_list_for(r: &mut Random, sheet: &Sheet, n: usize) -> Vec<Release> {
-    let (little, much) = (r.of(&[0, 3, 200, 100_000]), r.of(&[1_000, 1_000_000, 100_000_000, MAX_TICK]));
+    let little = r.of(&[0, 3, 200, 100_000]);
+    let much = r.of(&[1_000, 1_000_000, 100_000_000, MAX_SHORT_TICK, 5_000_000_000, 1_000_000_000_000, MAX_TICK]);
     let every = r.of(&[1, 4, 40]);
-    let mut tick = 0u32;
+    let mut tick = 0;
     (0..n)
         .map(|_| {
-            let rise = if r.once_in(every) { r.within(0, much) } else { r.within(0, little) };
-            tick = tick.saturating_add(rise).min(MAX_TICK);
+            let rise = if r.once_in(every) { r.tick(0, much) } else { r.tick(0, little) };
+            tick = (tick + rise).min(MAX_TICK);
             let task = r.within(0, sheet.count as u32 - 1);
             let e = sheet.task(task as usize).e;
             Release { task, tick, cost: if r.once_in(2) { e } else { r.within(1, e) } }

@@ -1,6 +1,6 @@
 /*
- * The constants of include/nolkrada.h: document 01's limits, the sizes of files and texts, the most stops of a run, and each
- * refusal by its name, got from the archive.
+ * The constants of include/nolkrada.h: the limits of documents 01 and 02, the sizes of files and texts, the largest finish and the
+ * most stops of a run, and each refusal by its name, got from the archive.
  */
 #include <stdio.h>
 #include <string.h>
@@ -14,9 +14,15 @@ SAME(NOLKRADA_MAX_RELEASES, 1024);
 SAME(NOLKRADA_SHEET_NUMBERS, 4 * NOLKRADA_MAX_TASKS);
 /* A ready tick plus 1 and a finish of each release. */
 SAME(NOLKRADA_MAX_STOPS, 2 * NOLKRADA_MAX_RELEASES);
-SAME(NOLKRADA_MAX_FILE, 17 * NOLKRADA_MAX_TASKS + 10 * NOLKRADA_MAX_RELEASES + 1);
+/* Both have 64 bits; one of kind 2 has four bytes in a file. */
+SAME(NOLKRADA_MAX_TICK, 1000 * 1000 * NOLKRADA_MAX_SHORT_TICK);
+SAME(NOLKRADA_MAX_SHORT_TICK, 1000000000);
+SAME(sizeof NOLKRADA_MAX_SHORT_TICK, 8);
+/* Released at the last tick, and each job runs from the tick after. */
+SAME(NOLKRADA_MAX_FINISH, NOLKRADA_MAX_TICK + NOLKRADA_PICKUP + UINT64_C(1000000) * NOLKRADA_MAX_RELEASES);
+SAME(NOLKRADA_MAX_FILE, 17 * NOLKRADA_MAX_TASKS + 14 * NOLKRADA_MAX_RELEASES + 1);
 /* One more record after the last that is allowed, a task: the longest. */
-SAME(NOLKRADA_READ_BYTES, 17 * NOLKRADA_MAX_TASKS + 10 * NOLKRADA_MAX_RELEASES + 17);
+SAME(NOLKRADA_READ_BYTES, 17 * NOLKRADA_MAX_TASKS + 14 * NOLKRADA_MAX_RELEASES + 17);
 /* Four numbers of up to 7 digits, three commas and a line feed in a line. */
 SAME(NOLKRADA_MAX_TEXT, NOLKRADA_MAX_TASKS * (4 * 7 + 3 + 1));
 
@@ -28,8 +34,8 @@ static const char version[] =
 static const uint32_t printed[] = {6, 5, 2, 6, 8, 7, 2, 8, 10, 0, 2, 10};
 static const uint32_t unfit[] = {2, 1, 1, 2, 2, 0, 2, 2};
 
-static uint32_t sheet[NOLKRADA_SHEET_NUMBERS], task[NOLKRADA_MAX_RELEASES], tick[NOLKRADA_MAX_RELEASES], cost[NOLKRADA_MAX_RELEASES];
-static uint64_t answer[3];
+static uint32_t sheet[NOLKRADA_SHEET_NUMBERS], task[NOLKRADA_MAX_RELEASES], cost[NOLKRADA_MAX_RELEASES];
+static uint64_t tick[NOLKRADA_MAX_RELEASES], answer[3];
 static int wrong;
 
 static void expect(const char *name, uint64_t code, uint32_t number, uint32_t place) {
@@ -49,25 +55,51 @@ static uint64_t load_bytes(const char *text, size_t length) {
 
 static uint64_t load(const char *text) { return load_bytes(text, strlen(text)); }
 
+static uint64_t write_bytes(uint8_t *file, size_t length) {
+    return nolkrada_write(sheet, NOLKRADA_SHEET_NUMBERS, NOLKRADA_MAX_TASKS, NOLKRADA_MAX_RELEASES, task, NOLKRADA_MAX_RELEASES, tick,
+                          NOLKRADA_MAX_RELEASES, cost, NOLKRADA_MAX_RELEASES, file, length, answer, 1);
+}
+
 /* The largest file, then one more byte, release or task. */
 static void sizes(void) {
     static uint8_t file[NOLKRADA_READ_BYTES];
     const size_t end = NOLKRADA_MAX_FILE - 1;
     for (uint32_t i = 0; i < NOLKRADA_SHEET_NUMBERS; i++) sheet[i] = 1;
-    for (uint32_t n = 0; n < NOLKRADA_MAX_RELEASES; n++) task[n] = 0, tick[n] = n, cost[n] = 1;
-    expect("write of the largest file",
-           nolkrada_write(sheet, NOLKRADA_SHEET_NUMBERS, NOLKRADA_MAX_TASKS, NOLKRADA_MAX_RELEASES, task, NOLKRADA_MAX_RELEASES, tick,
-                          NOLKRADA_MAX_RELEASES, cost, NOLKRADA_MAX_RELEASES, file, NOLKRADA_MAX_FILE, answer, 1),
-           0, 0);
+    for (uint32_t n = 0; n < NOLKRADA_MAX_RELEASES; n++) task[n] = 0, tick[n] = NOLKRADA_MAX_SHORT_TICK + 1 + n, cost[n] = 1;
+    expect("write of the largest file, a byte too few", write_bytes(file, end), NOLKRADA_REFUSED_SHORT_ARRAY, NOLKRADA_MAX_FILE);
+    expect("write of the largest file", write_bytes(file, NOLKRADA_MAX_FILE), 0, 0);
     if (answer[0] != NOLKRADA_MAX_FILE) wrong = 1;
     expect("read of the largest file", read_bytes(file, NOLKRADA_MAX_FILE), 0, 0);
+    if (tick[NOLKRADA_MAX_RELEASES - 1] != NOLKRADA_MAX_SHORT_TICK + NOLKRADA_MAX_RELEASES) wrong = 1;
     /* The byte that a buffer of the largest file misses. */
     expect("one more byte", read_bytes(file, NOLKRADA_MAX_FILE + 1), NOLKRADA_REFUSED_BYTE_AFTER_END, NOLKRADA_MAX_FILE);
-    memcpy(file + end, file + end - 10, 10);
-    expect("one more release", read_bytes(file, end + 10), NOLKRADA_REFUSED_TOO_MANY_RELEASES, end);
+    memcpy(file + end, file + end - 14, 14);
+    expect("one more release", read_bytes(file, end + 14), NOLKRADA_REFUSED_TOO_MANY_RELEASES, end);
     memcpy(file + end, file, 17);
     expect("one more task", read_bytes(file, NOLKRADA_READ_BYTES), NOLKRADA_REFUSED_TASK_AFTER_RELEASE, end);
     expect("one more task, cut", read_bytes(file, NOLKRADA_READ_BYTES - 1), NOLKRADA_REFUSED_CUT, end);
+}
+
+/* The largest file with short ticks, the largest of them at the end: four bytes less for each release. Then one long tick at the
+ * end, and in the first release a tick that is one too large for kind 2, and one too small for kind 4. */
+static void short_sizes(void) {
+    static const uint8_t large[] = {2, 0, 0x01, 0xca, 0x9a, 0x3b, 1, 0, 0, 0};
+    static const uint8_t small[] = {4, 0, 0x00, 0xca, 0x9a, 0x3b, 0, 0, 0, 0, 1, 0, 0, 0};
+    static uint8_t file[NOLKRADA_MAX_FILE];
+    const size_t all = NOLKRADA_MAX_FILE - 4 * NOLKRADA_MAX_RELEASES, first = 17 * NOLKRADA_MAX_TASKS;
+    for (uint32_t n = 0; n < NOLKRADA_MAX_RELEASES; n++) tick[n] = NOLKRADA_MAX_SHORT_TICK + 1 - NOLKRADA_MAX_RELEASES + n;
+    expect("write of short ticks", write_bytes(file, all), 0, 0);
+    if (answer[0] != all || file[first] != 2) wrong = 1;
+    expect("read of short ticks", read_bytes(file, all), 0, 0);
+    if (tick[0] != NOLKRADA_MAX_SHORT_TICK + 1 - NOLKRADA_MAX_RELEASES) wrong = 1;
+    tick[NOLKRADA_MAX_RELEASES - 1] = NOLKRADA_MAX_SHORT_TICK + 1;
+    expect("write of one long tick", write_bytes(file, all), NOLKRADA_REFUSED_SHORT_ARRAY, (uint32_t)all + 4);
+    expect("write of one long tick", write_bytes(file, all + 4), 0, 0);
+    if (file[first] != 2 || file[all - 11] != 4) wrong = 1;
+    memcpy(file + first, large, sizeof large);
+    expect("tick of kind 2", read_bytes(file, all + 4), NOLKRADA_REFUSED_RELEASE_TICK, (uint32_t)first);
+    memcpy(file + first, small, sizeof small);
+    expect("tick of kind 4", read_bytes(file, all + 4), NOLKRADA_REFUSED_RELEASE_TICK, (uint32_t)first);
 }
 
 /* The longest text, then one more byte, one more line, and a last line that is cut. */
@@ -88,8 +120,9 @@ static void text_sizes(void) {
 }
 
 static void refusals(void) {
-    static const uint8_t kind[] = {4}, cut[] = {1, 6}, alone[] = {3};
-    static const uint32_t zero[3] = {0, 0, 0}, one[3] = {1, 1, 1}, five[3] = {5, 5, 5}, falling[2] = {1, 0};
+    static const uint8_t kind[] = {9}, cut[] = {1, 6}, alone[] = {3};
+    static const uint32_t zero[3] = {0, 0, 0}, one[3] = {1, 1, 1}, five[3] = {5, 5, 5};
+    static const uint64_t at_0[3] = {0, 0, 0}, falling[2] = {1, 0}, over[1] = {NOLKRADA_MAX_TICK + 1};
     const size_t n = sizeof printed / sizeof printed[0];
     uint32_t kept[3], worst[3];
     expect("kind", read_bytes(kind, 1), NOLKRADA_REFUSED_KIND, 0);
@@ -98,13 +131,15 @@ static void refusals(void) {
     expect("too many tasks", nolkrada_choice(printed, n, 33, kept, 3, worst, 3), NOLKRADA_REFUSED_TOO_MANY_TASKS, 32);
     expect("no task", nolkrada_choice(printed, n, 0, kept, 3, worst, 3), NOLKRADA_REFUSED_NO_TASK, 0);
     expect("range", nolkrada_choice(printed, n, 4, kept, 3, worst, 3), NOLKRADA_REFUSED_RANGE, 3);
-    expect("task of a release", nolkrada_trace_check(printed, n, 3, 1, five, 3, zero, 3, one, 3, answer, 3),
+    expect("task of a release", nolkrada_trace_check(printed, n, 3, 1, five, 3, at_0, 3, one, 3, answer, 3),
            NOLKRADA_REFUSED_RELEASE_TASK, 0);
     expect("tick of a release", nolkrada_trace_check(printed, n, 3, 2, one, 3, falling, 2, one, 3, answer, 3),
            NOLKRADA_REFUSED_RELEASE_TICK, 1);
-    expect("cost of a release", nolkrada_trace_check(printed, n, 3, 1, one, 3, zero, 3, five, 3, answer, 3),
+    expect("tick over the limit", nolkrada_trace_check(printed, n, 3, 1, one, 3, over, 1, one, 3, answer, 3),
+           NOLKRADA_REFUSED_RELEASE_TICK, 0);
+    expect("cost of a release", nolkrada_trace_check(printed, n, 3, 1, one, 3, at_0, 3, five, 3, answer, 3),
            NOLKRADA_REFUSED_RELEASE_COST, 0);
-    expect("too many releases", nolkrada_trace_check(printed, n, 3, 1025, one, 3, zero, 3, one, 3, answer, 3),
+    expect("too many releases", nolkrada_trace_check(printed, n, 3, 1025, one, 3, at_0, 3, one, 3, answer, 3),
            NOLKRADA_REFUSED_TOO_MANY_RELEASES, 1024);
     expect("kept", nolkrada_verdict(printed, n, 3, 0, five, 3, answer, 3), NOLKRADA_REFUSED_KEPT, 2);
     expect("short array", nolkrada_choice(printed, n, 3, kept, 2, worst, 3), NOLKRADA_REFUSED_SHORT_ARRAY, 3);
@@ -131,31 +166,39 @@ static void verdicts(void) {
 
 /* A job that is alone may run NOLKRADA_PICKUP ticks after its ready tick, and is finished when it has run for its cost. */
 static void runs(void) {
-    static const uint32_t zero[1], three[1] = {3}, two[1] = {2}, kept[3] = {2, 4, 0};
-    uint32_t ready[1], finish[1];
+    static const uint32_t zero[1], two[1] = {2}, kept[3] = {2, 4, 0};
+    static const uint64_t three[1] = {3};
+    uint64_t ready[1], finish[1];
     expect("run", nolkrada_run(printed, 12, 3, kept, 3, 1, zero, 1, three, 1, two, 1, ready, 1, finish, 1), 0, 0);
     if (ready[0] != 3 || finish[0] != 3 + NOLKRADA_PICKUP + 2) wrong = 1;
 }
 
-/* The run that jumps: of one job the same and two stops; of none no stop; of two, at tick 0 and at the last tick allowed, four; and
- * as many as the header says of the longest list with idle ticks between the jobs. Refused without a slot for the stops. */
+/* The run that jumps: of one job the same and two stops; of none no stop; of two, at tick 0 and at the last tick allowed, four; as
+ * many as the header says of the longest list with idle ticks between the jobs; and the largest finish, of 1,024 jobs of the largest
+ * cost at the last tick allowed. Refused without a slot for the stops. */
 static void jumps(void) {
-    static const uint32_t zero[2], three[1] = {3}, two[2] = {2, 2}, far[2] = {0, 1000000000}, kept[3] = {2, 4, 0};
-    static const uint32_t alone[4] = {1, 0, 1, 1};
-    static uint32_t ready[NOLKRADA_MAX_RELEASES], finish[NOLKRADA_MAX_RELEASES];
+    static const uint32_t zero[2], two[2] = {2, 2}, kept[3] = {2, 4, 0}, alone[4] = {1, 0, 1, 1};
+    static const uint32_t longest[4] = {1000000, 0, 1000000, 1000000};
+    static const uint64_t three[1] = {3}, far[2] = {0, NOLKRADA_MAX_TICK};
+    static uint64_t ready[NOLKRADA_MAX_RELEASES], finish[NOLKRADA_MAX_RELEASES];
     const size_t all = NOLKRADA_MAX_RELEASES;
     expect("jump", nolkrada_jump(printed, 12, 3, kept, 3, 1, zero, 1, three, 1, two, 1, ready, 1, finish, 1, answer, 1), 0, 0);
     if (ready[0] != 3 || finish[0] != 3 + NOLKRADA_PICKUP + 2 || answer[0] != 2) wrong = 1;
     expect("jump of no release",
-           nolkrada_jump(printed, 12, 3, kept, 3, 0, zero, 0, zero, 0, two, 0, ready, 0, finish, 0, answer, 1), 0, 0);
+           nolkrada_jump(printed, 12, 3, kept, 3, 0, zero, 0, three, 0, two, 0, ready, 0, finish, 0, answer, 1), 0, 0);
     if (answer[0] != 0) wrong = 1;
     expect("jump to the last tick allowed",
            nolkrada_jump(printed, 12, 3, kept, 3, 2, zero, 2, far, 2, two, 2, ready, 2, finish, 2, answer, 1), 0, 0);
-    if (ready[0] != 0 || finish[0] != 3 || ready[1] != 1000000000 || finish[1] != 1000000003 || answer[0] != 4) wrong = 1;
+    if (ready[0] != 0 || finish[0] != 3 || ready[1] != NOLKRADA_MAX_TICK || finish[1] != NOLKRADA_MAX_TICK + 3) wrong = 1;
+    if (answer[0] != 4) wrong = 1;
     for (uint32_t n = 0; n < all; n++) task[n] = 0, tick[n] = 2 * n, cost[n] = 1;
     expect("most stops",
            nolkrada_jump(alone, 4, 1, zero, 1, all, task, all, tick, all, cost, all, ready, all, finish, all, answer, 1), 0, 0);
     if (answer[0] != NOLKRADA_MAX_STOPS) wrong = 1;
+    for (uint32_t n = 0; n < all; n++) tick[n] = NOLKRADA_MAX_TICK, cost[n] = 1000000;
+    expect("largest finish",
+           nolkrada_jump(longest, 4, 1, zero, 1, all, task, all, tick, all, cost, all, ready, all, finish, all, answer, 1), 0, 0);
+    if (finish[all - 1] != NOLKRADA_MAX_FINISH || finish[0] != NOLKRADA_MAX_TICK + 1000001) wrong = 1;
     expect("no slot for the stops",
            nolkrada_jump(printed, 12, 3, kept, 3, 1, zero, 1, three, 1, two, 1, ready, 1, finish, 1, answer, 0),
            NOLKRADA_REFUSED_SHORT_ARRAY, 1);
@@ -164,11 +207,13 @@ static void jumps(void) {
 int main(void) {
     if (strcmp(version, NOLKRADA_VERSION) != 0) wrong = 1;
     sizes();
+    short_sizes();
     text_sizes();
     refusals();
     verdicts();
     runs();
     jumps();
-    puts(wrong ? "header: something is not as it says" : "header: limits, sizes, refusals, verdicts, pickup and stops as it says");
+    puts(wrong ? "header: something is not as it says"
+               : "header: limits, sizes, refusals, verdicts, pickup, largest finish and stops as it says");
     return wrong;
 }

@@ -15,30 +15,30 @@ extern "C" {
     ) -> u64;
     fn nolkrada_trace_check(
         sheet: *const u32, sheet_length: usize, count: u32, n: u32, task: *const u32, task_length: usize,
-        tick: *const u32, tick_length: usize, cost: *const u32, cost_length: usize, answer: *mut u64, answer_length: usize,
+        tick: *const u64, tick_length: usize, cost: *const u32, cost_length: usize, answer: *mut u64, answer_length: usize,
     ) -> u64;
     fn nolkrada_ready(
         sheet: *const u32, sheet_length: usize, count: u32, kept: *const u32, kept_length: usize, n: u32,
-        task: *const u32, task_length: usize, tick: *const u32, tick_length: usize, cost: *const u32, cost_length: usize,
-        ready: *mut u32, ready_length: usize,
+        task: *const u32, task_length: usize, tick: *const u64, tick_length: usize, cost: *const u32, cost_length: usize,
+        ready: *mut u64, ready_length: usize,
     ) -> u64;
     fn nolkrada_run(
         sheet: *const u32, sheet_length: usize, count: u32, kept: *const u32, kept_length: usize, n: u32,
-        task: *const u32, task_length: usize, tick: *const u32, tick_length: usize, cost: *const u32, cost_length: usize,
-        ready: *mut u32, ready_length: usize, finish: *mut u32, finish_length: usize,
+        task: *const u32, task_length: usize, tick: *const u64, tick_length: usize, cost: *const u32, cost_length: usize,
+        ready: *mut u64, ready_length: usize, finish: *mut u64, finish_length: usize,
     ) -> u64;
     fn nolkrada_jump(
         sheet: *const u32, sheet_length: usize, count: u32, kept: *const u32, kept_length: usize, n: u32,
-        task: *const u32, task_length: usize, tick: *const u32, tick_length: usize, cost: *const u32, cost_length: usize,
-        ready: *mut u32, ready_length: usize, finish: *mut u32, finish_length: usize, answer: *mut u64, answer_length: usize,
+        task: *const u32, task_length: usize, tick: *const u64, tick_length: usize, cost: *const u32, cost_length: usize,
+        ready: *mut u64, ready_length: usize, finish: *mut u64, finish_length: usize, answer: *mut u64, answer_length: usize,
     ) -> u64;
     fn nolkrada_read(
         file: *const u8, file_length: usize, sheet: *mut u32, sheet_length: usize, task: *mut u32, task_length: usize,
-        tick: *mut u32, tick_length: usize, cost: *mut u32, cost_length: usize, answer: *mut u64, answer_length: usize,
+        tick: *mut u64, tick_length: usize, cost: *mut u32, cost_length: usize, answer: *mut u64, answer_length: usize,
     ) -> u64;
     fn nolkrada_write(
         sheet: *const u32, sheet_length: usize, count: u32, n: u32, task: *const u32, task_length: usize,
-        tick: *const u32, tick_length: usize, cost: *const u32, cost_length: usize, out: *mut u8, out_length: usize,
+        tick: *const u64, tick_length: usize, cost: *const u32, cost_length: usize, out: *mut u8, out_length: usize,
         answer: *mut u64, answer_length: usize,
     ) -> u64;
     fn nolkrada_load(
@@ -50,7 +50,7 @@ extern "C" {
 #[derive(Clone, Copy)]
 pub struct Columns<'a> {
     pub task: &'a [u32],
-    pub tick: &'a [u32],
+    pub tick: &'a [u64],
     pub cost: &'a [u32],
 }
 
@@ -87,7 +87,7 @@ pub fn trace_check(sheet: &[u32], count: u32, n: u32, list: Columns, answer: &mu
     }
 }
 
-pub fn ready(sheet: &[u32], count: u32, kept: &[u32], n: u32, list: Columns, ready: &mut [u32]) -> u64 {
+pub fn ready(sheet: &[u32], count: u32, kept: &[u32], n: u32, list: Columns, ready: &mut [u64]) -> u64 {
     unsafe {
         nolkrada_ready(
             sheet.as_ptr(), sheet.len(), count, kept.as_ptr(), kept.len(), n, list.task.as_ptr(), list.task.len(),
@@ -96,7 +96,7 @@ pub fn ready(sheet: &[u32], count: u32, kept: &[u32], n: u32, list: Columns, rea
     }
 }
 
-pub fn run(sheet: &[u32], count: u32, kept: &[u32], n: u32, list: Columns, ready: &mut [u32], finish: &mut [u32]) -> u64 {
+pub fn run(sheet: &[u32], count: u32, kept: &[u32], n: u32, list: Columns, ready: &mut [u64], finish: &mut [u64]) -> u64 {
     unsafe {
         nolkrada_run(
             sheet.as_ptr(), sheet.len(), count, kept.as_ptr(), kept.len(), n, list.task.as_ptr(), list.task.len(),
@@ -107,7 +107,7 @@ pub fn run(sheet: &[u32], count: u32, kept: &[u32], n: u32, list: Columns, ready
 }
 
 pub fn jump(
-    sheet: &[u32], count: u32, kept: &[u32], n: u32, list: Columns, ready: &mut [u32], finish: &mut [u32], answer: &mut [u64],
+    sheet: &[u32], count: u32, kept: &[u32], n: u32, list: Columns, ready: &mut [u64], finish: &mut [u64], answer: &mut [u64],
 ) -> u64 {
     unsafe {
         nolkrada_jump(
@@ -119,7 +119,7 @@ pub fn jump(
 }
 
 pub fn read(
-    file: &[u8], sheet: &mut [u32], task: &mut [u32], tick: &mut [u32], cost: &mut [u32], answer: &mut [u64],
+    file: &[u8], sheet: &mut [u32], task: &mut [u32], tick: &mut [u64], cost: &mut [u32], answer: &mut [u64],
 ) -> u64 {
     unsafe {
         nolkrada_read(

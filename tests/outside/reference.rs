@@ -1,14 +1,17 @@
-//! An implementation of document 01 with document 02's text sheets, pickup and stops of a run, for comparison,
-//! written from their words alone. It shares no code and no method with the library: ready ticks and the trace check look at every
-//! pair of jobs, W(q) is found by walking over the ticks at which the demand steps, the choice tries every K in rising order, the
-//! ticking run is compared with one from event to event and the run that jumps with one that allots free ticks job by job, and a
-//! text is split into whole lines and fields.
+//! An implementation of document 01 with document 02's text sheets, pickup, long ticks and stops of a run,
+//! for comparison, written from their words alone. It shares no code and no method with the library: ready ticks and the trace check
+//! look at every pair of jobs, W(q) is found by walking over the ticks at which the demand steps, the choice tries every K in rising
+//! order, the ticking run is compared with one from event to event and the run that jumps with one that allots free ticks job by job,
+//! a file is taken apart in one pass, and a text is split into whole lines and fields.
 
 use std::collections::BTreeSet;
+use std::ops::RangeInclusive;
 
 pub const MAX_TASKS: usize = 32;
 pub const MAX_RELEASES: usize = 1024;
-pub const MAX_TICK: u32 = 1_000_000_000;
+pub const MAX_TICK: u64 = 1_000_000_000_000_000;
+/// The largest tick of a release of kind 2, whose tick has four bytes. A later one is of kind 4, with eight.
+pub const MAX_SHORT_TICK: u64 = 1_000_000_000;
 pub const MAX_TIME: u32 = 1_000_000;
 pub const HORIZON: i64 = 10_000_000;
 /// Pickup: the kernel looks at the ready list at tick ends only, so a job may run from the tick after its ready tick, and R(q)
@@ -42,7 +45,7 @@ impl Sheet {
 #[derive(Clone, Copy, Debug, PartialEq, Eq)]
 pub struct Release {
     pub task: u32,
-    pub tick: u32,
+    pub tick: u64,
     pub cost: u32,
 }
 
@@ -359,12 +362,12 @@ fn check_kept(sheet: &Sheet, kept: &[u32]) -> Result<(), Refusal> {
     }
 }
 
-/// The number of what is wrong with a release, the lowest first.
-fn release_fault(sheet: &Sheet, before: Option<u32>, r: Release) -> Option<u32> {
+/// The number of what is wrong with a release, the lowest first. Its tick has to be one of those given.
+fn release_fault(sheet: &Sheet, before: Option<u64>, ticks: RangeInclusive<u64>, r: Release) -> Option<u32> {
     if r.task as usize >= sheet.count {
         return Some(7);
     }
-    if before.map_or(false, |b| r.tick < b) || r.tick > MAX_TICK {
+    if before.map_or(false, |b| r.tick < b) || !ticks.contains(&r.tick) {
         return Some(8);
     }
     if r.cost == 0 || r.cost > sheet.task(r.task as usize).e {
@@ -376,7 +379,7 @@ fn release_fault(sheet: &Sheet, before: Option<u32>, r: Release) -> Option<u32> 
 fn check_releases(sheet: &Sheet, list: &[Release]) -> Result<(), Refusal> {
     for p in 0..list.len() {
         let before = if p == 0 { None } else { Some(list[p - 1].tick) };
-        if let Some(number) = release_fault(sheet, before, list[p]) {
+        if let Some(number) = release_fault(sheet, before, 0..=MAX_TICK, list[p]) {
             return refuse(number, p);
         }
     }
@@ -386,7 +389,7 @@ fn check_releases(sheet: &Sheet, list: &[Release]) -> Result<(), Refusal> {
 /// Three columns of releases.
 pub struct Columns<'a> {
     pub task: &'a [u32],
-    pub tick: &'a [u32],
+    pub tick: &'a [u64],
     pub cost: &'a [u32],
 }
 
@@ -460,7 +463,7 @@ pub fn trace_check(sheet: &Sheet, n: usize, columns: &Columns) -> Result<Option<
     Ok(first_too_close(sheet, &list))
 }
 
-pub fn ready(sheet: &Sheet, kept: &[u32], n: usize, columns: &Columns, ready_slots: usize) -> Result<Vec<u32>, Refusal> {
+pub fn ready(sheet: &Sheet, kept: &[u32], n: usize, columns: &Columns, ready_slots: usize) -> Result<Vec<u64>, Refusal> {
     check_sheet(sheet)?;
     check_count(n)?;
     check_slots(kept.len(), sheet.count)?;
@@ -473,7 +476,7 @@ pub fn ready(sheet: &Sheet, kept: &[u32], n: usize, columns: &Columns, ready_slo
 }
 
 /// The checks of a run. The lengths of the two lent columns decide 13. The list, where nothing is refused.
-fn check_run(
+pub fn check_run(
     sheet: &Sheet,
     kept: &[u32],
     n: usize,
@@ -493,8 +496,8 @@ fn check_run(
     Ok(list)
 }
 
-fn column(ticks: &[i64]) -> Vec<u32> {
-    ticks.iter().map(|&t| t as u32).collect()
+fn column(ticks: &[i64]) -> Vec<u64> {
+    ticks.iter().map(|&t| t as u64).collect()
 }
 
 pub fn run(
@@ -504,7 +507,7 @@ pub fn run(
     columns: &Columns,
     ready_slots: usize,
     finish_slots: usize,
-) -> Result<(Vec<u32>, Vec<u32>), Refusal> {
+) -> Result<(Vec<u64>, Vec<u64>), Refusal> {
     let list = check_run(sheet, kept, n, columns, ready_slots, finish_slots)?;
     let ready = ready_ticks(sheet, kept, &list);
     let finish = finish_ticks(&list, &ready);
@@ -514,8 +517,8 @@ pub fn run(
 /// What the run that jumps answers: the columns of the run, and its stops.
 #[derive(Clone, Debug, PartialEq, Eq)]
 pub struct Jumped {
-    pub ready: Vec<u32>,
-    pub finish: Vec<u32>,
+    pub ready: Vec<u64>,
+    pub finish: Vec<u64>,
     pub stops: u64,
 }
 
@@ -533,6 +536,16 @@ pub fn jump(
     Ok(Jumped { ready: column(&ready), finish: column(&finish), stops: stops(&ready, &finish) })
 }
 
+// ---- Files -------------------------------------------------------------------------------------------------------------
+
+/// Adds a release as a record of kind 2, with the low four bytes of its tick, or of kind 4, with all eight.
+pub fn add_release(out: &mut Vec<u8>, kind: u8, r: Release) {
+    let tick = r.tick.to_le_bytes();
+    out.extend_from_slice(&[kind, r.task as u8]);
+    out.extend_from_slice(if kind == 2 { &tick[..4] } else { &tick });
+    out.extend_from_slice(&r.cost.to_le_bytes());
+}
+
 /// The bytes of a sheet and a list.
 pub fn encode(tasks: &[Task], list: &[Release]) -> Vec<u8> {
     let mut out = Vec::new();
@@ -542,50 +555,74 @@ pub fn encode(tasks: &[Task], list: &[Release]) -> Vec<u8> {
             out.extend_from_slice(&x.to_le_bytes());
         }
     }
-    for r in list {
-        out.push(2);
-        out.push(r.task as u8);
-        out.extend_from_slice(&r.tick.to_le_bytes());
-        out.extend_from_slice(&r.cost.to_le_bytes());
+    for &r in list {
+        add_release(&mut out, if r.tick <= MAX_SHORT_TICK { 2 } else { 4 }, r);
     }
     out.push(3);
     out
+}
+
+/// The bytes that a write needs: those of each task, of each release by its tick, whatever it is, and of the end.
+pub fn bytes_needed(tasks: usize, ticks: &[u64]) -> usize {
+    let size = |&tick: &u64| if tick <= MAX_SHORT_TICK { 10 } else { 14 };
+    17 * tasks + ticks.iter().map(size).sum::<usize>() + 1
 }
 
 pub fn write(sheet: &Sheet, n: usize, columns: &Columns, out_slots: usize) -> Result<Vec<u8>, Refusal> {
     check_sheet(sheet)?;
     check_count(n)?;
     columns.check_slots(n)?;
-    check_slots(out_slots, 17 * sheet.count + 10 * n + 1)?;
+    check_slots(out_slots, bytes_needed(sheet.count, &columns.tick[..n]))?;
     let list = columns.list(n);
     check_releases(sheet, &list)?;
     Ok(encode(&sheet.tasks[..sheet.count], &list))
 }
 
-pub fn number_at(file: &[u8], at: usize) -> u32 {
-    u32::from_le_bytes([file[at], file[at + 1], file[at + 2], file[at + 3]])
+/// A whole record. Beside a release stand the ticks that its kind is for.
+enum Record {
+    Task(Task),
+    Release(Release, RangeInclusive<u64>),
+    End,
 }
 
-/// The task whose four numbers stand at an offset.
-pub fn task_at(file: &[u8], at: usize) -> Task {
-    Task { p: number_at(file, at), j: number_at(file, at + 4), e: number_at(file, at + 8), d: number_at(file, at + 12) }
+/// The number of some bytes, the low one first.
+fn number_of(bytes: &[u8]) -> u64 {
+    bytes.iter().rev().fold(0, |n, &b| 256 * n + b as u64)
 }
 
-/// Kind and size of the record at an offset: refused with 1 for another kind, with 2 where the file ends in it or before it.
-pub fn record_at(file: &[u8], at: usize) -> Result<(u8, usize), Refusal> {
-    let Some(&kind) = file.get(at) else {
+fn task_of(body: &[u8]) -> Task {
+    let number = |i: usize| number_of(&body[4 * i..4 * i + 4]) as u32;
+    Task { p: number(0), j: number(1), e: number(2), d: number(3) }
+}
+
+/// A release: one byte of task number, four of cost at the end, and a tick in all between.
+fn release_of(body: &[u8]) -> Release {
+    let (tick, cost) = body[1..].split_at(body.len() - 5);
+    Release { task: body[0] as u32, tick: number_of(tick), cost: number_of(cost) as u32 }
+}
+
+/// The record at an offset and its size: refused with 1 for another kind, with 2 where the file ends in it or before it.
+fn record_at(file: &[u8], at: usize) -> Result<(Record, usize), Refusal> {
+    let Some((&kind, rest)) = file[at..].split_first() else {
         return refuse(2, at);
     };
-    let size = match kind {
-        1 => 17,
-        2 => 10,
-        3 => 1,
+    let length = match kind {
+        1 => 16,
+        2 => 9,
+        3 => 0,
+        4 => 13,
         _ => return refuse(1, at),
     };
-    if file.len() - at < size {
+    let Some(body) = rest.get(..length) else {
         return refuse(2, at);
-    }
-    Ok((kind, size))
+    };
+    let record = match kind {
+        1 => Record::Task(task_of(body)),
+        2 => Record::Release(release_of(body), 0..=MAX_SHORT_TICK),
+        3 => Record::End,
+        _ => Record::Release(release_of(body), MAX_SHORT_TICK + 1..=MAX_TICK),
+    };
+    Ok((record, 1 + length))
 }
 
 /// What a file holds. The earliest record decides, and within a record the lowest number.
@@ -594,10 +631,9 @@ pub fn decode(file: &[u8]) -> Result<(Sheet, Vec<Release>), Refusal> {
     let mut list: Vec<Release> = Vec::new();
     let mut at = 0;
     loop {
-        let (kind, size) = record_at(file, at)?;
-        match kind {
-            1 => {
-                let t = task_at(file, at + 1);
+        let (record, size) = record_at(file, at)?;
+        match record {
+            Record::Task(t) => {
                 if !list.is_empty() {
                     return refuse(3, at);
                 }
@@ -610,16 +646,11 @@ pub fn decode(file: &[u8]) -> Result<(Sheet, Vec<Release>), Refusal> {
                 sheet.tasks.push(t);
                 sheet.count += 1;
             }
-            2 => {
+            Record::Release(r, ticks) => {
                 if sheet.count == 0 {
                     return refuse(5, at);
                 }
-                let r = Release {
-                    task: file[at + 1] as u32,
-                    tick: number_at(file, at + 2),
-                    cost: number_at(file, at + 6),
-                };
-                if let Some(number) = release_fault(&sheet, list.last().map(|r| r.tick), r) {
+                if let Some(number) = release_fault(&sheet, list.last().map(|r| r.tick), ticks, r) {
                     return refuse(number, at);
                 }
                 if list.len() == MAX_RELEASES {
@@ -627,7 +658,7 @@ pub fn decode(file: &[u8]) -> Result<(Sheet, Vec<Release>), Refusal> {
                 }
                 list.push(r);
             }
-            _ => {
+            Record::End => {
                 if sheet.count == 0 {
                     return refuse(5, at);
                 }

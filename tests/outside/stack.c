@@ -15,7 +15,8 @@
 #define SLOTS NOLKRADA_MAX_RELEASES
 #define NUMBERS NOLKRADA_SHEET_NUMBERS
 
-static uint32_t sheet[NUMBERS], kept[SLOTS], worst[SLOTS], task[SLOTS], tick[SLOTS], cost[SLOTS], ready[SLOTS], finish[SLOTS];
+static uint32_t sheet[NUMBERS], kept[SLOTS], worst[SLOTS], task[SLOTS], cost[SLOTS];
+static uint64_t tick[SLOTS], ready[SLOTS], finish[SLOTS];
 static uint8_t file[NOLKRADA_READ_BYTES];
 static const char line[] = "1000000,1000000,1000000,1000000\n";
 static char text[NOLKRADA_MAX_TEXT + sizeof line - 1];
@@ -23,6 +24,8 @@ static uint64_t answer[3], code;
 /* The parts of a call that a case changes: how many tasks, releases, slots, bytes, characters, numbers of a sheet that is
  * read or loaded and words there are, and which task is asked for. */
 static uint32_t tasks, releases, which;
+/* The tick of the first release. */
+static uint64_t first;
 static size_t slots, bytes, characters, numbers_lent, words;
 
 static void nothing(void) { code = 0; }
@@ -55,6 +58,14 @@ static void load_text(void) {
     code = nolkrada_load((const uint8_t *)text, characters, sheet, numbers_lent, answer, words);
 }
 
+/* The releases, 100 ticks apart, and their file. */
+static void list(void) {
+    for (uint32_t n = 0; n < NOLKRADA_MAX_RELEASES; n++) tick[n] = first + 100 * n;
+    bytes = NOLKRADA_MAX_FILE;
+    write_file();
+    bytes = answer[0];
+}
+
 /* 32 tasks, 1,024 releases and their file; the longest text, and one line more behind it. */
 static void full(void) {
     for (uint32_t i = 0; i < NOLKRADA_MAX_TASKS; i++) {
@@ -64,19 +75,17 @@ static void full(void) {
     }
     for (uint32_t n = 0; n < NOLKRADA_MAX_RELEASES; n++) {
         task[n] = n % 32;
-        tick[n] = 100 * n;
         cost[n] = 60;
     }
     tasks = NOLKRADA_MAX_TASKS;
     releases = NOLKRADA_MAX_RELEASES;
     which = NOLKRADA_MAX_TASKS - 1;
     slots = SLOTS;
-    bytes = NOLKRADA_MAX_FILE;
     for (size_t at = 0; at < sizeof text; at += sizeof line - 1) memcpy(text + at, line, sizeof line - 1);
     characters = NOLKRADA_MAX_TEXT;
     numbers_lent = NUMBERS;
     words = 3;
-    write_file();
+    list();
 }
 
 /* Full size, then each with one thing that a call refuses or answers in another way. */
@@ -88,8 +97,15 @@ static void last_range(void) { sheet[NUMBERS - 1] = 0; }
 static void last_cost(void) { cost[NOLKRADA_MAX_RELEASES - 1] = 0; }
 static void last_kept(void) { kept[NOLKRADA_MAX_TASKS - 1] = 1501; }
 static void tight(void) { sheet[NUMBERS - 1] = 60; }
-static void crowded(void) { memset(tick, 0, sizeof tick); }
-static void cut(void) { bytes = NOLKRADA_MAX_FILE - 1; }
+static void crowded(void) {
+    for (uint32_t n = 0; n < SLOTS; n++) tick[n] = first;
+}
+static void short_ticks(void) {
+    first = 0;
+    list();
+}
+static void last_tick(void) { tick[SLOTS - 1] = NOLKRADA_MAX_TICK + 1; }
+static void cut(void) { bytes--; }
 static void one_more_byte(void) { file[bytes++] = 0; }
 static void no_text(void) { characters = 0; }
 static void text_cut(void) { characters = NOLKRADA_MAX_TEXT - 1; }
@@ -100,8 +116,8 @@ static void line_range(void) { text[NOLKRADA_MAX_TEXT - 2] = '1'; }
 static void few_numbers(void) { numbers_lent = NUMBERS - 1; }
 static void no_words(void) { words = 0; }
 static void (*const cases[])(void) = {nothing, few_numbers, no_words, no_slots, many_tasks, many_releases, no_such_task, last_range, last_cost,
-                                      last_kept, tight, crowded, cut, one_more_byte, no_text, text_cut, one_more_line, line_form,
-                                      line_zero, line_range};
+                                      last_kept, last_tick, tight, crowded, short_ticks, cut, one_more_byte, no_text, text_cut,
+                                      one_more_line, line_form, line_zero, line_range};
 
 static unsigned char room[1 << 16];
 static ucontext_t outside, inside;
@@ -119,12 +135,14 @@ static size_t changed(void (*call)(void), unsigned char pattern) {
     return sizeof room - same;
 }
 
-/* The most that a call takes in all cases, over what an empty call takes here. Two patterns: data may be like one of them. */
+/* The most that a call takes in all cases, over what an empty call takes here. Two patterns: data may be like one of them. Ticks go
+ * up to the limit, but for the run, which would go through all of them. */
 static size_t most(void (*call)(void)) {
     const size_t empty = changed(nothing, 0xa5);
     size_t top = 0;
     for (size_t c = 0; c < sizeof cases / sizeof cases[0]; c++)
         for (int pattern = 0x5a; pattern <= 0xa5; pattern += 0xa5 - 0x5a) {
+            first = call == run ? 0 : NOLKRADA_MAX_TICK - 100 * (SLOTS - 1);
             full();
             cases[c]();
             const size_t n = changed(call, (unsigned char)pattern);

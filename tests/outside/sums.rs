@@ -1,5 +1,5 @@
 //! The reference implementation on the twelve sums and the two printed examples of document 01, 7 to 12 and the examples as document
-//! 02's R-2 has them, on R-2's own figures, and on stops of R-5 that were counted by hand.
+//! 02's R-2 has them, on R-2's own figures, on stops of R-5 that were counted by hand, and on records of R-3 written by hand.
 
 use crate::reference::*;
 
@@ -24,10 +24,49 @@ pub fn folder_sheet() -> Sheet {
 
 /// The releases printed in document 01.
 pub fn printed_releases() -> Vec<Release> {
-    [(0, 0, 2), (2, 0, 2), (0, 1, 2)]
-        .iter()
-        .map(|&(task, tick, cost)| Release { task, tick, cost })
-        .collect()
+    list_of(&[(0, 0, 2), (2, 0, 2), (0, 1, 2)])
+}
+
+fn list_of(releases: &[(u32, u64, u32)]) -> Vec<Release> {
+    releases.iter().map(|&(task, tick, cost)| Release { task, tick, cost }).collect()
+}
+
+/// The bytes that two hexadecimal digits each stand for; blanks do not count.
+fn bytes_of(text: &str) -> Vec<u8> {
+    let digits: Vec<u32> = text.chars().filter_map(|c| c.to_digit(16)).collect();
+    digits.chunks(2).map(|pair| (16 * pair[0] + pair[1]) as u8).collect()
+}
+
+/// A task (6,5,2,6), these records of its releases and the end: read to the list, and the list written as these bytes.
+fn both_ways(records: &str, list: &[(u32, u64, u32)]) {
+    let file = bytes_of(&format!("01 06000000 05000000 02000000 06000000 {records} 03"));
+    let sheet = Sheet::of(&[task(6, 5, 2, 6)]);
+    assert_eq!(decode(&file), Ok((sheet.clone(), list_of(list))));
+    assert_eq!(encode(&sheet.tasks, &list_of(list)), file);
+}
+
+/// The same, but the record at this offset is refused with 8.
+fn refused_tick(records: &str, place: u64) {
+    let file = bytes_of(&format!("01 06000000 05000000 02000000 06000000 {records} 03"));
+    assert_eq!(decode(&file), Err(Refusal { number: 8, place }));
+}
+
+/// Records around the largest tick of kind 2 and around the limit.
+fn records() -> usize {
+    both_ways("02 00 01000000 02000000", &[(0, 1, 2)]);
+    both_ways("02 00 00ca9a3b 02000000", &[(0, 1_000_000_000, 2)]);
+    both_ways("04 00 01ca9a3b00000000 02000000", &[(0, 1_000_000_001, 2)]);
+    both_ways("04 00 0000000001000000 01000000", &[(0, 4_294_967_296, 1)]);
+    both_ways("04 00 0080c6a47e8d0300 02000000", &[(0, 1_000_000_000_000_000, 2)]);
+    both_ways(
+        "02 00 00ca9a3b 01000000 04 00 01ca9a3b00000000 02000000 04 00 01ca9a3b00000000 01000000",
+        &[(0, 1_000_000_000, 1), (0, 1_000_000_001, 2), (0, 1_000_000_001, 1)],
+    );
+    refused_tick("02 00 01ca9a3b 02000000", 17);
+    refused_tick("04 00 00ca9a3b00000000 02000000", 17);
+    refused_tick("04 00 0180c6a47e8d0300 02000000", 17);
+    refused_tick("04 00 01ca9a3b00000000 02000000 02 00 00ca9a3b 02000000", 31);
+    10
 }
 
 fn verdict_for(sheet: &Sheet, kept: &[u32], i: usize) -> Verdict {
@@ -43,15 +82,15 @@ fn windows(sheet: &Sheet, kept: &[u32], i: usize, n: i64) -> Vec<i64> {
     (0..n).map(|q| w.get(q).ok().unwrap().unwrap()).collect()
 }
 
-fn ready_of(p: u32, keep: u32, ticks: &[u32]) -> Vec<i64> {
+fn ready_of(p: u32, keep: u32, ticks: &[u64]) -> Vec<i64> {
     let sheet = Sheet::of(&[task(p, keep, 1, p)]);
     let list: Vec<Release> = ticks.iter().map(|&tick| Release { task: 0, tick, cost: 1 }).collect();
     ready_ticks(&sheet, &[keep], &list)
 }
 
 /// Stops of a list with these ready ticks.
-fn stops_of(list: &[(u32, u32, u32)]) -> u64 {
-    let list: Vec<Release> = list.iter().map(|&(task, tick, cost)| Release { task, tick, cost }).collect();
+fn stops_of(list: &[(u32, u64, u32)]) -> u64 {
+    let list = list_of(list);
     let ready: Vec<i64> = list.iter().map(|x| x.tick as i64).collect();
     stops(&ready, &finish_ticks_by_job(&list, &ready))
 }
@@ -162,6 +201,6 @@ pub fn check() -> usize {
     assert_eq!(stops_of(&[(1, 0, 1), (0, 0, 1)]), 3);
     // two releases alone, at tick 0 and at the limit
     assert_eq!(stops_of(&[(0, 0, 1), (0, MAX_TICK, 1)]), 4);
-    // twelve sums, two examples, these with D 11, three figures more, and seven of stops
-    12 + 2 + 2 + 3 + 7
+    // twelve sums, two examples, these with D 11, three figures more, seven of stops, and the records
+    12 + 2 + 2 + 3 + 7 + records()
 }

@@ -286,7 +286,7 @@ fn inputs(tree: &Tree) {
     let folder = "examples/folder.sheet";
     for (option, end) in [(None, "choose"), (Some("--replay"), "replay")] {
         let words = |last: Option<&'static str>| -> Vec<&str> { option.into_iter().chain(last).collect() };
-        for name in ["folder", "printed", "press", "overload"] {
+        for name in ["folder", "printed", "press", "overload", "months"] {
             let (file, text) = (format!("examples/{name}.sheet"), stored(&format!("{name}.{end}")));
             let code = if text.starts_with("refused ") { 1 } else { 0 };
             let absolute = fs::canonicalize(&file).unwrap();
@@ -322,7 +322,7 @@ fn inputs(tree: &Tree) {
 
 /// A text, named, on standard input or in pieces.
 fn texts(tree: &Tree) {
-    for name in ["folder", "printed", "press", "overload"] {
+    for name in ["folder", "printed", "press", "overload", "months"] {
         let (file, text) = (format!("examples/{name}.csv"), stored(&format!("{name}.choose")));
         let code = if text.starts_with("refused ") { 1 } else { 0 };
         let absolute = fs::canonicalize(&file).unwrap();

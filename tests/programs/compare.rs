@@ -8,8 +8,10 @@ mod generator;
 mod reference;
 
 use generator::{damaged_texts, digits_at_limits, other_line_ends, texts_at_line_limit, texts_with_digits};
-use generator::{file_for, legal_list_for, loaded_sheet, random_file, random_text, small_sheet, Random};
-use reference::{choice, decode, encode, finish_ticks, load, ready_ticks, text_of, Budget, Refusal, Release, Sheet, Task};
+use generator::{file_for, late_file_for, legal_list_for, loaded_sheet, moved, random_file, random_text, small_sheet, way_to};
+use generator::{Random, EDGE_TICKS, MIDDLE_TICKS};
+use reference::{add_release, choice, decode, encode, finish_ticks, load, ready_ticks, text_of, Budget, Refusal, Release, Sheet, Task};
+use reference::{MAX_SHORT_TICK, MAX_TICK};
 use std::io::{Read, Write};
 use std::path::Path;
 use std::process::{Child, Command, Stdio};
@@ -145,15 +147,32 @@ fn sheet(tasks: &[[u32; 4]]) -> Vec<Task> {
     tasks.iter().map(|t| Task { p: t[0], j: t[1], e: t[2], d: t[3] }).collect()
 }
 
+fn rel(task: u32, tick: u64, cost: u32) -> Release {
+    Release { task, tick, cost }
+}
+
+/// 32 tasks and 1,024 releases.
+fn full() -> (Vec<Task>, Vec<Release>) {
+    let tasks = (0..32).map(|i| Task { p: 100 + i, j: 3 * i, e: 1, d: 1000 }).collect();
+    (tasks, (0..1024).map(|n| rel(n % 32, n as u64 / 3, 1)).collect())
+}
+
+/// The same with the last release at the last tick allowed: the largest file, without its end.
+fn longest() -> Vec<u8> {
+    let (tasks, list) = full();
+    let mut file = encode(&tasks, &moved(&list, MAX_TICK - list[1023].tick));
+    assert_eq!((file.len(), file.pop()), (14_881, Some(3)));
+    file
+}
+
 /// One file for each refusal of a file, and the files at the limits.
 fn worked() -> Vec<(&'static str, Vec<u8>)> {
     let tasks = sheet(&[[6, 5, 2, 6], [8, 7, 2, 8], [10, 0, 2, 11]]);
-    let rel = |task, tick, cost| Release { task, tick, cost };
     let whole = encode(&tasks, &[rel(0, 0, 2), rel(2, 0, 2), rel(0, 1, 2)]);
     let many = encode(&vec![tasks[0]; 33], &[]);
     let mut cases = vec![
         ("empty", vec![]),
-        ("unknown kind", vec![4]),
+        ("unknown kind", vec![9]),
         ("cut", whole[..20].to_vec()),
         ("over 32 tasks", many),
         ("end alone", vec![3]),
@@ -172,9 +191,41 @@ fn worked() -> Vec<(&'static str, Vec<u8>)> {
     let mut more = whole.clone();
     more.push(0);
     cases.push(("byte after end", more));
-    let full: Vec<Task> = (0..32).map(|i| Task { p: 100 + i, j: 3 * i, e: 1, d: 1000 }).collect();
-    let list: Vec<Release> = (0..1024).map(|n| rel(n % 32, n / 3, 1)).collect();
-    cases.push(("full", encode(&full, &list)));
+    let (tasks, list) = full();
+    cases.push(("full", encode(&tasks, &list)));
+    cases.push(("full, both kinds of releases", encode(&tasks, &moved(&list, MAX_SHORT_TICK - list[511].tick))));
+    cases
+}
+
+/// Long ticks: files at the limits and past them, and each tick at an edge in both kinds.
+fn worked_long() -> Vec<(String, Vec<u8>)> {
+    let tasks = sheet(&[[6, 5, 2, 6], [8, 7, 2, 8], [10, 0, 2, 11]]);
+    let record = |kind: u8, r: Release| {
+        let mut bytes = Vec::new();
+        add_release(&mut bytes, kind, r);
+        bytes
+    };
+    let one = &encode(&tasks[..1], &[])[..17];
+    let tails: [(&str, &[u8]); 8] = [
+        ("the end", &[3]),
+        ("no end", &[]),
+        ("two ends", &[3, 3]),
+        ("one more long release", &record(4, rel(0, MAX_TICK, 1))),
+        ("a short release", &record(2, rel(0, 5, 1))),
+        ("a task", one),
+        ("a task that is cut", &one[..16]),
+        ("a task and 5,000 bytes", &[one, &[1; 5_000]].concat()),
+    ];
+    let mut cases: Vec<(String, Vec<u8>)> =
+        tails.iter().map(|(name, tail)| (format!("1,024 long releases, {name}"), [&longest(), *tail].concat())).collect();
+    let ticks = [0, MAX_SHORT_TICK, MAX_SHORT_TICK + 1, 1 << 32, MAX_TICK];
+    cases.push(("ticks of up to 16 digits".to_string(), encode(&tasks, &ticks.map(|tick| rel(0, tick, 2)))));
+    for tick in EDGE_TICKS {
+        for kind in [2, 4] {
+            let records = [&encode(&tasks, &[])[..51], &record(2, rel(2, 0, 1)), &record(kind, rel(0, tick, 2)), &[3]];
+            cases.push((format!("tick {tick} in kind {kind}"), records.concat()));
+        }
+    }
     cases
 }
 
@@ -211,10 +262,11 @@ fn spawned(program: &str) -> Child {
     Command::new(program).stdin(Stdio::piped()).stdout(Stdio::piped()).spawn().expect(program)
 }
 
-/// An input without end: the same bytes again and again.
-fn endless(program: &str, part: &[u8], expected: &str) {
+/// An input without end: some bytes, then the same bytes again and again.
+fn endless(program: &str, first: &[u8], part: &[u8], expected: &str) {
     let mut child = spawned(program);
     let mut stdin = child.stdin.take().unwrap();
+    let _ = stdin.write_all(first);
     while stdin.write_all(part).is_ok() {}
     let mut out = String::new();
     child.stdout.take().unwrap().read_to_string(&mut out).unwrap();
@@ -232,14 +284,19 @@ fn unread(program: &str, input: &[u8]) {
 
 fn odd_ends() {
     let task = encode(&sheet(&[[6, 5, 2, 6]]), &[]);
+    let mut last = Vec::new();
+    add_release(&mut last, 4, rel(0, MAX_TICK, 1));
     for program in [CHOOSE, REPLAY] {
-        endless(program, &task[..17], "refused 4 at 544\n");
+        endless(program, b"", &task[..17], "refused 4 at 544\n");
+        endless(program, &longest(), &task[..17], "refused 3 at 14880\n");
+        endless(program, &longest(), &last, "refused 10 at 14880\n");
+        endless(program, &longest(), b"\x03", "refused 11 at 14881\n");
         unread(program, &task);
     }
-    endless(CHOOSE_CSV, b"6,5,2,6\n", "refused 4 at 32\n");
-    endless(CHOOSE_CSV, b"6,5,7,6\n", "refused 6 at 0\n");
-    endless(CHOOSE_CSV, b"6,5,2,6,", "refused 16 at 0\n");
-    endless(CHOOSE_CSV, b"\n", "refused 16 at 0\n");
+    endless(CHOOSE_CSV, b"", b"6,5,2,6\n", "refused 4 at 32\n");
+    endless(CHOOSE_CSV, b"", b"6,5,7,6\n", "refused 6 at 0\n");
+    endless(CHOOSE_CSV, b"", b"6,5,2,6,", "refused 16 at 0\n");
+    endless(CHOOSE_CSV, b"", b"\n", "refused 16 at 0\n");
     unread(CHOOSE_CSV, b"6,5,2,6\n");
 }
 
@@ -249,18 +306,24 @@ fn main() {
         n += same(name, &file, 4096);
         n += same(name, &file, 7);
     }
+    for (name, file) in worked_long() {
+        n += same(&name, &file, 4096);
+    }
     odd_ends();
     let mut r = Random::seeded(20_260_101);
     for _ in 0..300 {
         let s = if r.once_in(3) { loaded_sheet(&mut r, 6, 200) } else { small_sheet(&mut r) };
         let list = legal_list_for(&mut r, &s, 20);
-        n += same("a small file", &encode(&s.tasks, &list), 4096);
+        let tick = r.of(&MIDDLE_TICKS);
+        let by = if r.once_in(2) { way_to(&mut r, &list, tick) } else { 0 };
+        n += same("a small file", &encode(&s.tasks, &moved(&list, by)), 4096);
     }
     for _ in 0..200 {
         let file = random_file(&mut r);
         n += same("a random file", &file, 4096);
-        let mut cut = file_for(&mut r, 3, 5);
-        cut.truncate(r.within(0, 102) as usize);
+        let tick = r.of(&MIDDLE_TICKS);
+        let mut cut = if r.once_in(2) { file_for(&mut r, 3, 5) } else { late_file_for(&mut r, 3, 5, tick) };
+        cut.truncate(r.within(0, cut.len() as u32) as usize);
         n += same("a cut file", &cut, 4096);
     }
     n += texts(&mut r);

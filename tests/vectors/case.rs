@@ -1,9 +1,28 @@
 //! A stored case: blocks of standard input and the line that answers them.
 
-use crate::reference::{Columns, Refusal, Release, Sheet, Task};
+use crate::reference::{Columns, Refusal, Release, Sheet, Task, MAX_TICK};
 
-/// What a lent slot holds before a call; the programs print it as a stroke.
-pub const HELD: u32 = u32::MAX;
+/// A number of a column: 32 bits, or 64 for release, ready and finish ticks.
+pub trait Number: Copy + PartialEq + std::fmt::Display {
+    /// What a lent slot holds before a call; the programs print it as a stroke.
+    const HELD: Self;
+    /// Its bytes in a block, the low one first.
+    fn bytes(self) -> Vec<u8>;
+}
+
+impl Number for u32 {
+    const HELD: u32 = u32::MAX;
+    fn bytes(self) -> Vec<u8> {
+        self.to_le_bytes().to_vec()
+    }
+}
+
+impl Number for u64 {
+    const HELD: u64 = u64::MAX;
+    fn bytes(self) -> Vec<u8> {
+        self.to_le_bytes().to_vec()
+    }
+}
 
 /// The cases of one program.
 pub struct Vectors {
@@ -38,9 +57,9 @@ impl Vectors {
     }
 }
 
-/// A block of numbers.
-pub fn numbers(all: &[u32]) -> Vec<u8> {
-    all.iter().flat_map(|n| n.to_le_bytes()).collect()
+/// A block of numbers, each with the bytes of its width.
+pub fn numbers<N: Number>(all: &[N]) -> Vec<u8> {
+    all.iter().flat_map(|n| n.bytes()).collect()
 }
 
 /// The first block of numbers: which call, up to three numbers that it is given, the sheet's count and its entries.
@@ -54,21 +73,18 @@ pub fn head(call: u32, given: &[u32], sheet: &Sheet) -> Vec<u8> {
 }
 
 /// `n` slots that hold the stroke.
-pub fn held(n: usize) -> Vec<u32> {
-    vec![HELD; n]
+pub fn held<N: Number>(n: usize) -> Vec<N> {
+    vec![N::HELD; n]
 }
 
 /// A column as it stands after a call: the answer, then what the slots held.
-pub fn written(answer: &[u32], slots: &[u32]) -> Vec<u32> {
+pub fn written<N: Number>(answer: &[N], slots: &[N]) -> Vec<N> {
     answer.iter().chain(&slots[answer.len()..]).copied().collect()
 }
 
 /// A column as it is printed.
-pub fn column(slots: &[u32]) -> String {
-    slots.iter().fold(String::from(","), |text, &v| match v {
-        HELD => text + " -",
-        _ => text + &format!(" {v}"),
-    })
+pub fn column<N: Number>(slots: &[N]) -> String {
+    slots.iter().fold(String::from(","), |text, &v| if v == N::HELD { text + " -" } else { text + &format!(" {v}") })
 }
 
 pub fn refused(r: Refusal) -> String {
@@ -83,9 +99,19 @@ pub fn sheet(tasks: &[(u32, u32, u32, u32)]) -> Sheet {
     Sheet::of(&tasks.iter().map(|&(p, j, e, d)| task(p, j, e, d)).collect::<Vec<_>>())
 }
 
-pub fn list(releases: &[(u32, u32, u32)]) -> Vec<Release> {
+pub fn list(releases: &[(u32, u64, u32)]) -> Vec<Release> {
     releases.iter().map(|&(task, tick, cost)| Release { task, tick, cost }).collect()
 }
+
+/// The same releases, each as much later.
+pub fn moved(list: &[Release], by: u64) -> Vec<Release> {
+    list.iter().map(|r| Release { tick: r.tick + by, ..*r }).collect()
+}
+
+/// Ticks at the largest one of kind 2, at what four bytes hold, at the limit, and beyond.
+pub const EDGE_TICKS: [u64; 10] = [
+    999_999_999, 1_000_000_000, 1_000_000_001, 4_294_967_295, 4_294_967_296, MAX_TICK - 1, MAX_TICK, MAX_TICK + 1, 1 << 63, u64::MAX,
+];
 
 /// The sheet and the releases printed in document 01. No K fits task 2 of the sheet.
 pub fn printed_sheet() -> Sheet {
@@ -124,10 +150,10 @@ pub struct ListCall {
     pub kept: Vec<u32>,
     pub count: usize,
     pub task: Vec<u32>,
-    pub tick: Vec<u32>,
+    pub tick: Vec<u64>,
     pub cost: Vec<u32>,
-    pub ready: Vec<u32>,
-    pub finish: Vec<u32>,
+    pub ready: Vec<u64>,
+    pub finish: Vec<u64>,
 }
 
 impl ListCall {

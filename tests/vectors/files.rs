@@ -1,8 +1,8 @@
 //! The cases of `vectors_files`: read, write, and a file read and written again.
 
 use crate::case::*;
-use crate::lists::{full_list, full_sheet, refusals, sound};
-use crate::reference::{encode, read, write, Release, Sheet, Task};
+use crate::lists::{full_list, full_sheet, late_list, middle_list, refusals, sound};
+use crate::reference::{add_release, bytes_needed, encode, read, write, Release, Sheet, Task, MAX_TICK};
 
 /// What a byte of a lent buffer holds before a call.
 const BYTE: u8 = 0xee;
@@ -15,12 +15,14 @@ pub fn no_sheet() -> Sheet {
 #[derive(Clone)]
 struct ReadCall {
     file: Vec<u8>,
-    slots: [Vec<u32>; 3],
+    task: Vec<u32>,
+    tick: Vec<u64>,
+    cost: Vec<u32>,
 }
 
 /// Columns with `n` slots each.
 fn reading(file: &[u8], n: usize) -> ReadCall {
-    ReadCall { file: file.to_vec(), slots: [held(n), held(n), held(n)] }
+    ReadCall { file: file.to_vec(), task: held(n), tick: held(n), cost: held(n) }
 }
 
 pub fn entries(s: &Sheet) -> String {
@@ -28,27 +30,20 @@ pub fn entries(s: &Sheet) -> String {
 }
 
 fn read_answer(c: &ReadCall) -> String {
-    match read(&c.file, [c.slots[0].len(), c.slots[1].len(), c.slots[2].len()]) {
-        Err(r) => {
-            let columns: String = c.slots.iter().map(|s| column(s)).collect();
-            refused(r) + " sheet 0" + &columns
-        }
+    match read(&c.file, [c.task.len(), c.tick.len(), c.cost.len()]) {
+        Err(r) => refused(r) + " sheet 0" + &column(&c.task) + &column(&c.tick) + &column(&c.cost),
         Ok((sheet, list)) => {
-            let columns: [Vec<u32>; 3] = [
-                list.iter().map(|r| r.task).collect(),
-                list.iter().map(|r| r.tick).collect(),
-                list.iter().map(|r| r.cost).collect(),
-            ];
-            let text: String = (0..3).map(|i| column(&written(&columns[i], &c.slots[i]))).collect();
-            format!(" read {}{}{}", list.len(), entries(&sheet), text)
+            let task: Vec<u32> = list.iter().map(|r| r.task).collect();
+            let tick: Vec<u64> = list.iter().map(|r| r.tick).collect();
+            let cost: Vec<u32> = list.iter().map(|r| r.cost).collect();
+            let columns = [column(&written(&task, &c.task)), column(&written(&tick, &c.tick)), column(&written(&cost, &c.cost))];
+            format!(" read {}{}{}", list.len(), entries(&sheet), columns.concat())
         }
     }
 }
 
 fn read_blocks(c: &ReadCall) -> Vec<Vec<u8>> {
-    let mut all = vec![head(0, &[], &no_sheet()), c.file.clone()];
-    all.extend(c.slots.iter().map(|s| numbers(s)));
-    all
+    vec![head(0, &[], &no_sheet()), c.file.clone(), numbers(&c.task), numbers(&c.tick), numbers(&c.cost)]
 }
 
 fn bytes(all: &[u8]) -> String {
@@ -74,7 +69,7 @@ fn write_blocks(c: &ListCall, slots: usize) -> Vec<Vec<u8>> {
 }
 
 fn needed(c: &ListCall) -> usize {
-    17 * c.sheet.count + 10 * c.count + 1
+    bytes_needed(c.sheet.count, &c.tick[..c.count])
 }
 
 /// A file that is read and written again: the same bytes.
@@ -112,10 +107,20 @@ fn of_task(t: Task) -> Vec<u8> {
     all
 }
 
-fn of_release(task: u32, tick: u32, cost: u32) -> Vec<u8> {
-    let mut all = encode(&[], &[Release { task, tick, cost }]);
-    all.pop();
+fn of_release(kind: u8, task: u32, tick: u64, cost: u32) -> Vec<u8> {
+    let mut all = Vec::new();
+    add_release(&mut all, kind, Release { task, tick, cost });
     all
+}
+
+/// A release of kind 2, with the low four bytes of its tick.
+fn short(task: u32, tick: u64, cost: u32) -> Vec<u8> {
+    of_release(2, task, tick, cost)
+}
+
+/// A release of kind 4.
+fn long(task: u32, tick: u64, cost: u32) -> Vec<u8> {
+    of_release(4, task, tick, cost)
 }
 
 /// Records one after the other.
@@ -161,14 +166,20 @@ fn worked(v: &mut Vectors) {
 
 /// A file cut before each of its bytes.
 fn cut(v: &mut Vectors) {
-    let whole = file(&[
-        of_task(task(6, 5, 2, 6)), of_task(task(8, 7, 2, 8)), of_release(0, 3, 2), of_release(1, 4, 1), end(),
-    ]);
+    let tasks = || file(&[of_task(task(6, 5, 2, 6)), of_task(task(8, 7, 2, 8))]);
+    let whole = file(&[tasks(), short(0, 3, 2), short(1, 4, 1), end()]);
     for n in 0..=whole.len() {
         add_read(v, &format!("the first {n} bytes"), &reading(&whole[..n], 3));
     }
     for n in 1..10 {
-        add_read(v, &format!("a release before any task, {n} bytes"), &reading(&of_release(9, u32::MAX, 0)[..n], 1));
+        add_read(v, &format!("a release before any task, {n} bytes"), &reading(&short(9, u32::MAX as u64, 0)[..n], 1));
+    }
+    let both = file(&[tasks(), short(0, 1_000_000_000, 2), long(1, MAX_TICK, 1), end()]);
+    for n in tasks().len()..=both.len() {
+        add_read(v, &format!("both kinds, the first {n} bytes"), &reading(&both[..n], 3));
+    }
+    for n in 1..14 {
+        add_read(v, &format!("a long release before any task, {n} bytes"), &reading(&long(9, u64::MAX, 0)[..n], 1));
     }
 }
 
@@ -177,10 +188,11 @@ fn faults() -> Vec<(&'static str, Vec<u8>)> {
     let t = || of_task(task(6, 5, 2, 6));
     let low = || of_task(task(8, 7, 2, 8));
     let bad = || of_task(task(0, 7, 2, 8));
-    let r = |task, tick, cost| of_release(task, tick, cost);
+    let r = |task, tick, cost| short(task, tick, cost);
     vec![
         ("kind 0", file(&[t(), vec![0], end()])),
-        ("kind 4", file(&[t(), low(), vec![4], end()])),
+        ("kind 4 with one byte after it", file(&[t(), low(), vec![4], end()])),
+        ("kind 5", file(&[t(), low(), vec![5], end()])),
         ("kind 255 first", vec![255]),
         ("kind 0 after a release", file(&[t(), r(0, 1, 1), vec![0]])),
         ("kind 9 with nothing after it", file(&[t(), r(0, 1, 1), vec![9]])),
@@ -190,7 +202,7 @@ fn faults() -> Vec<(&'static str, Vec<u8>)> {
         ("task out of range after a release", file(&[t(), r(0, 0, 1), bad(), end()])),
         ("task after a release, cut", file(&[t(), r(0, 0, 1), low()[..16].to_vec()])),
         ("release before any task", file(&[r(0, 0, 1), t(), end()])),
-        ("release of no task before any task", file(&[r(200, u32::MAX, 0), end()])),
+        ("release of no task before any task", file(&[r(200, u32::MAX as u64, 0), end()])),
         ("end before any task, then a file", file(&[end(), t(), end()])),
         ("P 0", file(&[t(), bad(), end()])),
         ("P 1000001", file(&[of_task(task(1_000_001, 0, 1, 1)), end()])),
@@ -208,7 +220,7 @@ fn faults() -> Vec<(&'static str, Vec<u8>)> {
         ("tick falls", file(&[t(), r(0, 9, 1), r(0, 8, 1), end()])),
         ("equal ticks", file(&[t(), r(0, 9, 1), r(0, 9, 2), end()])),
         ("tick 1000000001", file(&[t(), r(0, 1_000_000_001, 1), end()])),
-        ("tick 4294967295", file(&[t(), r(0, 3, 1), r(0, u32::MAX, 1), end()])),
+        ("tick 4294967295", file(&[t(), r(0, 3, 1), r(0, u32::MAX as u64, 1), end()])),
         ("cost 0", file(&[t(), r(0, 9, 0), end()])),
         ("cost over E", file(&[t(), r(0, 9, 3), end()])),
         ("cost 4294967295", file(&[t(), r(0, 9, 1), r(0, 9, u32::MAX), end()])),
@@ -224,6 +236,68 @@ fn faults() -> Vec<(&'static str, Vec<u8>)> {
     ]
 }
 
+/// Files with releases of kind 4, alone and beside others of kind 2.
+fn long_releases() -> Vec<(&'static str, Vec<u8>)> {
+    let t = || of_task(task(6, 5, 2, 6));
+    let bad = || of_task(task(0, 7, 2, 8));
+    let largest = || of_task(task(1_000_000, 1_000_000, 1_000_000, 1_000_000));
+    const LAST: u64 = 1_000_000_000;
+    vec![
+        ("kind 2, then 4", file(&[t(), short(0, LAST, 1), long(0, LAST + 1, 2), end()])),
+        ("kinds 2, 2, 4, 4", file(&[t(), short(0, 0, 1), short(0, LAST, 2), long(0, LAST + 1, 2), long(0, LAST + 1, 1), end()])),
+        ("kind 4, then 2", file(&[t(), long(0, LAST + 1, 1), short(0, LAST, 1), end()])),
+        ("kind 4, then 2 with a later tick", file(&[t(), long(0, LAST + 1, 1), short(0, LAST + 2, 1), end()])),
+        ("kinds 2, 4, 2", file(&[t(), short(0, LAST, 1), long(0, LAST + 1, 2), short(0, LAST, 1), end()])),
+        ("kinds 2, 4, 1", file(&[t(), short(0, LAST, 1), long(0, LAST + 1, 2), t(), end()])),
+        ("kinds 4, 1", file(&[t(), long(0, LAST + 1, 2), t(), end()])),
+        ("task out of range after kind 4", file(&[t(), long(0, LAST + 1, 2), bad(), end()])),
+        ("task after kind 4, cut", file(&[t(), long(0, LAST + 1, 2), t()[..16].to_vec()])),
+        ("kind 4 before any task", file(&[long(0, LAST + 1, 1), t(), end()])),
+        ("kind 4 of no task before any task", file(&[long(200, u64::MAX, 0), end()])),
+        ("kind 4 with the largest numbers", file(&[largest(), long(0, MAX_TICK, 1_000_000), end()])),
+        ("kind 4 of task 1 of one", file(&[t(), long(1, MAX_TICK, 1), end()])),
+        ("kind 4 of task 255", file(&[t(), t(), long(1, MAX_TICK, 1), long(255, MAX_TICK, 1), end()])),
+        ("kind 4, cost 0", file(&[t(), long(0, MAX_TICK, 0), end()])),
+        ("kind 4, cost over E", file(&[t(), long(0, MAX_TICK, 3), end()])),
+        ("kind 4, cost 4294967295", file(&[t(), long(0, MAX_TICK, u32::MAX), end()])),
+        ("kind 4, tick falls", file(&[t(), long(0, 1 << 33, 1), long(0, (1 << 33) - 1, 1), end()])),
+        ("kind 4, tick falls, its low half rises", file(&[t(), long(0, 1 << 33, 1), long(0, (1 << 32) + 5, 1), end()])),
+        ("kind 4, tick rises, its low half falls", file(&[t(), long(0, (1 << 33) - 1, 1), long(0, 1 << 33, 1), end()])),
+        ("kind 4, equal ticks", file(&[t(), long(0, MAX_TICK, 1), long(0, MAX_TICK, 2), end()])),
+        ("kind 4, 7 before 8 and 9", file(&[t(), long(0, MAX_TICK, 1), long(1, MAX_TICK - 1, 0), end()])),
+        ("kind 4, 8 before 9", file(&[t(), long(0, MAX_TICK, 1), long(0, MAX_TICK - 1, 0), end()])),
+        ("kind 4, 7 before a short tick and 9", file(&[t(), long(1, LAST, 0), end()])),
+        ("kind 4, a short tick before 9", file(&[t(), long(0, LAST, 0), end()])),
+        ("kind 2, 7 before a long tick and 9", file(&[t(), short(1, LAST + 1, 0), end()])),
+        ("kind 2, a long tick before 9", file(&[t(), short(0, LAST + 1, 0), end()])),
+        ("9 in an earlier record than a short tick", file(&[t(), long(0, LAST + 1, 0), long(0, LAST, 1), end()])),
+        ("a short tick in an earlier record than 3", file(&[t(), long(0, LAST, 1), t(), end()])),
+        ("a byte after the end after kind 4", file(&[t(), long(0, LAST + 1, 1), end(), vec![4]])),
+        ("kind 4 after the end", file(&[t(), end(), long(0, LAST + 1, 1), end()])),
+        ("no end after kind 4", file(&[t(), long(0, LAST + 1, 1)])),
+        ("kind 4 without its last byte, then an end", file(&[t(), long(0, LAST + 1, 1)[..13].to_vec(), end()])),
+        ("kind 4 with a tick of four bytes", file(&[t(), vec![4], short(0, LAST, 1)[1..].to_vec(), end()])),
+        ("kind 2 with a tick of eight bytes", file(&[t(), vec![2], long(0, LAST, 1)[1..].to_vec(), end()])),
+        ("every byte 255 in kind 4", file(&[t(), vec![4], vec![255; 13], end()])),
+    ]
+}
+
+/// Each tick at an edge in either kind, as the first release and after others.
+fn edges() -> Vec<(String, Vec<u8>)> {
+    let t = of_task(task(6, 5, 2, 6));
+    let mut all = Vec::new();
+    for tick in EDGE_TICKS {
+        for kind in [2, 4] {
+            let r = of_release(kind, 0, tick, 2);
+            let label = format!("tick {tick} in kind {kind}{}", if kind == 2 && tick >> 32 > 0 { ", low half" } else { "" });
+            for (before, name) in [(vec![], ""), (short(0, 3, 1), " after 3"), (long(0, 1_000_000_001, 1), " after 1000000001")] {
+                all.push((format!("{label}{name}"), file(&[t.clone(), before, r.clone(), end()])));
+            }
+        }
+    }
+    all
+}
+
 /// Counts at their limits. Only the columns of an accepted file have as many slots as it has releases.
 fn limits(v: &mut Vectors) {
     let tasks: Vec<Vec<u8>> = full_sheet().tasks.iter().map(|&t| of_task(t)).collect();
@@ -234,8 +308,8 @@ fn limits(v: &mut Vectors) {
     add_read(v, "33 tasks", &reading(&with(&[one.clone(), end()]), 1));
     add_read(v, "33rd task out of range", &reading(&with(&[of_task(task(0, 0, 0, 0)), end()]), 1));
     add_read(v, "33rd task cut", &reading(&with(&[one[..16].to_vec()]), 1));
-    add_read(v, "33rd task after a release", &reading(&with(&[of_release(0, 0, 1), one.clone(), end()]), 1));
-    add_read(v, "release of task 32 of 32", &reading(&with(&[of_release(32, 0, 1), end()]), 1));
+    add_read(v, "33rd task after a release", &reading(&with(&[short(0, 0, 1), one.clone(), end()]), 1));
+    add_read(v, "release of task 32 of 32", &reading(&with(&[short(32, 0, 1), end()]), 1));
     add_again(v, "32 tasks", &with(&[end()]));
 
     let list = full_list();
@@ -247,13 +321,39 @@ fn limits(v: &mut Vectors) {
     add_read(v, "1024 releases", &reading(&full, 1026));
     add_read(v, "1024 releases, 1023 slots", &reading(&full, 1023));
     add_again(v, "1024 releases", &full);
-    add_read(v, "1025 releases", &reading(&then(&[of_release(0, last, 1), end()]), 1));
-    add_read(v, "1025th release of no task", &reading(&then(&[of_release(32, last, 1), end()]), 1));
-    add_read(v, "1025th tick falls", &reading(&then(&[of_release(0, last - 1, 1), end()]), 1));
-    add_read(v, "1025th cost 0", &reading(&then(&[of_release(0, last, 0), end()]), 1));
-    add_read(v, "1025th release cut", &reading(&then(&[of_release(0, last, 1)[..9].to_vec()]), 1));
+    add_read(v, "1025 releases", &reading(&then(&[short(0, last, 1), end()]), 1));
+    add_read(v, "1025th release of no task", &reading(&then(&[short(32, last, 1), end()]), 1));
+    add_read(v, "1025th tick falls", &reading(&then(&[short(0, last - 1, 1), end()]), 1));
+    add_read(v, "1025th cost 0", &reading(&then(&[short(0, last, 0), end()]), 1));
+    add_read(v, "1025th release cut", &reading(&then(&[short(0, last, 1)[..9].to_vec()]), 1));
     add_read(v, "task after 1024 releases", &reading(&then(&[one.clone(), end()]), 1));
     add_read(v, "1024 releases, a byte after the end", &reading(&then(&[end(), vec![2]]), 1));
+}
+
+/// The same with ticks up to the last one allowed, all of them long; and with ticks around 1,000,000,000. 14,897 bytes decide a read.
+fn long_limits(v: &mut Vectors) {
+    let all = late_list();
+    let full = encode(&full_sheet().tasks, &all);
+    assert_eq!((full.len(), all[1023].tick), (14_881, MAX_TICK));
+    let mut many = full.clone();
+    many.pop();
+    let one = of_task(task(6, 5, 2, 6));
+    let then = |tail: &[Vec<u8>]| [many.clone(), tail.concat()].concat();
+    let mut add = |label: &str, tail: &[Vec<u8>]| add_read(v, label, &reading(&then(tail), 1));
+    add("1025 long releases", &[long(0, MAX_TICK, 1), end()]);
+    add("1025th long tick falls", &[long(0, MAX_TICK - 1, 1), end()]);
+    add("1025th long tick over the limit", &[long(0, MAX_TICK + 1, 1), end()]);
+    add("1025th long release cut", &[long(0, MAX_TICK, 1)[..13].to_vec()]);
+    add("short release after 1024 long ones", &[short(0, 1_000_000_000, 1), end()]);
+    add("task after 1024 long releases", &[one.clone()]);
+    add("task after 1024 long releases, cut", &[one[..16].to_vec()]);
+    add("1024 long releases, a byte after the end", &[end(), vec![4]]);
+    add_read(v, "1024 long releases", &reading(&full, 1026));
+    add_read(v, "1024 long releases, 1023 slots", &reading(&full, 1023));
+    add_again(v, "1024 long releases", &full);
+    let both = encode(&full_sheet().tasks, &middle_list());
+    add_read(v, "1024 releases of both kinds", &reading(&both, 1026));
+    add_again(v, "1024 releases of both kinds", &both);
 }
 
 /// The columns of a read: 13 after the whole file.
@@ -266,13 +366,18 @@ fn read_columns(v: &mut Vectors) {
         ("columns as long as the list", [3, 3, 3]),
         ("columns of different lengths", [3, 5, 4]),
     ] {
-        let c = ReadCall { file: printed_file(), slots: slots.map(held) };
-        add_read(v, label, &c);
+        let [task, tick, cost] = slots;
+        add_read(v, label, &ReadCall { file: printed_file(), task: held(task), tick: held(tick), cost: held(cost) });
     }
+    let late = encode(&printed_sheet().tasks, &moved(&printed_list(), MAX_TICK - 1));
+    let short_column = ReadCall { file: late, task: held(3), tick: held(2), cost: held(3) };
+    add_read(v, "tick column short for long ticks", &short_column);
     let mut after = printed_file();
     after.push(3);
     add_read(v, "11 before 13", &reading(&after, 0));
-    let numbers = ReadCall { file: printed_file(), slots: [vec![11, 22, 33, 44], vec![55, 66, 77, 88], vec![1, 2, 3, 4]] };
+    // In a column of ticks the largest number of 32 bits is no stroke.
+    let tick = vec![55, 66, 77, 4_294_967_295, 1 << 63];
+    let numbers = ReadCall { file: printed_file(), task: vec![11, 22, 33, 44], tick, cost: vec![1, 2, 3, 4] };
     add_read(v, "slots hold numbers, accepted", &numbers);
     add_read(v, "slots hold numbers, refused", &ReadCall { file: after, ..numbers });
 }
@@ -290,10 +395,44 @@ fn write_bytes(v: &mut Vectors) {
     let mut wrong = c.clone();
     wrong.task[0] = 3;
     add_write(v, "bytes short before 7", &wrong, n - 1);
+    write_kinds(v);
     let full = ListCall::of(&full_sheet(), &[], &full_list());
     add_write(v, "32 tasks and 1024 releases", &full, needed(&full) + 2);
     add_write(v, "32 tasks and 1024 releases, too few bytes", &full, 3);
     add_write(v, "no releases", &ListCall::of(&printed_sheet(), &[], &[]), 52);
+    let late = ListCall::of(&full_sheet(), &[], &late_list());
+    assert_eq!(needed(&late), 14_881);
+    add_write(v, "32 tasks and 1024 long releases", &late, 14_883);
+    add_write(v, "32 tasks and 1024 long releases, one byte too few", &late, 14_880);
+    add_write(v, "32 tasks and 1024 long releases, too few bytes", &late, 3);
+    let both = ListCall::of(&full_sheet(), &[], &middle_list());
+    add_write(v, "32 tasks and 1024 releases of both kinds", &both, needed(&both) + 2);
+    add_write(v, "32 tasks and 1024 releases of both kinds, too few bytes", &both, 3);
+}
+
+/// 10 bytes for a tick up to 1,000,000,000 and 14 for any other, whatever else is wrong with it: three tasks and the end have 52.
+fn write_kinds(v: &mut Vectors) {
+    let mut add = |label: &str, ticks: [u64; 4], change: fn(&mut ListCall), bytes: usize| {
+        let mut c = sound();
+        c.tick = ticks.to_vec();
+        // Past the count: not counted.
+        c.tick.push(u64::MAX);
+        change(&mut c);
+        assert_eq!(needed(&c), bytes, "{label}");
+        for (name, slots) in [("", bytes), (", one byte too few", bytes - 1), (", no bytes", 0)] {
+            add_write(v, &format!("kinds, {label}{name}"), &c, slots);
+        }
+    };
+    add("ticks up to 1000000000", [0, 1, 999_999_999, 1_000_000_000], |_| {}, 92);
+    add("ticks up to 1000000000 and one over", [0, 1, 1_000_000_000, 1_000_000_001], |_| {}, 96);
+    add("ticks around 1000000000", [999_999_999, 1_000_000_000, 1_000_000_001, MAX_TICK], |_| {}, 100);
+    add("ticks around 4294967296", [4_294_967_295, 4_294_967_296, 4_294_967_297, 1 << 33], |_| {}, 108);
+    add("every tick at the limit", [MAX_TICK; 4], |_| {}, 108);
+    add("one tick over the limit", [0, 1, 2, MAX_TICK + 1], |_| {}, 96);
+    add("every tick over the limit", [MAX_TICK + 1, 1 << 50, 1 << 63, u64::MAX], |_| {}, 108);
+    add("falling ticks", [u64::MAX, 0, 1 << 32, 1_000_000_000], |_| {}, 100);
+    add("long ticks, a release of no task", [0, 1_000_000_001, MAX_TICK, MAX_TICK], |c| c.task[2] = 3, 104);
+    add("long ticks, cost 0", [0, 1_000_000_001, MAX_TICK, MAX_TICK], |c| c.cost[1] = 0, 104);
 }
 
 pub fn vectors() -> Vectors {
@@ -305,9 +444,20 @@ pub fn vectors() -> Vectors {
         add_again(&mut v, label, f);
     }
     limits(&mut v);
+    for (label, f) in &long_releases() {
+        add_read(&mut v, label, &reading(f, 5));
+        add_again(&mut v, label, f);
+    }
+    for (label, f) in &edges() {
+        add_read(&mut v, label, &reading(f, 2));
+        add_again(&mut v, label, f);
+    }
+    long_limits(&mut v);
     read_columns(&mut v);
     for (label, c) in &refusals() {
-        add_write(&mut v, label, c, needed(&sound()) + 2);
+        // Two bytes more than the sheet and the first four ticks need, and no fewer than the sound call has.
+        let ticks = &c.tick[..c.tick.len().min(4)];
+        add_write(&mut v, label, c, bytes_needed(3, ticks).max(needed(&sound())) + 2);
     }
     write_bytes(&mut v);
     v

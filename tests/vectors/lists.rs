@@ -1,7 +1,7 @@
 //! Lists of releases, and the refusals of a call with a list.
 
 use crate::case::*;
-use crate::reference::{gap, Release, Sheet};
+use crate::reference::{gap, Release, Sheet, MAX_SHORT_TICK, MAX_TICK};
 
 /// 32 tasks with periods 40 to 195, jitters up to three periods and costs up to 4.
 pub fn full_sheet() -> Sheet {
@@ -19,11 +19,23 @@ pub fn full_list() -> Vec<Release> {
     let (sheet, mut m, mut tick) = (full_sheet(), Mixer::from(1), 0);
     (0..1024)
         .map(|_| {
-            tick += m.within(0, 9);
+            tick += m.within(0, 9) as u64;
             let task = m.within(0, 31);
             Release { task, tick, cost: m.within(1, sheet.task(task as usize).e) }
         })
         .collect()
+}
+
+/// The same releases, the last one at the last tick allowed.
+pub fn late_list() -> Vec<Release> {
+    let list = full_list();
+    moved(&list, MAX_TICK - list[1023].tick)
+}
+
+/// The same releases around tick 1,000,000,000.
+pub fn middle_list() -> Vec<Release> {
+    let list = full_list();
+    moved(&list, MAX_SHORT_TICK - list[511].tick)
 }
 
 /// `n` legal releases of each task of a sheet, each as early as the gaps allow, in the order of their ticks.
@@ -36,7 +48,7 @@ pub fn tight_list(sheet: &Sheet, n: usize) -> Vec<Release> {
             let least = (1..=m).map(|k| ticks[m - k] + gap(t.p as i64, t.j as i64, k as i64)).max().unwrap_or(0);
             ticks.push(least);
         }
-        all.extend(ticks.iter().map(|&tick| Release { task: i as u32, tick: tick as u32, cost: 1 }));
+        all.extend(ticks.iter().map(|&tick| Release { task: i as u32, tick: tick as u64, cost: 1 }));
     }
     all.sort_by_key(|r| (r.tick, r.task));
     all
@@ -100,9 +112,28 @@ fn lists() -> Vec<(String, ListCall)> {
     add("tick falls", &|c| c.tick[3] = 3);
     add("tick falls to 0", &|c| c.tick[3] = 0);
     add("equal ticks", &|c| c.tick = vec![4, 4, 4, 4]);
-    add("tick 1000000000", &|c| c.tick[3] = 1_000_000_000);
-    add("tick 1000000001", &|c| c.tick[3] = 1_000_000_001);
-    add("first tick 4294967295", &|c| c.tick[0] = u32::MAX);
+    for tick in EDGE_TICKS {
+        add(&format!("tick {tick}"), &|c| c.tick[3] = tick);
+    }
+    add("first tick 4294967295", &|c| c.tick[0] = u32::MAX as u64);
+    add("first tick 4294967296", &|c| c.tick[0] = 1 << 32);
+    add("first tick 18446744073709551615", &|c| c.tick[0] = u64::MAX);
+    add("every tick the last allowed", &|c| c.tick = vec![MAX_TICK; 4]);
+    add("every tick over the limit", &|c| c.tick = vec![MAX_TICK + 1; 4]);
+    add("ticks up to 1000000000 and over it", &|c| c.tick = vec![999_999_999, 1_000_000_000, 1_000_000_001, 1_000_000_001]);
+    add("tick falls below 1000000001", &|c| c.tick = vec![1_000_000_000, 1_000_000_001, 1_000_000_000, 1_000_000_001]);
+    add("tick falls below 4294967296", &|c| c.tick = vec![1, 1 << 32, (1 << 32) - 1, 1 << 33]);
+    add("tick falls, its low half rises", &|c| c.tick = vec![1, 1 << 33, (1 << 32) + 5, 1 << 34]);
+    add("tick rises, its low half falls", &|c| c.tick = vec![1, (1 << 32) - 1, 1 << 32, 1 << 33]);
+    add("7, 8 over the limit and 9 at one release", &|c| {
+        c.task[3] = 32;
+        c.tick[3] = MAX_TICK + 1;
+        c.cost[3] = 0;
+    });
+    add("8 over the limit and 9 at one release", &|c| {
+        c.tick[3] = 1 << 63;
+        c.cost[3] = 0;
+    });
     for p in 0..4 {
         add(&format!("cost 0 at release {p}"), &|c| c.cost[p] = 0);
     }
@@ -214,13 +245,13 @@ pub fn kept_refusals() -> Vec<(String, ListCall)> {
         c.kept.clear();
     });
     add("slots hold numbers, refused", &|c| {
-        c.ready = vec![11, 22, 33, 44, 55, 66];
-        c.finish = vec![12, 23, 34, 45, 56, 67];
+        c.ready = vec![11, 22, 33, 44, 55, 1 << 63];
+        c.finish = vec![12, 23, 34, 45, 56, 4_294_967_295];
         c.cost[3] = 0;
     });
     add("slots hold numbers, accepted", &|c| {
-        c.ready = vec![11, 22, 33, 44, 55, 66];
-        c.finish = vec![12, 23, 34, 45, 56, 67];
+        c.ready = vec![11, 22, 33, 44, 55, 1 << 63];
+        c.finish = vec![12, 23, 34, 45, 56, 4_294_967_295];
     });
     all.extend(every_fault());
     all

@@ -1,11 +1,21 @@
 //! The cases of `vectors_run`: the ticking run, then the run that jumps on the same case, with columns of its own that held the
-//! same.
+//! same; or the run that jumps alone.
 
 use crate::case::*;
 use crate::lists::*;
-use crate::reference::{finish_ticks_by_tick, jump, ready_ticks, run, Release, Sheet};
+use crate::reference::{check_run, finish_ticks_by_tick, jump, ready_ticks, run, Release, Sheet, MAX_TICK};
 
-/// The line of both runs. The reference has a method for each, and both give the same columns and the same refusals.
+/// The last tick of a case that is made by the ticking run too, which goes through all of them.
+const LAST_TICKED: u64 = 1_000_000_000;
+
+/// Whether the run that jumps makes a case alone, since the ticks are too many. What is refused both make.
+fn alone(c: &ListCall) -> bool {
+    let checked = check_run(&c.sheet, &c.kept, c.count, &c.columns(), c.ready.len(), c.finish.len());
+    checked.is_ok_and(|list| list.iter().any(|r| r.tick > LAST_TICKED))
+}
+
+/// The line of both runs, or of the one that jumps. The reference has a method for each, and both give the same columns and the same
+/// refusals.
 fn answer(c: &ListCall) -> String {
     let (ready_slots, finish_slots) = (c.ready.len(), c.finish.len());
     let ticked = run(&c.sheet, &c.kept, c.count, &c.columns(), ready_slots, finish_slots);
@@ -16,22 +26,29 @@ fn answer(c: &ListCall) -> String {
             let half = refused(r) + &column(&c.ready) + &column(&c.finish);
             format!("{half};{half}")
         }
+        Ok(j) if alone(c) => line_alone(&after(c, &j.ready, &j.finish), j.stops),
         Ok(j) => line(&after(c, &j.ready, &j.finish), j.stops),
     }
 }
 
 /// The two columns after a run that is not refused.
-fn after(c: &ListCall, ready: &[u32], finish: &[u32]) -> String {
+fn after(c: &ListCall, ready: &[u64], finish: &[u64]) -> String {
     column(&written(ready, &c.ready)) + &column(&written(finish, &c.finish))
 }
 
 /// The line of a case that is not refused: the columns after each run, and the stops of the one that jumps.
 fn line(columns: &str, stops: u64) -> String {
-    format!(" fine{columns}; {stops} stops{columns}")
+    format!(" fine{columns};{}", line_alone(columns, stops))
 }
 
+/// The same of the run that jumps alone.
+fn line_alone(columns: &str, stops: u64) -> String {
+    format!(" {stops} stops{columns}")
+}
+
+/// Call 0 is both runs, call 1 the run that jumps.
 fn blocks(c: &ListCall) -> Vec<Vec<u8>> {
-    let mut all = vec![head(0, &[c.count as u32], &c.sheet), numbers(&c.kept)];
+    let mut all = vec![head(alone(c) as u32, &[c.count as u32], &c.sheet), numbers(&c.kept)];
     all.extend(c.list_blocks());
     all.push(numbers(&c.ready));
     all.push(numbers(&c.finish));
@@ -57,7 +74,7 @@ fn worked(v: &mut Vectors) {
 /// release.
 fn picked_up(v: &mut Vectors) {
     let three = sheet(&[(50, 200, 20, 50), (60, 200, 20, 90), (70, 200, 20, 99)]);
-    let mut add = |label: &str, releases: &[(u32, u32, u32)], columns: &str, stops: u64| {
+    let mut add = |label: &str, releases: &[(u32, u64, u32)], columns: &str, stops: u64| {
         let c = ListCall::of(&three, &[200, 200, 200], &list(releases));
         v.worked(&format!("pickup, {label}"), &blocks(&c), &answer(&c), &line(columns, stops));
     };
@@ -95,7 +112,7 @@ fn four_tasks() -> Sheet {
 /// finish. The kept jitters let three jobs of a task be ready at once, so that ready is release.
 fn jumps(v: &mut Vectors) {
     let four = four_tasks();
-    let mut add = |label: &str, releases: &[(u32, u32, u32)], columns: &str, stops: u64| {
+    let mut add = |label: &str, releases: &[(u32, u64, u32)], columns: &str, stops: u64| {
         let c = ListCall::of(&four, &[200; 4], &list(releases));
         v.worked(&format!("jump, {label}"), &blocks(&c), &answer(&c), &line(columns, stops));
     };
@@ -156,7 +173,69 @@ fn jumps(v: &mut Vectors) {
     add("1000000 idle ticks", &[(0, 0, 2), (1, 1_000_002, 2)], ", 0 1000002 - -, 3 1000005 - -", 4);
     add("two releases, ticks 0 and 2000000", &[(0, 0, 2), (0, 2_000_000, 2)], ", 0 2000000 - -, 3 2000003 - -", 4);
     add("one release, tick 5000000", &[(2, 5_000_000, 3)], ", 5000000 - -, 5000004 - -", 2);
-    add("two releases, tick 0 and the limit", &[(3, 0, 1), (0, 1_000_000_000, 20)], ", 0 1000000000 - -, 2 1000000021 - -", 4);
+    add("two releases, ticks 0 and 1000000000", &[(3, 0, 1), (0, 1_000_000_000, 20)], ", 0 1000000000 - -, 2 1000000021 - -", 4);
+}
+
+/// The run that jumps alone, on ticks that are too many for the ticking run.
+fn late_jumps(v: &mut Vectors) {
+    let mut add = |label: &str, c: &ListCall, columns: &str, stops: u64| {
+        v.worked(&format!("alone, {label}"), &blocks(c), &answer(c), &line_alone(columns, stops));
+    };
+    let four = four_tasks();
+    let open = |releases: &[(u32, u64, u32)]| ListCall::of(&four, &[200; 4], &list(releases));
+    let held = |releases: &[(u32, u64, u32)]| ListCall::of(&four, &[0; 4], &list(releases));
+    let two = open(&[(3, 0, 1), (0, MAX_TICK, 20)]);
+    add("two releases, tick 0 and the limit", &two, ", 0 1000000000000000 - -, 2 1000000000000021 - -", 4);
+    let one = open(&[(2, MAX_TICK, 3)]);
+    add("one release at the limit", &one, ", 1000000000000000 - -, 1000000000000004 - -", 2);
+    // Starts 4294967294 and 4294967298, finishes 4294967300 and 4294967304: task 3 has run for four ticks when it is interrupted.
+    let across = open(&[(3, 4_294_967_293, 8), (0, 4_294_967_297, 2)]);
+    add("interrupted past 4294967296", &across, ", 4294967293 4294967297 - -, 4294967304 4294967300 - -", 4);
+    // Starts 4294967296 twice, finishes 4294967298 and 4294967301.
+    let at_once = open(&[(2, 4_294_967_295, 3), (0, 4_294_967_295, 2)]);
+    add("ready at once at 4294967295", &at_once, ", 4294967295 4294967295 - -, 4294967301 4294967298 - -", 3);
+    // The first is finished at 4294967296, where the second starts.
+    let touching = open(&[(0, 4_294_967_291, 4), (3, 4_294_967_295, 2)]);
+    add("a start and a finish at 4294967296", &touching, ", 4294967291 4294967295 - -, 4294967296 4294967298 - -", 3);
+    // A gap of 5000000000 ticks between two that are both long.
+    let gap = open(&[(0, 5_000_000_000, 2), (1, 10_000_000_000, 2)]);
+    add("a gap of 5000000000 ticks", &gap, ", 5000000000 10000000000 - -, 5000000003 10000000003 - -", 4);
+    // Ticks 0, 1000000000, 1000000001 and the limit.
+    let row = open(&[(0, 0, 1), (1, 1_000_000_000, 1), (2, 1_000_000_001, 1), (3, MAX_TICK, 1)]);
+    let columns = ", 0 1000000000 1000000001 1000000000000000 - -, 2 1000000002 1000000003 1000000000000002 - -";
+    add("ticks of both kinds", &row, columns, 7);
+    // The second job of task 0 is held for 50 ticks, past the limit; task 3 runs in between.
+    let past = held(&[(0, MAX_TICK, 5), (0, MAX_TICK, 5), (3, MAX_TICK, 10)]);
+    let columns = ", 1000000000000000 1000000000000050 1000000000000000 - -, 1000000000000006 1000000000000056 1000000000000016 - -";
+    add("held past the limit", &past, columns, 5);
+    // 1024 jobs of the largest cost, each starts at the finish of the one before: the largest ready tick and the largest finish.
+    let largest = sheet(&[(1_000_000, 0, 1_000_000, 1_000_000)]);
+    let all = ListCall::of(&largest, &[0], &list(&[(0, MAX_TICK, 1_000_000); 1024]));
+    let ready: Vec<u64> = (0..1024).map(|p| 1_000_000_000_000_000 + 1_000_000 * p).collect();
+    let finish: Vec<u64> = ready.iter().map(|t| t + 1_000_001).collect();
+    assert_eq!((ready[1023], finish[1023]), (1_000_001_023_000_000, 1_000_001_024_000_001));
+    add("largest ready and finish ticks", &all, &after(&all, &ready, &finish), 1_025);
+}
+
+/// The same lists so much later, made by the run that jumps alone: the same stops, and ticks that are so much later.
+fn moved_jumps(v: &mut Vectors) {
+    for (label, c) in short().iter().chain(&long()) {
+        if *label == "late tick" {
+            continue;
+        }
+        for (name, last) in [("past 4294967296", (1 << 32) + 20), ("up to the limit", MAX_TICK)] {
+            if c.count == 1024 && last != MAX_TICK {
+                continue;
+            }
+            let by = last - c.tick[c.count - 1];
+            let mut later = c.clone();
+            later.tick.iter_mut().for_each(|t| *t += by);
+            let j = jump(&c.sheet, &c.kept, c.count, &c.columns(), c.ready.len(), c.finish.len()).unwrap();
+            let ticks = |all: &[u64]| all.iter().map(|t| t + by).collect::<Vec<u64>>();
+            let by_shift = line_alone(&after(c, &ticks(&j.ready), &ticks(&j.finish)), j.stops);
+            v.worked(&format!("alone, {label}, {name}"), &blocks(&later), &answer(&later), &by_shift);
+        }
+    }
 }
 
 /// Stops of the run that jumps where jobs are ready after their release: no jitter is kept, so that the jobs of a task are ready at
@@ -166,7 +245,7 @@ fn held_jumps(v: &mut Vectors) {
     let mut add = |label: &str, c: &ListCall, columns: &str, stops: u64| {
         v.worked(&format!("jump, {label}"), &blocks(c), &answer(c), &line(columns, stops));
     };
-    let of = |releases: &[(u32, u32, u32)]| ListCall::of(&four, &[0; 4], &list(releases));
+    let of = |releases: &[(u32, u64, u32)]| ListCall::of(&four, &[0; 4], &list(releases));
     // 1, 6, 41, 51, 56: task 3 runs in ticks 41 to 50.
     let lower = of(&[(0, 0, 5), (0, 1, 5), (3, 40, 10)]);
     add("a held job starts at the finish of a lower one", &lower, ", 0 50 40 - -, 6 56 51 - -", 5);
@@ -193,16 +272,16 @@ fn held_jumps(v: &mut Vectors) {
 /// Stops of the run that jumps on as many tasks and as many releases as there may be.
 fn many_jumps(v: &mut Vectors) {
     let full = sheet(&[(100, 0, 4, 200); 32]);
-    let from_lowest = |tick: fn(u32) -> u32, cost: u32| {
-        let all: Vec<Release> = (0..32).map(|p| Release { task: 31 - p, tick: tick(p), cost }).collect();
+    let from_lowest = |tick: fn(u64) -> u64, cost: u32| {
+        let all: Vec<Release> = (0..32).map(|p| Release { task: 31 - p, tick: tick(p as u64), cost }).collect();
         ListCall::of(&full, &[0; 32], &all)
     };
     let single = |period: u32, cost: u32| {
-        let all: Vec<Release> = (0..1024).map(|p| Release { task: 0, tick: period * p, cost }).collect();
+        let all: Vec<Release> = (0..1024).map(|p| Release { task: 0, tick: period as u64 * p, cost }).collect();
         ListCall::of(&sheet(&[(period, 0, cost, period)]), &[0], &all)
     };
-    let mut add = |label: &str, c: &ListCall, ready: fn(u32) -> u32, finish: fn(u32) -> u32, stops: u64| {
-        let ticks = |of: fn(u32) -> u32| (0..c.count as u32).map(of).collect::<Vec<u32>>();
+    let mut add = |label: &str, c: &ListCall, ready: fn(u64) -> u64, finish: fn(u64) -> u64, stops: u64| {
+        let ticks = |of: fn(u64) -> u64| (0..c.count as u64).map(of).collect::<Vec<u64>>();
         let by_hand = line(&after(c, &ticks(ready), &ticks(finish)), stops);
         v.worked(&format!("jump, {label}"), &blocks(c), &answer(c), &by_hand);
     };
@@ -222,8 +301,8 @@ fn many_jumps(v: &mut Vectors) {
 fn short() -> Vec<(&'static str, ListCall)> {
     let five = sheet(&[(50, 0, 20, 50), (60, 0, 20, 90), (70, 100, 20, 99), (80, 10, 20, 99), (90, 0, 20, 300)]);
     let keep = [0, 0, 100, 5, 0];
-    let of = |releases: &[(u32, u32, u32)]| ListCall::of(&five, &keep, &list(releases));
-    let single = |p, k, releases: &[(u32, u32, u32)]| ListCall::of(&sheet(&[(p, k, p.min(4), 100)]), &[k], &list(releases));
+    let of = |releases: &[(u32, u64, u32)]| ListCall::of(&five, &keep, &list(releases));
+    let single = |p, k, releases: &[(u32, u64, u32)]| ListCall::of(&sheet(&[(p, k, p.min(4), 100)]), &[k], &list(releases));
     vec![
         ("chain of preemptions", of(&[(4, 0, 9), (3, 1, 9), (2, 2, 9), (1, 3, 9), (0, 4, 9)])),
         ("chain, each over before the next", of(&[(4, 0, 1), (3, 2, 1), (2, 4, 1), (1, 6, 1), (0, 8, 1)])),
@@ -249,7 +328,7 @@ fn short() -> Vec<(&'static str, ListCall)> {
 fn long() -> Vec<(&'static str, ListCall)> {
     let sheet32 = full_sheet();
     let burst: Vec<Release> = (0..1024).map(|i| Release { task: 31 - i / 32, tick: 0, cost: 1 }).collect();
-    let one: Vec<Release> = (0..1024).map(|i| Release { task: 0, tick: 2 * i, cost: 1 + i % 5 }).collect();
+    let one: Vec<Release> = (0..1024).map(|i| Release { task: 0, tick: 2 * i as u64, cost: 1 + i % 5 }).collect();
     vec![
         ("1024 releases of 32 tasks", ListCall::of(&sheet32, &full_kept(), &full_list())),
         ("1024 legal releases of 32 tasks", ListCall::of(&sheet32, &full_kept(), &tight_list(&sheet32, 32))),
@@ -292,7 +371,7 @@ pub fn vectors() -> Vectors {
             let finish = finish_ticks_by_tick(&all, &ready);
             let end = finish.iter().copied().max().unwrap_or(0);
             let stops = (0..=end).filter(|t| finish.contains(t) || ready.contains(&(t - 1))).count() as u64;
-            let slots = |ticks: &[i64]| ticks.iter().map(|&t| t as u32).collect::<Vec<u32>>();
+            let slots = |ticks: &[i64]| ticks.iter().map(|&t| t as u64).collect::<Vec<u64>>();
             assert_eq!(answer(c), line(&after(c, &slots(&ready), &slots(&finish)), stops), "{label}");
         }
         v.case(label, &blocks(c), &answer(c));
@@ -306,5 +385,7 @@ pub fn vectors() -> Vectors {
     jumps(&mut v);
     held_jumps(&mut v);
     many_jumps(&mut v);
+    late_jumps(&mut v);
+    moved_jumps(&mut v);
     v
 }

@@ -2,7 +2,7 @@
 
 use crate::case::*;
 use crate::lists::*;
-use crate::reference::{ready, trace_check, Release, Sheet};
+use crate::reference::{ready, trace_check, Release, Sheet, MAX_TICK};
 
 fn trace_answer(c: &ListCall) -> String {
     match trace_check(&c.sheet, c.count, &c.columns()) {
@@ -41,7 +41,7 @@ fn add_ready(v: &mut Vectors, label: &str, c: &ListCall) {
 }
 
 /// Releases of one task at the ticks given, cost 1.
-fn single(p: u32, j: u32, keep: u32, ticks: &[u32]) -> ListCall {
+fn single(p: u32, j: u32, keep: u32, ticks: &[u64]) -> ListCall {
     let all: Vec<Release> = ticks.iter().map(|&tick| Release { task: 0, tick, cost: 1 }).collect();
     ListCall::of(&sheet(&[(p, j, 1, p)]), &[keep], &all)
 }
@@ -64,6 +64,28 @@ fn worked(v: &mut Vectors) {
     both("printed example, D 11", &folder, " fine, 0 0 4 - -", " legal");
 }
 
+/// Ticks past 1,000,000,000: around what four bytes hold, up to the limit, and ready ticks past it, up to the largest.
+fn worked_late(v: &mut Vectors) {
+    let mut both = |label: &str, c: &ListCall, ready: &str, trace: &str| {
+        v.worked(&format!("ready, {label}"), &ready_blocks(c), &ready_answer(c), ready);
+        v.worked(&format!("trace, {label}"), &trace_blocks(c), &trace_answer(c), trace);
+    };
+    let over = single(6, 1, 1, &[999_999_996, 1_000_000_001, 1_000_000_006]);
+    both("1000000000 and over", &over, " fine, 999999996 1000000001 1000000007 - -", " too close 2");
+    let legal = single(10, 0, 0, &[4_294_967_291, 4_294_967_301]);
+    both("gap across 4294967296", &legal, " fine, 4294967291 4294967301 - -", " legal");
+    let close = single(10, 0, 0, &[4_294_967_291, 4_294_967_300]);
+    both("too close across 4294967296", &close, " fine, 4294967291 4294967301 - -", " too close 1");
+    let burst = single(10, 5, 5, &[4_294_967_290; 3]);
+    both("held across 4294967296", &burst, " fine, 4294967290 4294967295 4294967305 - -", " too close 1");
+    both("far apart", &single(6, 1, 1, &[0, MAX_TICK]), " fine, 0 1000000000000000 - -", " legal");
+    let past = single(6, 8, 8, &[MAX_TICK; 3]);
+    both("held past the limit", &past, " fine, 1000000000000000 1000000000000000 1000000000000004 - -", " too close 2");
+    let ticks: String = (0..1024).map(|p| format!(" {}", 1_000_000_000_000_000u64 + 1_000_000 * p)).collect();
+    assert!(ticks.ends_with(" 1000001023000000"));
+    both("largest ready ticks of all", &single(1_000_000, 0, 0, &[MAX_TICK; 1024]), &format!(" fine,{ticks} - -"), " too close 1");
+}
+
 /// Bursts and gaps of one task and of several.
 fn shapes() -> Vec<(String, ListCall)> {
     let mut all = Vec::new();
@@ -78,6 +100,8 @@ fn shapes() -> Vec<(String, ListCall)> {
     add("period 1, J 3", single(1, 3, 2, &[5, 5, 5, 5, 5, 6]));
     add("period and jitter 1000000", single(1_000_000, 1_000_000, 999_999, &[0, 0, 0, 1, 1_000_000]));
     add("largest ready ticks", single(1_000_000, 0, 0, &[1_000_000_000; 12]));
+    add("burst at the limit, K 17", single(10, 35, 17, &[MAX_TICK; 8]));
+    add("bursts at 0 and at the limit", single(7, 20, 15, &[0, 0, 0, 0, MAX_TICK, MAX_TICK, MAX_TICK, MAX_TICK]));
     add("each as early as the gaps allow", single(10, 35, 10, &[0, 0, 0, 0, 5, 15, 25]));
     add("one tick too early", single(10, 35, 10, &[0, 0, 0, 0, 5, 15, 24]));
     add("too close to the fifth before alone", single(10, 35, 10, &[0, 4, 4, 4, 5, 14]));
@@ -103,6 +127,9 @@ fn full() -> Vec<(String, ListCall)> {
         ("1024 releases of 32 tasks".to_string(), ListCall::of(&sheet, &kept, &full_list())),
         ("1024 legal releases of 32 tasks".to_string(), legal),
         ("1024 releases, one of the last too close".to_string(), early),
+        ("1024 releases of 32 tasks, around 1000000000".to_string(), ListCall::of(&sheet, &kept, &middle_list())),
+        ("1024 releases of 32 tasks, up to the limit".to_string(), ListCall::of(&sheet, &kept, &late_list())),
+        ("1024 legal releases of 32 tasks, past 4294967296".to_string(), ListCall::of(&sheet, &kept, &moved(&tight, (1 << 32) - 100))),
     ]
 }
 
@@ -113,12 +140,14 @@ fn limits() -> Vec<(String, ListCall)> {
     vec![
         ("least numbers".to_string(), ListCall::of(&least, &[0], &list(&[(0, 0, 1), (0, 1, 1)]))),
         ("largest numbers".to_string(), ListCall::of(&largest, &[1_000_000], &list(&[(0, 0, 1_000_000), (0, 1_000_000_000, 1_000_000)]))),
+        ("largest numbers, last tick".to_string(), ListCall::of(&largest, &[1_000_000], &list(&[(0, 0, 1_000_000), (0, MAX_TICK, 1_000_000)]))),
     ]
 }
 
 pub fn vectors() -> Vectors {
     let mut v = Vectors::new();
     worked(&mut v);
+    worked_late(&mut v);
     let both: Vec<_> = shapes().into_iter().chain(limits()).chain(full()).chain(refusals()).collect();
     for (label, c) in &both {
         add_trace(&mut v, label, c);

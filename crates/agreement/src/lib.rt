@@ -19,12 +19,12 @@ pub fn both_runs(
     kept: &[u32],
     count: usize,
     task: &[u32],
-    tick: &[u32],
+    tick: &[u64],
     cost: &[u32],
-    ready: &mut [u32],
-    finish: &mut [u32],
-    readies: &mut [u32],
-    finishes: &mut [u32],
+    ready: &mut [u64],
+    finish: &mut [u64],
+    readies: &mut [u64],
+    finishes: &mut [u64],
 ) -> BothAnswers
     ensures ticks { λ r. ⌜
         Ticked (viewOf s) (now (kept .entry)) count (now (task .entry)) (now (tick .entry)) (now (cost .entry)) (now (ready .entry)) (now (finish .entry))

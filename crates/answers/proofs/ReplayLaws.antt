@@ -80,7 +80,7 @@ module _ (s : Tasks) (kept : List ℕ) (n : ℕ) (task tick cost ready finish : 
 module _ (f a b c : List ℕ) (ha : maxReleases ≤ length a) (hb : maxReleases ≤ length b) (hc : maxReleases ≤ length c) where
   -- a file that was refused
   pub record Halts (n p : ℕ) : Type 0 where
-    pub small : p ≤ 10785
+    pub small : p ≤ 14881
     pub choose : refusalText n p ≡ chooseText f
     pub replay : refusalText n p ≡ replayText f
 

@@ -36,17 +36,17 @@ fn put_ran(
     kept: &[u32],
     n: usize,
     task: &[u32],
-    tick: &[u32],
+    tick: &[u64],
     cost: &[u32],
     out: &mut [u8],
 ) -> usize
-    requires { ⌜ Kept (viewOf s) (now kept) × Listed (viewOf s) n (now task) (now tick) (now cost) × (67648 ≤ length (now out)) ⌝ }
+    requires { ⌜ Kept (viewOf s) (now kept) × Listed (viewOf s) n (now task) (now tick) (now cost) × (108608 ≤ length (now out)) ⌝ }
     ensures { λ r. ⌜
-        PutLine 67648 (now (out .entry)) 0 (keptText (viewOf s) (now (kept .entry)) n (now (task .entry)) (now (tick .entry)) (now (cost .entry))) (now (out .exit)) r
+        PutLine 108608 (now (out .entry)) 0 (keptText (viewOf s) (now (kept .entry)) n (now (task .entry)) (now (tick .entry)) (now (cost .entry))) (now (out .exit)) r
         ⌝ }
 {
-    let mut ready: [u32; 1024] = [0; 1024];
-    let mut finish: [u32; 1024] = [0; 1024];
+    let mut ready: [u64; 1024] = [0; 1024];
+    let mut finish: [u64; 1024] = [0; 1024];
     let ran = jumps::run(s, kept, n, task, tick, cost, &mut ready, &mut finish);
     match ran {
         JumpAnswer::Refused { number, place } => report::put_refusal(out, number, place as u32),
@@ -59,13 +59,13 @@ fn put_replayed(
     s: TaskSet,
     n: usize,
     task: &[u32],
-    tick: &[u32],
+    tick: &[u64],
     cost: &[u32],
     out: &mut [u8],
 ) -> usize
-    requires { ⌜ Listed (viewOf s) n (now task) (now tick) (now cost) × (67648 ≤ length (now out)) ⌝ }
+    requires { ⌜ Listed (viewOf s) n (now task) (now tick) (now cost) × (108608 ≤ length (now out)) ⌝ }
     ensures { λ r. ⌜
-        PutLine 67648 (now (out .entry)) 0 (listText (viewOf s) n (now (task .entry)) (now (tick .entry)) (now (cost .entry)) (choice (viewOf s))) (now (out .exit)) r
+        PutLine 108608 (now (out .entry)) 0 (listText (viewOf s) n (now (task .entry)) (now (tick .entry)) (now (cost .entry)) (choice (viewOf s))) (now (out .exit)) r
         ⌝ }
 {
     let mut kept: [u32; 32] = [0; 32];
@@ -78,12 +78,12 @@ fn put_replayed(
 }
 
 // What the first program prints after a read of n bytes into its buffer: the choice, or a refusal.
-pub fn choose_text(file: &[u8; 10801], n: usize, out: &mut [u8]) -> usize
+pub fn choose_text(file: &[u8; 14897], n: usize, out: &mut [u8]) -> usize
     requires { ⌜ (n ≤ length (now file)) × (2560 ≤ length (now out)) ⌝ }
     ensures { λ r. ⌜ Printed chooseText 2560 (now (file .entry)) n (now (out .entry)) (now (out .exit)) r ⌝ }
 {
     let mut task: [u32; 1024] = [0; 1024];
-    let mut tick: [u32; 1024] = [0; 1024];
+    let mut tick: [u64; 1024] = [0; 1024];
     let mut cost: [u32; 1024] = [0; 1024];
     let bytes: &[u8] = file;
     let got = reader::read(&bytes[..n], &mut task, &mut tick, &mut cost);
@@ -96,12 +96,12 @@ pub fn choose_text(file: &[u8; 10801], n: usize, out: &mut [u8]) -> usize
 }
 
 // What the second program prints after a read of n bytes into its buffer: the run with the chosen kept jitters, or a refusal.
-pub fn replay_text(file: &[u8; 10801], n: usize, out: &mut [u8]) -> usize
-    requires { ⌜ (n ≤ length (now file)) × (67648 ≤ length (now out)) ⌝ }
-    ensures { λ r. ⌜ Printed replayText 67648 (now (file .entry)) n (now (out .entry)) (now (out .exit)) r ⌝ }
+pub fn replay_text(file: &[u8; 14897], n: usize, out: &mut [u8]) -> usize
+    requires { ⌜ (n ≤ length (now file)) × (108608 ≤ length (now out)) ⌝ }
+    ensures { λ r. ⌜ Printed replayText 108608 (now (file .entry)) n (now (out .entry)) (now (out .exit)) r ⌝ }
 {
     let mut task: [u32; 1024] = [0; 1024];
-    let mut tick: [u32; 1024] = [0; 1024];
+    let mut tick: [u64; 1024] = [0; 1024];
     let mut cost: [u32; 1024] = [0; 1024];
     let bytes: &[u8] = file;
     let got = reader::read(&bytes[..n], &mut task, &mut tick, &mut cost);

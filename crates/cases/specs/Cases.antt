@@ -11,6 +11,10 @@ use Rattle.taskset.specs.TaskSet.{noTask}
 abbrev pub numberAt : List ℕ → ℕ → ℕ
 numberAt s at = getD s at 0 + 256 * getD s (at + 1) 0 + 65536 * getD s (at + 2) 0 + 16777216 * getD s (at + 3) 0
 
+-- the number of the eight bytes from a place on, the low four first
+abbrev pub tickAt : List ℕ → ℕ → ℕ
+tickAt s at = numberAt s at + 4294967296 * numberAt s (at + 4)
+
 -- the entry of a task in a block of numbers
 abbrev pub entryOf : List ℕ → ℕ → Task
 entryOf head i = record {
@@ -24,10 +28,10 @@ entryOf head i = record {
 abbrev pub Filled : {A : Type 0} (f : ℕ → A) (d : A) → ℕ → List A → Type 0
 Filled f d n l = (i : ℕ) → i < n → getD l i d ≡ f i
 
--- the n numbers in a row of bytes stand in the first n slots of a column, whose other slots hold what they held
-pub record Numbers (s held : List ℕ) (n : ℕ) (column : List ℕ) : Type 0 where
-  pub count : n ≡ min (length s / 4) (length held)
-  pub each : Filled (λ i. numberAt s (4 * i)) 0 n column
+-- the n numbers in a row of bytes, w bytes each and read by a given reading, stand in the first n slots of a column, whose other slots hold what they held
+pub record Numbers (w : ℕ) (reading : List ℕ → ℕ → ℕ) (s held : List ℕ) (n : ℕ) (column : List ℕ) : Type 0 where
+  pub count : n ≡ min (length s / w) (length held)
+  pub each : Filled (λ i. reading s (w * i)) 0 n column
   pub rest : drop n column ≡ drop n held
 
 -- a task set is the one in a block of numbers: the count at 4, the 32 entries from 8 on

@@ -1,7 +1,9 @@
 // Cases of the stored vectors. Standard input is a row of blocks, each with its length in bytes first (four bytes, little-endian). A case is a
 // label, a block of numbers that holds the task set and what the call is given besides, and a block for each lent slice: what it holds before the call.
+// A number has four bytes, a tick eight.
 use libc::STDIN_FILENO;
 use libc::STDOUT_FILENO;
+use numbers::wide;
 use numbers::wide_byte;
 use taskset::Checked;
 use taskset::Task;
@@ -10,7 +12,7 @@ ghost use Prim.Native.Nat.{_+_, _≤_, _<_, min};
 ghost use mathlib.Core.Path.{_≡_};
 ghost use lib.ListN.{length, drop};
 ghost use Rattle.io.specs.Counts.{Counts};
-ghost use Rattle.cases.specs.Cases.{numberAt, entryOf, Numbers, SetIn};
+ghost use Rattle.cases.specs.Cases.{numberAt, tickAt, entryOf, Numbers, SetIn};
 
 // The smaller of a number and a limit.
 fn at_most(n: u32, limit: usize) -> usize
@@ -31,6 +33,14 @@ fn number_at(s: &[u8], at: usize) -> u32
         + 16777216 * wide_byte(s[at + 3])
 }
 
+// The number of the eight bytes from a place on, the low four first.
+fn tick_at(s: &[u8], at: usize) -> u64
+    requires { ⌜ at + 8 ≤ length (now s) ⌝ }
+    ensures { λ r. ⌜ r ≡ tickAt (now (s .entry)) at ⌝ }
+{
+    wide(number_at(s, at)) + 4294967296 * wide(number_at(s, at + 4))
+}
+
 // Reads a block to the start of a buffer, as far as the buffer goes; the answer is how many bytes were read.
 pub fn read_block(out: &mut [u8]) -> usize
     ensures { λ r. ⌜ Counts r (now (out .exit)) ⌝ }
@@ -44,7 +54,7 @@ pub fn read_block(out: &mut [u8]) -> usize
 // The numbers of four bytes in a row of bytes, as many as there are slots for them; the answer is how many.
 fn numbers(s: &[u8], out: &mut [u32]) -> usize
     ensures { λ r. ⌜ Counts r (now (out .exit)) ⌝ }
-    ensures { λ r. ⌜ Numbers (now (s .entry)) (now (out .entry)) r (now (out .exit)) ⌝ }
+    ensures { λ r. ⌜ Numbers 4 numberAt (now (s .entry)) (now (out .entry)) r (now (out .exit)) ⌝ }
 {
     let n = s.len() / 4;
     let mut i = 0;
@@ -58,6 +68,23 @@ fn numbers(s: &[u8], out: &mut [u32]) -> usize
     i
 }
 
+// The ticks of eight bytes in a row of bytes, as many as there are slots for them; the answer is how many.
+fn ticks(s: &[u8], out: &mut [u64]) -> usize
+    ensures { λ r. ⌜ Counts r (now (out .exit)) ⌝ }
+    ensures { λ r. ⌜ Numbers 8 tickAt (now (s .entry)) (now (out .entry)) r (now (out .exit)) ⌝ }
+{
+    let n = s.len() / 8;
+    let mut i = 0;
+    while i < n {
+        if i == out.len() {
+            return i;
+        }
+        out[i] = tick_at(s, 8 * i);
+        i += 1;
+    }
+    i
+}
+
 // Reads a block of numbers to the start of a column; the answer is how many were read. The slots past them keep what they held.
 pub fn read_column(out: &mut [u32]) -> usize
     ensures { λ r. ⌜ Counts r (now (out .exit)) ⌝ }
@@ -66,6 +93,16 @@ pub fn read_column(out: &mut [u32]) -> usize
     let mut bytes = [0u8; 4224];
     let n = read_block(&mut bytes);
     numbers(&bytes[..n], out)
+}
+
+// Reads a block of ticks to the start of a column; the answer is how many were read. The slots past them keep what they held.
+pub fn read_ticks(out: &mut [u64]) -> usize
+    ensures { λ r. ⌜ Counts r (now (out .exit)) ⌝ }
+    ensures { λ r. ⌜ drop r (now (out .exit)) ≡ drop r (now (out .entry)) ⌝ }
+{
+    let mut bytes = [0u8; 8448];
+    let n = read_block(&mut bytes);
+    ticks(&bytes[..n], out)
 }
 
 // Reads the label of the next case and prints it; false at the end of the input.
@@ -150,6 +187,25 @@ pub fn print_column(column: &[u32]) {
     let mut i = 0;
     while i < column.len() {
         print_slot(column[i]);
+        i += 1;
+    }
+}
+
+// Prints a blank and a slot of a column of ticks, or a stroke for the largest number, which no answer is.
+fn print_tick(v: u64) {
+    if v == 18446744073709551615 {
+        print_words(b"-");
+        return;
+    }
+    print_number(v);
+}
+
+// Prints the slots of a column of ticks after a comma.
+pub fn print_ticks(column: &[u64]) {
+    io::write_all(STDOUT_FILENO, b",");
+    let mut i = 0;
+    while i < column.len() {
+        print_tick(column[i]);
         i += 1;
     }
 }

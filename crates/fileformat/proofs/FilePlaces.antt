@@ -1,4 +1,4 @@
--- Numbers and places of the refusals of a read and of a write are bounded: no file gets past 32 tasks, 1,024 releases and the end record, which are 10,785 bytes.
+-- Numbers and places of the refusals of a read and of a write are bounded: no file gets past 32 tasks, 1,024 releases and the end record, which are 14,881 bytes.
 use Prim.Native.Nat.{ℕ, zero, suc, _+_, _*_, _≤_}
 use mathlib.Core.Path.{_≡_, refl, sym, ap, _∙_}
 use mathlib.Core.Bool.{Bool, true, false}
@@ -11,13 +11,15 @@ use Rattle.model.specs.Limits.{maxTasks, maxReleases}
 use Rattle.model.specs.Tasks.{Tasks, Release}
 use Rattle.model.specs.Refusal.{Refusal, Answer, refused}
 use Rattle.model.specs.Checks.{inRange, releaseFault}
+use Rattle.model.specs.Calls.{releasesOf}
 use Rattle.model.proofs.CheckLaws.{count-of}
 use Rattle.model.proofs.RefusalPlaces.{Within, within-known, fault-number, needs, needs-none, Limited}
 use Rattle.releases.proofs.ReleaseLaws.{length-releases}
 use Rattle.taskset.specs.declared.Task.{Task}
-use Rattle.fileformat.specs.Records.{Record, broken, taskRecord, releaseRecord, endRecord, taskFrom, releaseFrom, whole, recordOf, sizeOf}
-use Rattle.fileformat.specs.File.{File, State, Step, stop, next, last, taskFault, listFault, endFault, withTask, withRelease, unless, advance, afterEnd, readFrom, empty, decode}
-use Rattle.fileformat.specs.FileCalls.{bytesNeeded, writeInputs}
+use Rattle.fileformat.specs.Records.{Width, short, long, bodySize, Record, broken, taskRecord, releaseRecord, endRecord, taskFrom, releaseFrom, whole, recordOf, sizeOf}
+use Rattle.fileformat.specs.File.{File, State, Step, stop, next, last, taskFault, lowTick, highTick, listFault, endFault, withTask, withRelease, unless, advance, afterEnd, readBy, readFrom, empty, decode}
+use Rattle.fileformat.specs.FileCalls.{listBytes, bytesNeeded, writeInputs}
+use Rattle.fileformat.proofs.WidthLaws.{size-high, list-high}
 use Rattle.fileformat.proofs.StepLaws.{Moves, stops, takes-task, takes-release, ends, moves, read-stop, read-next, read-last}
 
 -- a number that a record is refused with
@@ -29,22 +31,27 @@ pub record Number (n : ℕ) : Type 0 where
 record-number : (f : List ℕ) (n : ℕ) → recordOf f ≡ broken n → Number n
 unfolding recordOf whole
 record-number [] n e = let w : 2 ≡ n = cc in record { low = omega arith; high = omega arith }
-record-number (k ∷ l) n e = go (eqb k 1) (eqb k 2) (eqb k 3) (ltb (length l) 16) (ltb (length l) 9) (ltb (length l) 0) refl refl refl refl refl refl
+record-number (k ∷ l) n e = go (eqb k 1) (eqb k 2) (eqb k 3) (eqb k 4) refl refl refl refl
   where
     is : (m : ℕ) → 1 ≤ m → m ≤ 11 → broken m ≡ broken n → Number n
     is m a b h = let w : m ≡ n = cc in record { low = omega arith; high = omega arith }
 
-    go : (a b c x y z : Bool) → eqb k 1 ≡ a → eqb k 2 ≡ b → eqb k 3 ≡ c → ltb (length l) 16 ≡ x → ltb (length l) 9 ≡ y → ltb (length l) 0 ≡ z → Number n
-    go true b c true y z p q r t u v = is 2 (omega arith) (omega arith) (rw (recordOf, p, whole, t) at e)
-    go true b c false y z p q r t u v =
-        let w : taskRecord (taskFrom l) ≡ broken n = rw (recordOf, p, whole, t) at e in let z : _≡_ {A = ℕ} 0 1 = cc in absurd (omega arith)
-    go false true c x true z p q r t u v = is 2 (omega arith) (omega arith) (rw (recordOf, p, q, whole, u) at e)
-    go false true c x false z p q r t u v =
-        let w : releaseRecord (releaseFrom l) ≡ broken n = rw (recordOf, p, q, whole, u) at e in let z : _≡_ {A = ℕ} 0 1 = cc in absurd (omega arith)
-    go false false true x y true p q r t u v = is 2 (omega arith) (omega arith) (rw (recordOf, p, q, r, whole, v) at e)
-    go false false true x y false p q r t u v =
-        let w : endRecord ≡ broken n = rw (recordOf, p, q, r, whole, v) at e in let z : _≡_ {A = ℕ} 0 1 = cc in absurd (omega arith)
-    go false false false x y z p q r t u v = is 1 (omega arith) (omega arith) (rw (recordOf, p, q, r) at e)
+    -- a record of a known kind: 2, where it is cut
+    cut : (m : ℕ) (r : Record) → (r ≡ broken n → ⊥) → whole m l r ≡ broken n → Number n
+    cut m r x h = go (ltb (length l) m) refl
+      where
+        go : (b : Bool) → ltb (length l) m ≡ b → Number n
+        go true g = is 2 (omega arith) (omega arith) (rw (whole, g) at h)
+        go false g = absurd (x (rw (whole, g) at h))
+
+    go : (a b c d : Bool) → eqb k 1 ≡ a → eqb k 2 ≡ b → eqb k 3 ≡ c → eqb k 4 ≡ d → Number n
+    go true b c d p q r t = cut 16 _ (λ (h : taskRecord (taskFrom l) ≡ broken n). let z : _≡_ {A = ℕ} 0 1 = cc in omega arith) (rw (recordOf, p) at e)
+    go false true c d p q r t =
+        cut (bodySize short) _ (λ (h : releaseRecord short (releaseFrom short l) ≡ broken n). let z : _≡_ {A = ℕ} 0 1 = cc in omega arith) (rw (recordOf, p, q) at e)
+    go false false true d p q r t = cut 0 _ (λ (h : endRecord ≡ broken n). let z : _≡_ {A = ℕ} 0 1 = cc in omega arith) (rw (recordOf, p, q, r) at e)
+    go false false false true p q r t =
+        cut (bodySize long) _ (λ (h : releaseRecord long (releaseFrom long l) ≡ broken n). let z : _≡_ {A = ℕ} 0 1 = cc in omega arith) (rw (recordOf, p, q, r, t) at e)
+    go false false false false p q r t = is 1 (omega arith) (omega arith) (rw (recordOf, p, q, r, t) at e)
 
 -- a number that is known
 is-number : (m n : ℕ) → 1 ≤ m → m ≤ 11 → some m ≡ some n → Number n
@@ -65,13 +72,14 @@ task-number tasks releases t n e = go (ltb 0 releases) (leb maxTasks tasks) (inR
     go false false true p q r = not-number n (rw (taskFault, p, q, r) at e)
 
 -- a release record: 5, 7, 8, 9 or 10
-list-number : (s : Tasks) (releases before : ℕ) (r : Release) (n : ℕ) → listFault s releases before r ≡ some n → Number n
+list-number : (s : Tasks) (releases before : ℕ) (w : Width) (r : Release) (n : ℕ) → listFault s releases before w r ≡ some n → Number n
 unfolding listFault
-list-number s releases before r n e = go (eqb (s .count) 0) (releaseFault s before r) (leb maxReleases releases) refl refl refl
+list-number s releases before w r n e = go (eqb (s .count) 0) (releaseFault s (lowTick w before) (highTick w) r) (leb maxReleases releases) refl refl refl
   where
-    go : (a : Bool) (o : Option ℕ) (b : Bool) → eqb (s .count) 0 ≡ a → releaseFault s before r ≡ o → leb maxReleases releases ≡ b → Number n
+    go
+        : (a : Bool) (o : Option ℕ) (b : Bool) → eqb (s .count) 0 ≡ a → releaseFault s (lowTick w before) (highTick w) r ≡ o → leb maxReleases releases ≡ b → Number n
     go true o b p q t = is-number 5 n (omega arith) (omega arith) (rw (listFault, p) at e)
-    go false (some m) b p q t = let k = fault-number s before r m q in is-number m n (omega (arith, k .0)) (omega (arith, k .1)) (rw (listFault, p, q) at e)
+    go false (some m) b p q t = let k = fault-number s (lowTick w before) (highTick w) r m q in is-number m n (omega (arith, k .0)) (omega (arith, k .1)) (rw (listFault, p, q) at e)
     go false none true p q t = is-number 10 n (omega arith) (omega arith) (rw (listFault, p, q, t) at e)
     go false none false p q t = not-number n (rw (listFault, p, q, t) at e)
 
@@ -103,20 +111,20 @@ stop-number s f k e = go (recordOf f) refl
     go : (r : Record) → recordOf f ≡ r → Number k
     go (broken n) d = let w : stop n ≡ stop k = rw d at e in let x : n ≡ k = cc in rw x at (record-number f n d)
     go (taskRecord t) d = stop-fault _ _ k (task-number _ _ t) (no-next (withTask s t)) (rw d at e)
-    go (releaseRecord r) d = stop-fault _ _ k (list-number _ _ _ r) (no-next (withRelease s r)) (rw d at e)
+    go (releaseRecord w r) d = stop-fault _ _ k (list-number _ _ _ w r) (no-next (withRelease s r)) (rw d at e)
     go endRecord d = stop-fault _ _ k (end-number _) no-last (rw d at e)
 
 -- the bytes of the tasks and releases that are read
 record Stands (s : State) (at : ℕ) : Type 0 where
-  offset : at ≡ 17 * length (s .tasks) + 10 * length (s .releases)
+  offset : at ≤ 17 * length (s .tasks) + 14 * length (s .releases)
   few-tasks : length (s .tasks) ≤ maxTasks
   few-releases : length (s .releases) ≤ maxReleases
 
 -- a refusal that is known
-within-refused : (n p : ℕ) (r : Refusal) → 1 ≤ n → n ≤ 11 → p ≤ 10785 → _≡_ {A = Answer File} (refused (record { number = n; place = p })) (refused r) → Within 10785 r
-within-refused n p r a b c e = within-known 10785 n p r a (omega arith) c (cc)
+within-refused : (n p : ℕ) (r : Refusal) → 1 ≤ n → n ≤ 11 → p ≤ 14881 → _≡_ {A = Answer File} (refused (record { number = n; place = p })) (refused r) → Within 14881 r
+within-refused n p r a b c e = within-known 14881 n p r a (omega arith) c (cc)
 
-end-within : (s : State) (at : ℕ) (l : List ℕ) (r : Refusal) → at ≤ 10785 → afterEnd s at l ≡ refused r → Within 10785 r
+end-within : (s : State) (at : ℕ) (l : List ℕ) (r : Refusal) → at ≤ 14881 → afterEnd s at l ≡ refused r → Within 14881 r
 unfolding afterEnd
 end-within s at [] r h e = let z : _≡_ {A = ℕ} 0 1 = cc in absurd (omega arith)
 end-within s at (b ∷ l) r h e = within-refused 11 at r (omega arith) (omega arith) h e
@@ -127,8 +135,8 @@ module _ (n : ℕ) (s : State) (at : ℕ) (f : List ℕ) (r : Refusal) (a : Stan
       → recordOf f ≡ q
       → advance s q ≡ t
       → Moves s q t
-      → ((s′ : State) → Stands s′ (at + sizeOf q) → readFrom n s′ (at + sizeOf q) (drop (sizeOf q) f) ≡ refused r → Within 10785 r)
-      → Within 10785 r
+      → ((s′ : State) → Stands s′ (at + sizeOf q) → readFrom n s′ (at + sizeOf q) (drop (sizeOf q) f) ≡ refused r → Within 14881 r)
+      → Within 14881 r
   unfolding sizeOf
   one-step q t d g (stops _ k) ih =
       let m = stop-number s f k (ap (advance s) d ∙ g) in
@@ -141,10 +149,10 @@ module _ (n : ℕ) (s : State) (at : ℕ) (f : List ℕ) (r : Refusal) (a : Stan
         few-releases = a .few-releases;
       })
       (sym (read-next n s at f q d (withTask s t′) g) ∙ e)
-  one-step q t d g (takes-release r′ l h m) ih =
+  one-step q t d g (takes-release w r′ l h m) ih =
       ih (withRelease s r′)
       (record {
-        offset = omega (arith, a .offset, length-append (s .releases) (r′ ∷ []));
+        offset = omega (arith, a .offset, size-high w, length-append (s .releases) (r′ ∷ []));
         few-tasks = a .few-tasks;
         few-releases = omega (arith, length-append (s .releases) (r′ ∷ []));
       })
@@ -152,27 +160,28 @@ module _ (n : ℕ) (s : State) (at : ℕ) (f : List ℕ) (r : Refusal) (a : Stan
   one-step q t d g (ends l) ih =
       end-within s (at + 1) (drop 1 f) r (omega (arith, a .offset, a .few-tasks, a .few-releases)) (sym (read-last n s at f q d g) ∙ e)
 
-from-within : (n : ℕ) (s : State) (at : ℕ) (f : List ℕ) (r : Refusal) → Stands s at → readFrom n s at f ≡ refused r → Within 10785 r
-unfolding readFrom
+from-within : (n : ℕ) (s : State) (at : ℕ) (f : List ℕ) (r : Refusal) → Stands s at → readFrom n s at f ≡ refused r → Within 14881 r
+unfolding readBy
 from-within zero s at f r a e = within-refused 2 at r (omega arith) (omega arith) (omega (arith, a .offset, a .few-tasks, a .few-releases)) e
 from-within (suc n) s at f r a e =
     one-step n s at f r a e (recordOf f) (advance s (recordOf f)) refl refl (moves s (recordOf f))
     (λ s′ b. from-within n s′ (at + sizeOf (recordOf f)) (drop (sizeOf (recordOf f)) f) r b)
 
--- a refused file, of whatever length: the place is at most 10,785
-pub decode-within : (f : List ℕ) (r : Refusal) → decode f ≡ refused r → Within 10785 r
+-- a refused file, of whatever length: the place is at most 14,881
+pub decode-within : (f : List ℕ) (r : Refusal) → decode f ≡ refused r → Within 14881 r
 unfolding decode
-decode-within f r = from-within (suc (length f)) empty 0 f r (record { offset = refl; few-tasks = omega arith; few-releases = omega arith })
+decode-within f r = from-within (suc (length f)) empty 0 f r (record { offset = omega arith; few-tasks = omega arith; few-releases = omega arith })
 
 -- a refused write: no more bytes are needed
-pub write-limited : (s : Tasks) (n : ℕ) (task tick cost : List ℕ) (room : ℕ) → Limited 10785 (writeInputs s n task tick cost room)
+pub write-limited : (s : Tasks) (n : ℕ) (task tick cost : List ℕ) (room : ℕ) → Limited 14881 (writeInputs s n task tick cost room)
 unfolding bytesNeeded
 write-limited s n task tick cost room = record {
   over = omega arith;
   single = λ j e. let z : _≡_ {A = ℕ} 0 1 = cc in absurd (omega arith);
   lent = λ f e.
-      let h : n ≤ 10785 = omega (arith, count-of n e) in
-      let b : 17 * s .count + 10 * n + 1 ≤ 10785 = omega (arith, count-of n e) in
+      let h : n ≤ 14881 = omega (arith, count-of n e) in
+      let l = releasesOf n task tick cost in
+      let b : 17 * s .count + listBytes (releasesOf n task tick cost) + 1 ≤ 14881 = omega (arith, count-of n e, list-high l, length-releases n task tick cost) in
       needs h (needs h (needs h (needs b needs-none)));
   releases = λ e. omega (arith, count-of n e, length-releases n task tick cost);
   unfit = λ j e. let z : _≡_ {A = ℕ} 0 1 = cc in absurd (omega arith);

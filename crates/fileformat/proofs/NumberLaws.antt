@@ -1,11 +1,11 @@
 -- Laws of numbers as bytes.
-use Prim.Native.Nat.{ℕ, zero, suc, _+_, _*_, _^_, _/_, _-_, _≤_, _<_}
+use Prim.Native.Nat.{ℕ, zero, suc, _+_, _*_, _^_, _/_, _%_, _-_, _≤_, _<_}
 use mathlib.Core.Path.{_≡_, refl, sym, ap, ap₂, _∙_}
 use mathlib.Core.List.{List, [], _∷_, _++_}
 use native.Mathlib.Omega.{arith}
 use native.Mathlib.Numerals.{add-one}
-use native.Mathlib.Nat.{mod-add-div, mod-eq-of-lt, div-eq-of-lt, div-lt-iff-lt-mul, add-mul-div-left, add-mul-mod-self-left}
-use lib.ListN.{length, getD, take, drop, length-drop, List·getD-eq-default}
+use native.Mathlib.Nat.{mul-assoc, mod-lt, mod-add-div, mod-eq-of-lt, div-eq-of-lt, div-lt-iff-lt-mul, add-mul-div-left, add-mul-mod-self-left}
+use lib.ListN.{length, getD, take, drop, length-append, length-drop, List·getD-eq-default}
 use lib.Seq.{getD-drop, getD-take, drop-cons, take-at, drop-append-add, length-take-le, take-add, take-take, drop-drop, take-nil}
 use mathlib.Core.Bool.{Bool, true, false}
 use lib.Dec.{ltb}
@@ -47,6 +47,55 @@ bytes-number (b ∷ l) h =
     ap₂ _∷_ (add-mul-mod-self-left b 256 (number l) ∙ mod-eq-of-lt (h 0))
     (ap (bytesOf (length l)) (add-mul-div-left b (number l) {y = 256} (omega arith) ∙ ap (λ x. x + number l) (div-eq-of-lt (h 0)) ∙ omega arith)
     ∙ bytes-number l (λ i. h (suc i)))
+
+-- the bytes of a number are bytes
+bytes-below : (k n : ℕ) → Bytes (bytesOf k n)
+unfolding bytesOf
+bytes-below zero n i = omega arith
+bytes-below (suc k) n zero = mod-lt n (omega arith)
+bytes-below (suc k) n (suc i) = bytes-below k (n / 256) i
+
+-- the number of some bytes and then others
+number-append : (a b : List ℕ) → number (a ++ b) ≡ number a + 256 ^ length a * number b
+unfolding number
+number-append [] b = omega arith
+number-append (x ∷ a) b =
+    let p : 256 ^ suc (length a) ≡ 256 * 256 ^ length a = omega arith in
+    let e : 256 ^ suc (length a) * number b ≡ 256 * (256 ^ length a * number b) = ap (λ y. y * number b) p ∙ mul-assoc 256 (256 ^ length a) (number b) in
+    omega (arith, number-append a b, e)
+
+bytes-append : (a b : List ℕ) → Bytes a → Bytes b → Bytes (a ++ b)
+bytes-append [] b f g i = g i
+bytes-append (x ∷ a) b f g zero = f 0
+bytes-append (x ∷ a) b f g (suc i) = bytes-append a b (λ j. f (suc j)) g i
+
+-- the eight bytes of a number are those of two numbers of four
+module _ (n : ℕ) where
+  abbrev lowBytes : List ℕ
+  lowBytes = bytesOf 4 (n % 4294967296)
+
+  abbrev highBytes : List ℕ
+  highBytes = bytesOf 4 (n / 4294967296)
+
+  long-both : length (lowBytes ++ highBytes) ≡ 8
+  long-both = length-append lowBytes highBytes ∙ omega (arith, length-bytes 4 (n % 4294967296), length-bytes 4 (n / 4294967296))
+
+  number-low : number lowBytes ≡ n % 4294967296
+  number-low = number-bytes 4 (n % 4294967296) (mod-lt n (omega arith))
+
+  number-high : n < 256 ^ 8 → number highBytes ≡ n / 4294967296
+  number-high h = number-bytes 4 (n / 4294967296) (div-lt-iff-lt-mul {k = 4294967296} {x = n} {y = 4294967296} (omega arith) .1 (omega arith))
+
+  number-both : n < 256 ^ 8 → number (lowBytes ++ highBytes) ≡ n
+  number-both h =
+      number-append lowBytes highBytes
+      ∙ ap (λ k. number lowBytes + 256 ^ k * number highBytes) (length-bytes 4 (n % 4294967296))
+      ∙ omega (arith, number-low, number-high h, mod-add-div n 4294967296)
+
+  pub bytes-eight : n < 256 ^ 8 → bytesOf 8 n ≡ lowBytes ++ highBytes
+  bytes-eight h =
+      ap₂ bytesOf (sym long-both) (sym (number-both h))
+      ∙ bytes-number (lowBytes ++ highBytes) (bytes-append lowBytes highBytes (bytes-below 4 (n % 4294967296)) (bytes-below 4 (n / 4294967296)))
 
 -- a field that stands first, and a field after some bytes
 pub field-here : (k n : ℕ) (l : List ℕ) → n < 256 ^ k → field 0 k (bytesOf k n ++ l) ≡ n
@@ -100,6 +149,13 @@ field-four a l h =
 pub field-drop : (a b k : ℕ) (l : List ℕ) → field b k (drop a l) ≡ field (a + b) k l
 unfolding field
 field-drop a b k l = ap (λ x. number (take k x)) (drop-drop b a l)
+
+-- eight bytes are two numbers of four
+pub field-eight : (a : ℕ) (l : List ℕ) → a + 8 ≤ length l → field a 8 l ≡ field a 4 l + 4294967296 * field (a + 4) 4 l
+unfolding field
+field-eight a l h =
+    ap number (take-part a 4 4 l) ∙ number-append (take 4 (drop a l)) (take 4 (drop (a + 4) l))
+    ∙ ap (λ n. number (take 4 (drop a l)) + 256 ^ n * number (take 4 (drop (a + 4) l))) (length-take-le 4 (drop a l) (omega (arith, length-drop a l)))
 
 pub field-one : (a : ℕ) (l : List ℕ) → a + 1 ≤ length l → field a 1 l ≡ getD l a 0
 unfolding field number

@@ -10,7 +10,7 @@ use lib.Seq.{drop-cons}
 use Rattle.model.specs.Tasks.{Release}
 use Rattle.taskset.specs.declared.Task.{Task}
 use Rattle.fileformat.specs.Numbers.{field}
-use Rattle.fileformat.specs.Records.{Record, broken, taskRecord, releaseRecord, endRecord, taskFrom, releaseFrom, recordOf, sizeOf}
+use Rattle.fileformat.specs.Records.{Width, kindOf, tickBytes, Record, broken, taskRecord, releaseRecord, endRecord, taskFrom, releaseFrom, recordOf, releaseSize, sizeOf}
 use Rattle.fileformat.proofs.NumberLaws.{field-drop}
 use Rattle.fileformat.proofs.RecordLaws.{shape, size-in, record-due, record-unknown, record-task, record-task-cut, record-release, record-release-cut, record-end}
 
@@ -31,17 +31,19 @@ module _ (f : List ℕ) (at : ℕ) where
   pub at-task : (t : Task) → at < length f → getD f at 0 ≡ 1 → 17 ≤ length f - at → t ≡ taskFrom (drop (at + 1) f) → taskRecord t ≡ recordOf (drop at f)
   at-task t h e l q = ap taskRecord q ∙ sym (ap recordOf (from-kind 1 h e) ∙ record-task _ (omega (arith, body)))
 
-  pub at-release-cut : at < length f → getD f at 0 ≡ 2 → length f - at < 10 → broken 2 ≡ recordOf (drop at f)
-  at-release-cut h e l = sym (ap recordOf (from-kind 2 h e) ∙ record-release-cut _ (omega (arith, body)))
+  pub at-release-cut : (w : Width) → at < length f → getD f at 0 ≡ kindOf w → length f - at < releaseSize w → broken 2 ≡ recordOf (drop at f)
+  at-release-cut w h e l = sym (ap recordOf (from-kind (kindOf w) h e) ∙ record-release-cut _ w (omega (arith, body)))
 
-  pub at-release : (r : Release) → at < length f → getD f at 0 ≡ 2 → 10 ≤ length f - at → r ≡ releaseFrom (drop (at + 1) f) → releaseRecord r ≡ recordOf (drop at f)
-  at-release r h e l q = ap releaseRecord q ∙ sym (ap recordOf (from-kind 2 h e) ∙ record-release _ (omega (arith, body)))
+  pub at-release
+      : (w : Width) (r : Release) → at < length f → getD f at 0 ≡ kindOf w → releaseSize w ≤ length f - at → r ≡ releaseFrom w (drop (at + 1) f)
+      → releaseRecord w r ≡ recordOf (drop at f)
+  at-release w r h e l q = ap (releaseRecord w) q ∙ sym (ap recordOf (from-kind (kindOf w) h e) ∙ record-release _ w (omega (arith, body)))
 
   pub at-end : at < length f → getD f at 0 ≡ 3 → endRecord ≡ recordOf (drop at f)
   at-end h e = sym (ap recordOf (from-kind 3 h e) ∙ record-end _)
 
-  pub at-unknown : at < length f → (getD f at 0 ≡ 1 → ⊥) → (getD f at 0 ≡ 2 → ⊥) → (getD f at 0 ≡ 3 → ⊥) → broken 1 ≡ recordOf (drop at f)
-  at-unknown h a b c = sym (ap recordOf (from-kind (getD f at 0) h refl) ∙ record-unknown _ _ a b c)
+  pub at-unknown : at < length f → (getD f at 0 ≡ 1 → ⊥) → (getD f at 0 ≡ 2 → ⊥) → (getD f at 0 ≡ 3 → ⊥) → (getD f at 0 ≡ 4 → ⊥) → broken 1 ≡ recordOf (drop at f)
+  at-unknown h a b c d = sym (ap recordOf (from-kind (getD f at 0) h refl) ∙ record-unknown _ _ a b c d)
 
   -- a record that is found ends within the file
   pub room : (r : Record) → at ≤ length f → r ≡ recordOf (drop at f) → at + sizeOf r ≤ length f
@@ -56,7 +58,7 @@ module _ (f : List ℕ) (at : ℕ) where
       rw (field-drop at 0 4 f, field-drop at 4 4 f, field-drop at 8 4 f, field-drop at 12 4 f, a, b, c, g, add-zero)
 
   pub release-fields
-      : (i t c : ℕ) → i ≡ field at 1 f → t ≡ field (at + 1) 4 f → c ≡ field (at + 5) 4 f
-      → _≡_ {A = Release} (record { task = i; tick = t; cost = c }) (releaseFrom (drop at f))
+      : (w : Width) (i t c : ℕ) → i ≡ field at 1 f → t ≡ field (at + 1) (tickBytes w) f → c ≡ field (at + (1 + tickBytes w)) 4 f
+      → _≡_ {A = Release} (record { task = i; tick = t; cost = c }) (releaseFrom w (drop at f))
   unfolding releaseFrom
-  release-fields i t c a b g = rw (field-drop at 0 1 f, field-drop at 1 4 f, field-drop at 5 4 f, a, b, g, add-zero)
+  release-fields w i t c a b g = rw (field-drop at 0 1 f, field-drop at 1 (tickBytes w) f, field-drop at (1 + tickBytes w) 4 f, a, b, g, add-zero)

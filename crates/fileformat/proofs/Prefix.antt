@@ -1,4 +1,4 @@
--- The answer of a read depends on the first 10,801 bytes only: 32 tasks, 1,024 releases and one task record more.
+-- The answer of a read depends on the first 14,897 bytes only: 32 tasks, 1,024 releases and one task record more.
 use Prim.Native.Nat.{ℕ, zero, suc, _+_, _*_, _-_, _≤_, _<_}
 use mathlib.Core.Path.{_≡_, refl, sym, ap, _∙_}
 use mathlib.Core.Bool.{Bool, true, false}
@@ -9,11 +9,12 @@ use lib.Dec.{eqb}
 use lib.ListN.{length, take, drop, length-take, length-drop, length-append}
 use lib.Seq.{take-take}
 use Rattle.model.specs.Limits.{maxTasks, maxReleases}
-use Rattle.fileformat.specs.Records.{Record, taskRecord, releaseRecord, taskFrom, releaseFrom, whole, recordOf, sizeOf}
+use Rattle.fileformat.specs.Records.{Width, short, long, tickBytes, bodySize, Record, taskRecord, releaseRecord, taskFrom, releaseFrom, whole, recordOf, sizeOf}
 use Rattle.fileformat.specs.File.{State, Step, next, withTask, withRelease, advance, afterEnd, readFrom, empty, decode}
 use Rattle.fileformat.specs.RoundTrips.{FirstBytesDecide}
 use Rattle.fileformat.proofs.NumberLaws.{by-order, drop-take, field-take}
-use Rattle.fileformat.proofs.RecordLaws.{shape, size-in, whole-is, whole-cut, record-unknown}
+use Rattle.fileformat.proofs.RecordLaws.{shape, size-in, whole-is, whole-cut, record-unknown, tick-bytes}
+use Rattle.fileformat.proofs.WidthLaws.{size-high}
 use Rattle.fileformat.proofs.StepLaws.{Moves, stops, takes-task, takes-release, ends, moves, read-stop, read-next, read-last}
 
 whole-take : (n m : ℕ) (l : List ℕ) (r r′ : Record) → n ≤ m → r ≡ r′ → whole n (take m l) r ≡ whole n l r′
@@ -27,21 +28,27 @@ unfolding taskFrom
 task-take m l h =
     rw (field-take 0 4 m l (omega arith), field-take 4 4 m l (omega arith), field-take 8 4 m l (omega arith), field-take 12 4 m l (omega arith))
 
-release-take : (m : ℕ) (l : List ℕ) → 16 ≤ m → releaseFrom (take m l) ≡ releaseFrom l
+release-take : (w : Width) (m : ℕ) (l : List ℕ) → 16 ≤ m → releaseFrom w (take m l) ≡ releaseFrom w l
 unfolding releaseFrom
-release-take m l h = rw (field-take 0 1 m l (omega arith), field-take 1 4 m l (omega arith), field-take 5 4 m l (omega arith))
+release-take w m l h =
+    let k = tick-bytes w .1 in
+    rw (field-take 0 1 m l (omega arith), field-take 1 (tickBytes w) m l (omega (arith, k)), field-take (1 + tickBytes w) 4 m l (omega (arith, k)))
 
 -- a record depends on the first 17 bytes only
 body-take : (k m : ℕ) (l : List ℕ) → 16 ≤ m → recordOf (k ∷ take m l) ≡ recordOf (k ∷ l)
 unfolding recordOf
 body-take k m l h = one (eqb k 1) refl
   where
+    four : (k ≡ 1 → ⊥) → (k ≡ 2 → ⊥) → (k ≡ 3 → ⊥) → (b : Bool) → eqb k 4 ≡ b → recordOf (k ∷ take m l) ≡ recordOf (k ∷ l)
+    four x y z true e = rw (eqb-true k 4 e) (whole-take (bodySize long) m l _ _ (omega arith) (ap (releaseRecord long) (release-take long m l h)))
+    four x y z false e = record-unknown k (take m l) x y z (eqb-false k 4 e) ∙ sym (record-unknown k l x y z (eqb-false k 4 e))
+
     three : (k ≡ 1 → ⊥) → (k ≡ 2 → ⊥) → (b : Bool) → eqb k 3 ≡ b → recordOf (k ∷ take m l) ≡ recordOf (k ∷ l)
     three x y true e = rw (eqb-true k 3 e) (whole-take 0 m l _ _ (omega arith) refl)
-    three x y false e = record-unknown k (take m l) x y (eqb-false k 3 e) ∙ sym (record-unknown k l x y (eqb-false k 3 e))
+    three x y false e = four x y (eqb-false k 3 e) (eqb k 4) refl
 
     two : (k ≡ 1 → ⊥) → (b : Bool) → eqb k 2 ≡ b → recordOf (k ∷ take m l) ≡ recordOf (k ∷ l)
-    two x true e = rw (eqb-true k 2 e) (whole-take 9 m l _ _ (omega arith) (ap releaseRecord (release-take m l h)))
+    two x true e = rw (eqb-true k 2 e) (whole-take (bodySize short) m l _ _ (omega arith) (ap (releaseRecord short) (release-take short m l h)))
     two x false e = three x (eqb-false k 2 e) (eqb k 3) refl
 
     one : (b : Bool) → eqb k 1 ≡ b → recordOf (k ∷ take m l) ≡ recordOf (k ∷ l)
@@ -61,10 +68,10 @@ end-take s at (suc m) (b ∷ l) h = refl
 
 -- where a reading stands: so many bytes were read for the tasks and releases, and m more are looked at
 record Stands (s : State) (at m : ℕ) : Type 0 where
-  offset : at ≡ 17 * length (s .tasks) + 10 * length (s .releases)
+  offset : at ≤ 17 * length (s .tasks) + 14 * length (s .releases)
   few-tasks : length (s .tasks) ≤ maxTasks
   few-releases : length (s .releases) ≤ maxReleases
-  ahead : m + at ≡ 10801
+  ahead : m + at ≡ 14897
 
 module _ (n n′ : ℕ) (s : State) (at m : ℕ) (f : List ℕ) (a : Stands s at m) (h : length f < suc n) (h′ : length (take m f) < suc n′) where
   abbrev Rest : ℕ → Type 0
@@ -99,13 +106,13 @@ module _ (n n′ : ℕ) (s : State) (at m : ℕ) (f : List ℕ) (a : Stands s at
         ahead = omega (arith, a .ahead, long-enough);
       })
       ih
-  one-step r t d e (takes-release r′ l g q) ih =
-      taken r (withRelease s r′) d (record-take m f long-enough ∙ d) e (omega arith) (omega arith)
+  one-step r t d e (takes-release w r′ l g q) ih =
+      taken r (withRelease s r′) d (record-take m f long-enough ∙ d) e (omega arith) (omega (arith, size-high w))
       (record {
-        offset = omega (arith, a .offset, length-append (s .releases) (r′ ∷ []));
+        offset = omega (arith, a .offset, size-high w, length-append (s .releases) (r′ ∷ []));
         few-tasks = a .few-tasks;
         few-releases = omega (arith, length-append (s .releases) (r′ ∷ []));
-        ahead = omega (arith, a .ahead, long-enough);
+        ahead = omega (arith, a .ahead, size-high w, long-enough);
       })
       ih
   one-step r t d e (ends l) ih =
@@ -122,12 +129,12 @@ prefix-from (suc n) (suc n′) s at m f a h h′ =
     (λ s′ b g g′. prefix-from n n′ s′ (at + sizeOf (recordOf f)) (m - sizeOf (recordOf f)) (drop (sizeOf (recordOf f)) f) b g g′)
 
 -- the bytes that decide a read
-pub decode-prefix : (f : List ℕ) → decode (take 10801 f) ≡ decode f
+pub decode-prefix : (f : List ℕ) → decode (take 14897 f) ≡ decode f
 unfolding decode
 decode-prefix f =
-    prefix-from (suc (length f)) (suc (length (take 10801 f))) empty 0 10801 f
-    (record { offset = refl; few-tasks = omega arith; few-releases = omega arith; ahead = refl }) (omega arith) (omega arith)
+    prefix-from (suc (length f)) (suc (length (take 14897 f))) empty 0 14897 f
+    (record { offset = omega arith; few-tasks = omega arith; few-releases = omega arith; ahead = refl }) (omega arith) (omega arith)
 
 -- and so do more bytes
 pub decode-first : FirstBytesDecide
-decode-first n f h = sym (decode-prefix (take n f)) ∙ ap decode (take-take 10801 n f h) ∙ decode-prefix f
+decode-first n f h = sym (decode-prefix (take n f)) ∙ ap decode (take-take 14897 n f h) ∙ decode-prefix f

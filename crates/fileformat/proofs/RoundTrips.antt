@@ -1,12 +1,12 @@
--- The two round trips, and that what is read is within document 01's limits.
-use Prim.Native.Nat.{ℕ, zero, suc, _+_, _*_, _≤_, _<_}
+-- The two round trips, and that what is read is within the limits.
+use Prim.Native.Nat.{ℕ, zero, suc, _+_, _*_, _^_, _-_, _≤_, _<_}
 use mathlib.Core.Path.{_≡_, refl, sym, ap, ap₂, _∙_}
 use mathlib.Core.Option.{none}
 use mathlib.Core.List.{List, [], _∷_, _++_, map, append-assoc, append-nil, map-append}
 use native.Mathlib.Omega.{arith}
 use lib.ListN.{length, getD, drop, length-append}
 use lib.Seq.{drop-at, getD-drop, append-snoc}
-use Rattle.model.specs.Limits.{maxTasks, maxReleases}
+use Rattle.model.specs.Limits.{maxTasks, maxReleases, maxTick, maxShortTick}
 use Rattle.model.specs.Tasks.{Release, Valid}
 use Rattle.model.specs.Refusal.{Refusal, refused, answered}
 use Rattle.model.specs.Checks.{releaseFault, checkReleases}
@@ -15,9 +15,11 @@ use Rattle.model.proofs.TraceLaws.{Passed, passed-of, releases-next, passes-con
 use Rattle.taskset.specs.declared.Task.{Task}
 use Rattle.taskset.specs.TaskSet.{noTask}
 use Rattle.fileformat.specs.Numbers.{Bytes}
-use Rattle.fileformat.specs.Records.{Record, taskRecord, releaseRecord, endRecord, recordOf, taskBytes, releaseBytes, recordBytes, sizeOf}
-use Rattle.fileformat.specs.File.{File, State, Step, sheetOf, recordsOf, joined, encode, withTask, withRelease, advance, afterEnd, readFrom, empty, decode, ValidFile}
-use Rattle.fileformat.specs.RoundTrips.{WrittenIsRead, ReadIsWritten, ReadIsValid}
+use Rattle.fileformat.specs.Records.{Width, short, long, tickBytes, Record, taskRecord, releaseRecord, endRecord, recordOf, taskBytes, releaseBytes, releaseSize, recordBytes, sizeOf, widthFor, writtenRecord}
+use Rattle.fileformat.specs.File.{File, State, Step, lowTick, highTick, sheetOf, recordsOf, joined, encode, withTask, withRelease, advance, afterEnd, readBy, readFrom, empty, decode, ValidFile}
+use Rattle.fileformat.specs.FileCalls.{listBytes}
+use Rattle.fileformat.specs.RoundTrips.{WrittenIsRead, ReadIsWritten, ReadIsValid, RecordSizes, ReadIsShort}
+use Rattle.fileformat.proofs.WidthLaws.{any-kind, kind-written, written-kind, list-low, list-high}
 use Rattle.fileformat.proofs.RecordLaws.{shape, TaskFits, ReleaseFits, length-task, length-release, task-read, release-read, record-end, bytes-read}
 use Rattle.fileformat.proofs.StepLaws.{task-fine, list-fine, end-fine, Ranged, Moves, stops, takes-task, takes-release, ends, moves, task-taken, release-taken, end-taken, read-stop, read-next, read-last}
 
@@ -31,13 +33,13 @@ abbrev pub taskPart : List Task → List ℕ
 taskPart l = joined (map taskRecord l)
 
 abbrev pub releasePart : List Release → List ℕ
-releasePart l = joined (map releaseRecord l)
+releasePart l = joined (map writtenRecord l)
 
 pub encode-parts : (x : File) → encode x ≡ taskPart (x .tasks) ++ (releasePart (x .releases) ++ (3 ∷ []))
 unfolding encode recordsOf joined recordBytes
 encode-parts x =
-    joined-append (map taskRecord (x .tasks)) (map releaseRecord (x .releases) ++ (endRecord ∷ []))
-    ∙ ap (λ y. taskPart (x .tasks) ++ y) (joined-append (map releaseRecord (x .releases)) (endRecord ∷ []))
+    joined-append (map taskRecord (x .tasks)) (map writtenRecord (x .releases) ++ (endRecord ∷ []))
+    ∙ ap (λ y. taskPart (x .tasks) ++ y) (joined-append (map writtenRecord (x .releases)) (endRecord ∷ []))
 
 pub task-part-more : (l : List Task) (t : Task) → taskPart (l ++ (t ∷ [])) ≡ taskPart l ++ taskBytes t
 unfolding joined recordBytes
@@ -45,11 +47,15 @@ task-part-more l t =
     ap joined (map-append taskRecord l (t ∷ [])) ∙ joined-append (map taskRecord l) (taskRecord t ∷ [])
     ∙ ap (λ x. taskPart l ++ x) (append-nil (taskBytes t))
 
-pub release-part-more : (l : List Release) (r : Release) → releasePart (l ++ (r ∷ [])) ≡ releasePart l ++ releaseBytes r
+-- the bytes of a release as it is written
+abbrev pub writtenBytes : Release → List ℕ
+writtenBytes r = releaseBytes (widthFor (r .tick)) r
+
+pub release-part-more : (l : List Release) (r : Release) → releasePart (l ++ (r ∷ [])) ≡ releasePart l ++ writtenBytes r
 unfolding joined recordBytes
 release-part-more l r =
-    ap joined (map-append releaseRecord l (r ∷ [])) ∙ joined-append (map releaseRecord l) (releaseRecord r ∷ [])
-    ∙ ap (λ x. releasePart l ++ x) (append-nil (releaseBytes r))
+    ap joined (map-append writtenRecord l (r ∷ [])) ∙ joined-append (map writtenRecord l) (writtenRecord r ∷ [])
+    ∙ ap (λ x. releasePart l ++ x) (append-nil (writtenBytes r))
 
 pub length-task-part : (l : List Task) → length (taskPart l) ≡ 17 * length l
 unfolding joined recordBytes
@@ -57,14 +63,14 @@ length-task-part [] = refl
 length-task-part (t ∷ l) =
     length-append (taskBytes t) (taskPart l) ∙ omega (arith, length-task t, length-task-part l)
 
-pub length-release-part : (l : List Release) → length (releasePart l) ≡ 10 * length l
-unfolding joined recordBytes
+pub length-release-part : (l : List Release) → length (releasePart l) ≡ listBytes l
+unfolding joined recordBytes listBytes
 length-release-part [] = refl
 length-release-part (r ∷ l) =
-    length-append (releaseBytes r) (releasePart l) ∙ omega (arith, length-release r, length-release-part l)
+    length-append (writtenBytes r) (releasePart l) ∙ omega (arith, length-release (widthFor (r .tick)) r, length-release-part l)
 
--- 17n + 10m + 1 bytes
-pub length-encode : (x : File) → length (encode x) ≡ 17 * length (x .tasks) + 10 * length (x .releases) + 1
+-- 17 bytes for each task, those of the releases, and 1
+pub length-encode : (x : File) → length (encode x) ≡ 17 * length (x .tasks) + listBytes (x .releases) + 1
 length-encode x =
     ap length (encode-parts x) ∙ length-append (taskPart (x .tasks)) (releasePart (x .releases) ++ (3 ∷ []))
     ∙ omega (arith, length-append (releasePart (x .releases)) (3 ∷ []), length-task-part (x .tasks), length-release-part (x .releases))
@@ -83,10 +89,11 @@ part-task s t z =
     rw (no-part (s .releases) z)
     (append-nil _ ∙ task-part-more (s .tasks) t ∙ ap (λ x. x ++ taskBytes t) (sym (append-nil (taskPart (s .tasks)))))
 
-part-release : (s : State) (r : Release) → partOf (withRelease s r) ≡ partOf s ++ releaseBytes r
-part-release s r =
+part-release : (s : State) (w : Width) (r : Release) → w ≡ widthFor (r .tick) → partOf (withRelease s r) ≡ partOf s ++ releaseBytes w r
+part-release s w r e =
     ap (λ x. taskPart (s .tasks) ++ x) (release-part-more (s .releases) r)
-    ∙ sym (append-assoc (taskPart (s .tasks)) (releasePart (s .releases)) (releaseBytes r))
+    ∙ sym (append-assoc (taskPart (s .tasks)) (releasePart (s .releases)) (writtenBytes r))
+    ∙ ap (λ v. partOf s ++ releaseBytes v r) (sym e)
 
 bytes-drop : (k : ℕ) (f : List ℕ) → Bytes f → Bytes (drop k f)
 bytes-drop k f b i = rw (getD-drop k f i 0) (b (k + i))
@@ -117,8 +124,8 @@ written-step n s at f x r t d a (stops q k) b e ih =
 written-step n s at f x r t d a (takes-task t′ z l g) b e ih =
     follows s (withTask s t′) f r x (part-task s t′ z) (bytes-read f r (rw d at (shape f)) b (λ k i. let w : _≡_ {A = ℕ} 0 1 = cc in omega arith))
     (ih _ (sym (read-next n s at f r d _ a) ∙ e))
-written-step n s at f x r t d a (takes-release r′ l g m) b e ih =
-    follows s (withRelease s r′) f r x (part-release s r′) (bytes-read f r (rw d at (shape f)) b (λ k i. let w : _≡_ {A = ℕ} 0 1 = cc in omega arith))
+written-step n s at f x r t d a (takes-release w r′ l g m) b e ih =
+    follows s (withRelease s r′) f r x (part-release s w r′ (kind-written (sheetOf (s .tasks)) (s .before) r′ w g)) (bytes-read f r (rw d at (shape f)) b (λ k i. let w : _≡_ {A = ℕ} 0 1 = cc in omega arith))
     (ih _ (sym (read-next n s at f r d _ a) ∙ e))
 written-step n s at f x r t d a (ends l) b e ih =
     let g = after-end s _ _ x (sym (read-last n s at f r d a) ∙ e) in
@@ -128,7 +135,7 @@ written-step n s at f x r t d a (ends l) b e ih =
     ∙ ap (λ y. partOf s ++ y) (ap (λ y. 3 ∷ y) (sym (g .0)) ∙ bytes-read f r (rw d at (shape f)) b (λ k i. let w : _≡_ {A = ℕ} 0 1 = cc in omega arith))
 
 written : (n : ℕ) (s : State) (at : ℕ) (f : List ℕ) (x : File) → Bytes f → readFrom n s at f ≡ answered x → encode x ≡ partOf s ++ f
-unfolding readFrom
+unfolding readBy
 written zero s at f x b e = absurd (never-answered _ x e)
 written (suc n) s at f x b e =
     written-step n s at f x (recordOf f) (advance s (recordOf f)) refl refl (moves s (recordOf f)) b e
@@ -153,8 +160,8 @@ AllRanged l = (i : ℕ) → i < length l → Ranged (getD l i noTask)
 drop-task : (t : Task) (m : List ℕ) → drop 17 (taskBytes t ++ m) ≡ m
 drop-task t m = drop-at (taskBytes t) m 17 (length-task t)
 
-drop-release : (r : Release) (m : List ℕ) → drop 10 (releaseBytes r ++ m) ≡ m
-drop-release r m = drop-at (releaseBytes r) m 10 (length-release r)
+drop-release : (w : Width) (r : Release) (m : List ℕ) → drop (releaseSize w) (releaseBytes w r ++ m) ≡ m
+drop-release w r m = drop-at (releaseBytes w r) m (releaseSize w) (length-release w r)
 
 -- tasks that are written are read
 reads-task
@@ -186,19 +193,32 @@ reads-tasks (t ∷ l) n ts at m h c =
 abbrev readTo : List Task → List Release → ℕ → State
 readTo ts rs before = record { tasks = ts; releases = rs; before = before }
 
-passed-fits : (ts : List Task) (before : ℕ) (r : Release) → Valid (sheetOf ts) → Passed (sheetOf ts) before r → ReleaseFits r
-passed-fits ts before r v p =
-    record { task = omega (arith, v .few-tasks, p .known); tick = omega (arith, p .tick-high); cost = omega (arith, p .cost-high, v .in-range (r .task) (p .known)) }
+-- ticks that a record may have are held by its bytes
+tick-fits : (w : Width) (t : ℕ) → t ≤ highTick w → t < 256 ^ tickBytes w
+tick-fits short t h = omega arith
+tick-fits long t h = omega arith
+
+passed-fits
+    : (ts : List Task) (before : ℕ) (w : Width) (r : Release) → Valid (sheetOf ts) → Passed (sheetOf ts) (lowTick w before) (highTick w) r → ReleaseFits w r
+passed-fits ts before w r v p =
+    record {
+      task = omega (arith, v .few-tasks, p .known);
+      tick = tick-fits w (r .tick) (p .tick-high);
+      cost = omega (arith, p .cost-high, v .in-range (r .task) (p .known));
+    }
 
 reads-release
-    : (r : Release) (n : ℕ) (ts : List Task) (rs : List Release) (before at : ℕ) (m : List ℕ) → Valid (sheetOf ts) → releaseFault (sheetOf ts) before r ≡ none
-    → length rs < maxReleases → readFrom (suc n) (readTo ts rs before) at (releaseBytes r ++ m) ≡ readFrom n (readTo ts (rs ++ (r ∷ [])) (r .tick)) (at + 10) m
+    : (r : Release) (n : ℕ) (ts : List Task) (rs : List Release) (before at : ℕ) (m : List ℕ) → Valid (sheetOf ts)
+    → releaseFault (sheetOf ts) before maxTick r ≡ none → length rs < maxReleases
+    → readFrom (suc n) (readTo ts rs before) at (writtenBytes r ++ m) ≡ readFrom n (readTo ts (rs ++ (r ∷ [])) (r .tick)) (at + releaseSize (widthFor (r .tick))) m
 unfolding sizeOf
 reads-release r n ts rs before at m v h l =
-    read-next n (readTo ts rs before) at (releaseBytes r ++ m) (releaseRecord r)
-    (release-read r m (passed-fits ts before r v (passed-of (sheetOf ts) before r h))) (readTo ts (rs ++ (r ∷ [])) (r .tick))
-    (release-taken (readTo ts rs before) r (list-fine (sheetOf ts) _ _ r (v .some-task) h l))
-    ∙ ap (readFrom n (readTo ts (rs ++ (r ∷ [])) (r .tick)) (at + 10)) (drop-release r m)
+    let w = widthFor (r .tick) in
+    let k = written-kind (sheetOf ts) before r h in
+    read-next n (readTo ts rs before) at (releaseBytes w r ++ m) (releaseRecord w r)
+    (release-read w r m (passed-fits ts before w r v (passed-of (sheetOf ts) (lowTick w before) (highTick w) r k))) (readTo ts (rs ++ (r ∷ [])) (r .tick))
+    (release-taken (readTo ts rs before) w r (list-fine (sheetOf ts) _ _ w r (v .some-task) k l))
+    ∙ ap (readFrom n (readTo ts (rs ++ (r ∷ [])) (r .tick)) (at + releaseSize w)) (drop-release w r m)
 
 reads-releases
     : (l : List Release) (n : ℕ) (ts : List Task) (rs : List Release) (before p at : ℕ) (m : List ℕ) (x : File) → Valid (sheetOf ts)
@@ -211,9 +231,9 @@ reads-releases [] n ts rs before p at m x v h c g =
 reads-releases (r ∷ l) n ts rs before p at m x v h c g =
     let e : suc (length l) + n ≡ suc (length l + n) = omega arith in
     let q = passes-cons (sheetOf ts) before p r l h in
-    ap₂ (λ k f. readFrom k (readTo ts rs before) at f) e (append-assoc (releaseBytes r) (releasePart l) m)
+    ap₂ (λ k f. readFrom k (readTo ts rs before) at f) e (append-assoc (writtenBytes r) (releasePart l) m)
     ∙ reads-release r (length l + n) ts rs before at (releasePart l ++ m) v (q .0) (omega arith)
-    ∙ reads-releases l n ts (rs ++ (r ∷ [])) (r .tick) (suc p) (at + 10) m x v (q .1) (omega (arith, length-append rs (r ∷ [])))
+    ∙ reads-releases l n ts (rs ++ (r ∷ [])) (r .tick) (suc p) (at + releaseSize (widthFor (r .tick))) m x v (q .1) (omega (arith, length-append rs (r ∷ [])))
     (λ b k. rw (append-snoc rs r l) (g b k))
 
 reads-end
@@ -228,16 +248,14 @@ unfolding decode
 decode-encode x h =
     let v = valid-of (sheetOf (x .tasks)) (h .tasks) in
     let c : length (x .tasks) ≤ maxTasks = v .few-tasks in
-    let e : suc (length (encode x)) ≡ length (x .tasks) + (length (x .releases) + suc (16 * length (x .tasks) + 9 * length (x .releases) + 1)) = omega
-    (arith, length-encode x) in
+    let n = 16 * length (x .tasks) + (listBytes (x .releases) - length (x .releases)) + 1 in
+    let e : suc (length (encode x)) ≡ length (x .tasks) + (length (x .releases) + suc n) = omega (arith, length-encode x, list-low (x .releases)) in
     ap₂ (λ k f. readFrom k empty 0 f) e (encode-parts x)
-    ∙ reads-tasks (x .tasks) (length (x .releases) + suc (16 * length (x .tasks) + 9 * length (x .releases) + 1)) [] 0 (releasePart (x .releases) ++ (3 ∷ []))
-    (v .in-range) (omega arith)
-    ∙ reads-releases (x .releases) (suc (16 * length (x .tasks) + 9 * length (x .releases) + 1)) (x .tasks) [] 0 0 (0 + 17 * length (x .tasks)) (3 ∷ []) x v (h .releases)
-    (omega (arith, h .few))
-    (λ b k. reads-end (16 * length (x .tasks) + 9 * length (x .releases) + 1) (x .tasks) (x .releases) b k (v .some-task))
+    ∙ reads-tasks (x .tasks) (length (x .releases) + suc n) [] 0 (releasePart (x .releases) ++ (3 ∷ [])) (v .in-range) (omega arith)
+    ∙ reads-releases (x .releases) (suc n) (x .tasks) [] 0 0 (0 + 17 * length (x .tasks)) (3 ∷ []) x v (h .releases) (omega (arith, h .few))
+    (λ b k. reads-end n (x .tasks) (x .releases) b k (v .some-task))
 
--- what is read so far is within document 01's limits
+-- what is read so far is within the limits
 record Good (s : State) : Type 0 where
   ranged : AllRanged (s .tasks)
   few-tasks : length (s .tasks) ≤ maxTasks
@@ -266,7 +284,7 @@ good-task s t g z l h =
       fresh = g .fresh;
     }
 
-good-release : (s : State) (r : Release) → Good s → releaseFault (sheetOf (s .tasks)) (s .before) r ≡ none → length (s .releases) < maxReleases → Good (withRelease s r)
+good-release : (s : State) (r : Release) → Good s → releaseFault (sheetOf (s .tasks)) (s .before) maxTick r ≡ none → length (s .releases) < maxReleases → Good (withRelease s r)
 good-release s r g f l =
     let e : length (s .releases ++ (r ∷ [])) ≡ suc (length (s .releases)) = omega (arith, length-append (s .releases) (r ∷ [])) in
     record {
@@ -295,22 +313,39 @@ valid-step
 valid-step n s at f x r t d a (stops q k) g e ih = absurd (never-answered _ x (sym (read-stop n s at f r d k a) ∙ e))
 valid-step n s at f x r t d a (takes-task t′ z l h) g e ih =
     ih _ (good-task s t′ g z l h) (sym (read-next n s at f r d _ a) ∙ e)
-valid-step n s at f x r t d a (takes-release r′ l h m) g e ih =
-    ih _ (good-release s r′ g h m) (sym (read-next n s at f r d _ a) ∙ e)
+valid-step n s at f x r t d a (takes-release w r′ l h m) g e ih =
+    ih _ (good-release s r′ g (any-kind (sheetOf (s .tasks)) (s .before) r′ w h) m) (sym (read-next n s at f r d _ a) ∙ e)
 valid-step n s at f x r t d a (ends l) g e ih =
     rw (after-end s _ _ x (sym (read-last n s at f r d a) ∙ e) .1) (good-valid s g l)
 
 valid-from : (n : ℕ) (s : State) (at : ℕ) (f : List ℕ) (x : File) → Good s → readFrom n s at f ≡ answered x → ValidFile x
-unfolding readFrom
+unfolding readBy
 valid-from zero s at f x g e = absurd (never-answered _ x e)
 valid-from (suc n) s at f x g e =
     valid-step n s at f x (recordOf f) (advance s (recordOf f)) refl refl (moves s (recordOf f)) g e
     (λ s′ g′ e′. valid-from n s′ _ _ x g′ e′)
 
--- what is read is within document 01's limits
+-- what is read is within the limits
 pub decode-valid : ReadIsValid
 unfolding decode
 decode-valid f x e =
     valid-from (suc (length f)) empty 0 f x
     (record { ranged = λ i l. absurd (omega arith); few-tasks = omega arith; few-releases = omega arith; checked = λ l. refl; fresh = λ z. refl })
     e
+
+-- how long records are, and so an accepted file
+pub record-sizes : RecordSizes
+unfolding recordBytes
+record-sizes t r = (length-task t, length-release short r, length-release long r)
+
+pub decode-short : ReadIsShort
+decode-short f x b e =
+    let v = decode-valid f x e in
+    omega (
+      arith,
+      ap length (encode-decode f x b e),
+      length-encode x,
+      list-high (x .releases),
+      v .few,
+      valid-of (sheetOf (x .tasks)) (v .tasks) .few-tasks,
+    )

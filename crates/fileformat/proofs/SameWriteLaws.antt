@@ -34,7 +34,7 @@ module _ (s s′ : TaskSet) (same : SameTasks (viewOf s) (viewOf s′)) where
     refused-alike : refusalOf (writeInputs (viewOf s) n task tick cost (length out)) ≡ refusalOf (writeInputs (viewOf s′) n task tick cost (length out))
     refused-alike =
         refusal-same (viewOf s) (viewOf s′) same none (some n) _ _ none (releasesOf n task tick cost) none none
-        (ap (λ c. lends n task ∷ lends n tick ∷ lends n cost ∷ record { needed = bytesNeeded c n; slots = length out } ∷ []) (same .count))
+        (ap (λ c. lends n task ∷ lends n tick ∷ lends n cost ∷ record { needed = bytesNeeded c (releasesOf n task tick cost); slots = length out } ∷ []) (same .count))
         refl
 
     -- a set that is not refused has an entry for each of its tasks

@@ -13,7 +13,8 @@ use Rattle.model.specs.SameTasks.{SameTasks}
 use Rattle.model.proofs.SameAnswers.{fault-same}
 use Rattle.taskset.specs.declared.TaskSet.{TaskSet}
 use Rattle.taskset.specs.TaskSet.{noTask, viewOf}
-use Rattle.fileformat.specs.File.{sheetOf, listFault}
+use Rattle.fileformat.specs.Records.{Width}
+use Rattle.fileformat.specs.File.{sheetOf, lowTick, highTick, listFault}
 use Rattle.fileformat.specs.FileCalls.{tasksIn, setOf}
 
 -- a release record is checked against the count and the release's own fault
@@ -24,9 +25,9 @@ faults n c o =
       | false ↦ elim o [ some k ↦ some k | none ↦ elim (leb maxReleases n) [ true ↦ some 10 | false ↦ none ] ]
     ]
 
-pub list-agrees : (s s′ : Tasks) (n before : ℕ) (r : Release) → SameTasks s s′ → listFault s n before r ≡ listFault s′ n before r
+pub list-agrees : (s s′ : Tasks) (n before : ℕ) (w : Width) (r : Release) → SameTasks s s′ → listFault s n before w r ≡ listFault s′ n before w r
 unfolding listFault
-list-agrees s s′ n before r a = ap₂ (faults n) (a .count) (fault-same s s′ a before r)
+list-agrees s s′ n before w r a = ap₂ (faults n) (a .count) (fault-same s s′ a (lowTick w before) (highTick w) r)
 
 -- a task set whose count is within its array
 module _ (s : TaskSet) (h : s .count ≤ length (s .tasks)) where

@@ -14,8 +14,8 @@ use Rattle.model.specs.Refusal.{refused}
 use Rattle.model.specs.Checks.{inRange, releaseFault}
 use Rattle.model.proofs.CheckLaws.{in-range-of}
 use Rattle.taskset.specs.declared.Task.{Task}
-use Rattle.fileformat.specs.Records.{Record, broken, taskRecord, releaseRecord, endRecord, recordOf, sizeOf}
-use Rattle.fileformat.specs.File.{State, Step, stop, next, last, sheetOf, taskFault, listFault, endFault, withTask, withRelease, unless, advance, afterEnd, readFrom}
+use Rattle.fileformat.specs.Records.{Width, Record, broken, taskRecord, releaseRecord, endRecord, recordOf, sizeOf}
+use Rattle.fileformat.specs.File.{State, Step, stop, next, last, sheetOf, taskFault, lowTick, highTick, listFault, endFault, withTask, withRelease, unless, advance, afterEnd, readBy, readFrom}
 
 -- P, J, E and D of a task are within their limits
 abbrev pub Ranged : Task → Type 0
@@ -50,20 +50,20 @@ task-same tasks releases t u e = go (ltb 0 releases) (leb maxTasks tasks) refl r
     go false true p q = rw (taskFault, p, q)
     go false false p q = rw (taskFault, p, q, e)
 
-module _ (s : Tasks) (releases before : ℕ) (r : Release) where
-  pub list-early : s .count ≡ 0 → listFault s releases before r ≡ some 5
+module _ (s : Tasks) (releases before : ℕ) (w : Width) (r : Release) where
+  pub list-early : s .count ≡ 0 → listFault s releases before w r ≡ some 5
   unfolding listFault
   list-early h = rw (listFault, eq-eqb (s .count) 0 h)
 
-  pub list-fault : (n : ℕ) → 1 ≤ s .count → releaseFault s before r ≡ some n → listFault s releases before r ≡ some n
+  pub list-fault : (n : ℕ) → 1 ≤ s .count → releaseFault s (lowTick w before) (highTick w) r ≡ some n → listFault s releases before w r ≡ some n
   unfolding listFault
   list-fault n l h = rw (listFault, ne-eqb (s .count) 0 (λ e. omega arith), h)
 
-  pub list-over : 1 ≤ s .count → releaseFault s before r ≡ none → maxReleases ≤ releases → listFault s releases before r ≡ some 10
+  pub list-over : 1 ≤ s .count → releaseFault s (lowTick w before) (highTick w) r ≡ none → maxReleases ≤ releases → listFault s releases before w r ≡ some 10
   unfolding listFault
   list-over l h m = rw (listFault, ne-eqb (s .count) 0 (λ e. omega arith), h, le-leb maxReleases releases m)
 
-  pub list-fine : 1 ≤ s .count → releaseFault s before r ≡ none → releases < maxReleases → listFault s releases before r ≡ none
+  pub list-fine : 1 ≤ s .count → releaseFault s (lowTick w before) (highTick w) r ≡ none → releases < maxReleases → listFault s releases before w r ≡ none
   unfolding listFault
   list-fine l h m = rw (listFault, ne-eqb (s .count) 0 (λ e. omega arith), h, lt-leb maxReleases releases m)
 
@@ -89,13 +89,13 @@ module _ (s : State) where
   unfolding advance unless
   task-taken t e = rw (unless, e)
 
-  pub release-stops : (r : Release) (n : ℕ) → listFault (sheetOf (s .tasks)) (length (s .releases)) (s .before) r ≡ some n → advance s (releaseRecord r) ≡ stop n
+  pub release-stops : (w : Width) (r : Release) (n : ℕ) → listFault (sheetOf (s .tasks)) (length (s .releases)) (s .before) w r ≡ some n → advance s (releaseRecord w r) ≡ stop n
   unfolding advance unless
-  release-stops r n e = rw (unless, e)
+  release-stops w r n e = rw (unless, e)
 
-  pub release-taken : (r : Release) → listFault (sheetOf (s .tasks)) (length (s .releases)) (s .before) r ≡ none → advance s (releaseRecord r) ≡ next (withRelease s r)
+  pub release-taken : (w : Width) (r : Release) → listFault (sheetOf (s .tasks)) (length (s .releases)) (s .before) w r ≡ none → advance s (releaseRecord w r) ≡ next (withRelease s r)
   unfolding advance unless
-  release-taken r e = rw (unless, e)
+  release-taken w r e = rw (unless, e)
 
   pub end-stops : (n : ℕ) → endFault (length (s .tasks)) ≡ some n → advance s endRecord ≡ stop n
   unfolding advance unless
@@ -110,8 +110,8 @@ pub data Moves (s : State) : Record → Step → Type 0 where
   stops : (r : Record) (n : ℕ) → Moves s r (stop n)
   takes-task : (t : Task) → length (s .releases) ≡ 0 → length (s .tasks) < maxTasks → Ranged t → Moves s (taskRecord t) (next (withTask s t))
   takes-release
-      : (r : Release) → 1 ≤ length (s .tasks) → releaseFault (sheetOf (s .tasks)) (s .before) r ≡ none → length (s .releases) < maxReleases
-      → Moves s (releaseRecord r) (next (withRelease s r))
+      : (w : Width) (r : Release) → 1 ≤ length (s .tasks) → releaseFault (sheetOf (s .tasks)) (lowTick w (s .before)) (highTick w) r ≡ none → length (s .releases) < maxReleases
+      → Moves s (releaseRecord w r) (next (withRelease s r))
   ends : 1 ≤ length (s .tasks) → Moves s endRecord last
 
 task-moves : (s : State) (t : Task) → Moves s (taskRecord t) (advance s (taskRecord t))
@@ -131,22 +131,22 @@ task-moves s t = after (ltb 0 (length (s .releases))) refl
     after true e = rw (task-stops s t 3 (task-after _ _ t (ltb-true _ _ e))) (stops _ 3)
     after false e = over (omega (arith, ltb-false 0 (length (s .releases)) e)) (leb maxTasks (length (s .tasks))) refl
 
-release-moves : (s : State) (r : Release) → Moves s (releaseRecord r) (advance s (releaseRecord r))
-release-moves s r = early (ltb 0 (length (s .tasks))) refl
+release-moves : (s : State) (w : Width) (r : Release) → Moves s (releaseRecord w r) (advance s (releaseRecord w r))
+release-moves s w r = early (ltb 0 (length (s .tasks))) refl
   where
     over
-        : 1 ≤ length (s .tasks) → releaseFault (sheetOf (s .tasks)) (s .before) r ≡ none → (b : Bool) → leb maxReleases (length (s .releases)) ≡ b
-        → Moves s (releaseRecord r) (advance s (releaseRecord r))
-    over l f true e = rw (release-stops s r 10 (list-over (sheetOf (s .tasks)) _ _ r l f (leb-true _ _ e))) (stops _ 10)
-    over l f false e = rw (release-taken s r (list-fine (sheetOf (s .tasks)) _ _ r l f (leb-false _ _ e))) (takes-release r l f (leb-false _ _ e))
+        : 1 ≤ length (s .tasks) → releaseFault (sheetOf (s .tasks)) (lowTick w (s .before)) (highTick w) r ≡ none → (b : Bool) → leb maxReleases (length (s .releases)) ≡ b
+        → Moves s (releaseRecord w r) (advance s (releaseRecord w r))
+    over l f true e = rw (release-stops s w r 10 (list-over (sheetOf (s .tasks)) _ _ w r l f (leb-true _ _ e))) (stops _ 10)
+    over l f false e = rw (release-taken s w r (list-fine (sheetOf (s .tasks)) _ _ w r l f (leb-false _ _ e))) (takes-release w r l f (leb-false _ _ e))
 
-    fault : 1 ≤ length (s .tasks) → (o : Option ℕ) → releaseFault (sheetOf (s .tasks)) (s .before) r ≡ o → Moves s (releaseRecord r) (advance s (releaseRecord r))
+    fault : 1 ≤ length (s .tasks) → (o : Option ℕ) → releaseFault (sheetOf (s .tasks)) (lowTick w (s .before)) (highTick w) r ≡ o → Moves s (releaseRecord w r) (advance s (releaseRecord w r))
     fault l none e = over l e (leb maxReleases (length (s .releases))) refl
-    fault l (some n) e = rw (release-stops s r n (list-fault (sheetOf (s .tasks)) _ _ r n l e)) (stops _ n)
+    fault l (some n) e = rw (release-stops s w r n (list-fault (sheetOf (s .tasks)) _ _ w r n l e)) (stops _ n)
 
-    early : (b : Bool) → ltb 0 (length (s .tasks)) ≡ b → Moves s (releaseRecord r) (advance s (releaseRecord r))
-    early true e = fault (ltb-true 0 (length (s .tasks)) e) (releaseFault (sheetOf (s .tasks)) (s .before) r) refl
-    early false e = rw (release-stops s r 5 (list-early (sheetOf (s .tasks)) _ _ r (omega (arith, ltb-false 0 (length (s .tasks)) e)))) (stops _ 5)
+    early : (b : Bool) → ltb 0 (length (s .tasks)) ≡ b → Moves s (releaseRecord w r) (advance s (releaseRecord w r))
+    early true e = fault (ltb-true 0 (length (s .tasks)) e) (releaseFault (sheetOf (s .tasks)) (lowTick w (s .before)) (highTick w) r) refl
+    early false e = rw (release-stops s w r 5 (list-early (sheetOf (s .tasks)) _ _ w r (omega (arith, ltb-false 0 (length (s .tasks)) e)))) (stops _ 5)
 
 end-moves : (s : State) → Moves s endRecord (advance s endRecord)
 end-moves s = early (ltb 0 (length (s .tasks))) refl
@@ -158,7 +158,7 @@ end-moves s = early (ltb 0 (length (s .tasks))) refl
 pub moves : (s : State) (r : Record) → Moves s r (advance s r)
 moves s (broken n) = rw (broken-stops s n) (stops _ n)
 moves s (taskRecord t) = task-moves s t
-moves s (releaseRecord r) = release-moves s r
+moves s (releaseRecord w r) = release-moves s w r
 moves s endRecord = end-moves s
 
 -- a task record without a fault: there is no release yet, there is room for the task, and it is in range
@@ -188,35 +188,45 @@ module _ (tasks releases : ℕ) (t : Task) (e : taskFault tasks releases t ≡ n
       go false h = absurd (no-fault (task-outside tasks releases t task-first task-few h))
 
 -- a release record without a fault leaves the number of releases within its limit
-pub list-few : (s : Tasks) (releases before : ℕ) (r : Release) → listFault s releases before r ≡ none → releases < maxReleases
-list-few s releases before r e = early (ltb 0 (s .count)) refl
+pub list-few : (s : Tasks) (releases before : ℕ) (w : Width) (r : Release) → listFault s releases before w r ≡ none → releases < maxReleases
+list-few s releases before w r e = early (ltb 0 (s .count)) refl
   where
-    never : {n : ℕ} → listFault s releases before r ≡ some n → ⊥
+    never : {n : ℕ} → listFault s releases before w r ≡ some n → ⊥
     never h = let w = sym h ∙ e in let z : _≡_ {A = ℕ} 0 1 = cc in omega arith
 
-    over : 1 ≤ s .count → releaseFault s before r ≡ none → (b : Bool) → leb maxReleases releases ≡ b → releases < maxReleases
-    over l f true h = absurd (never (list-over s releases before r l f (leb-true _ _ h)))
+    over : 1 ≤ s .count → releaseFault s (lowTick w before) (highTick w) r ≡ none → (b : Bool) → leb maxReleases releases ≡ b → releases < maxReleases
+    over l f true h = absurd (never (list-over s releases before w r l f (leb-true _ _ h)))
     over l f false h = leb-false _ _ h
 
-    fault : 1 ≤ s .count → (o : Option ℕ) → releaseFault s before r ≡ o → releases < maxReleases
+    fault : 1 ≤ s .count → (o : Option ℕ) → releaseFault s (lowTick w before) (highTick w) r ≡ o → releases < maxReleases
     fault l none h = over l h (leb maxReleases releases) refl
-    fault l (some n) h = absurd (never (list-fault s releases before r n l h))
+    fault l (some n) h = absurd (never (list-fault s releases before w r n l h))
 
     early : (b : Bool) → ltb 0 (s .count) ≡ b → releases < maxReleases
-    early true h = fault (ltb-true 0 (s .count) h) (releaseFault s before r) refl
-    early false h = absurd (never (list-early s releases before r (omega (arith, ltb-false 0 (s .count) h))))
+    early true h = fault (ltb-true 0 (s .count) h) (releaseFault s (lowTick w before) (highTick w) r) refl
+    early false h = absurd (never (list-early s releases before w r (omega (arith, ltb-false 0 (s .count) h))))
+
+-- one step of a reading, whatever record some bytes begin with
+module _ (rec : List ℕ → Record) (n : ℕ) (s : State) (at : ℕ) (f : List ℕ) (r : Record) (e : rec f ≡ r) where
+  pub stops-by : (k : ℕ) → advance s r ≡ stop k → readBy rec (suc n) s at f ≡ refused (record { number = k; place = at })
+  unfolding readBy
+  stops-by k h = rw (readBy, e, h)
+
+  pub goes-by : (s′ : State) → advance s r ≡ next s′ → readBy rec (suc n) s at f ≡ readBy rec n s′ (at + sizeOf r) (drop (sizeOf r) f)
+  unfolding readBy
+  goes-by s′ h = rw (readBy, e, h) (ap (λ q. readBy rec n s′ (at + sizeOf q) (drop (sizeOf q) f)) e)
+
+  pub ends-by : advance s r ≡ last → readBy rec (suc n) s at f ≡ afterEnd s (at + sizeOf r) (drop (sizeOf r) f)
+  unfolding readBy
+  ends-by h = rw (readBy, e, h) (ap (λ q. afterEnd s (at + sizeOf q) (drop (sizeOf q) f)) e)
 
 -- one step of the reading
 module _ (n : ℕ) (s : State) (at : ℕ) (f : List ℕ) (r : Record) (e : recordOf f ≡ r) where
   pub read-stop : (k : ℕ) → advance s r ≡ stop k → readFrom (suc n) s at f ≡ refused (record { number = k; place = at })
-  unfolding readFrom
-  read-stop k h = rw (readFrom, e, h)
+  read-stop = stops-by recordOf n s at f r e
 
   pub read-next : (s′ : State) → advance s r ≡ next s′ → readFrom (suc n) s at f ≡ readFrom n s′ (at + sizeOf r) (drop (sizeOf r) f)
-  unfolding readFrom
-  read-next s′ h =
-      rw (readFrom, e, h) (ap (λ q. readFrom n s′ (at + sizeOf q) (drop (sizeOf q) f)) e)
+  read-next = goes-by recordOf n s at f r e
 
   pub read-last : advance s r ≡ last → readFrom (suc n) s at f ≡ afterEnd s (at + sizeOf r) (drop (sizeOf r) f)
-  unfolding readFrom
-  read-last h = rw (readFrom, e, h) (ap (λ q. afterEnd s (at + sizeOf q) (drop (sizeOf q) f)) e)
+  read-last = ends-by recordOf n s at f r e

@@ -11,6 +11,7 @@ use Rattle.model.specs.Calls.{lends, releasesOf, columnAfter}
 use Rattle.taskset.specs.declared.Task.{Task}
 use Rattle.taskset.specs.declared.TaskSet.{TaskSet}
 use Rattle.taskset.specs.TaskSet.{noTask}
+use Rattle.fileformat.specs.Records.{releaseSize, widthFor}
 use Rattle.fileformat.specs.File.{File, decode}
 
 -- the tasks of a task set; entries past the count are not looked at
@@ -48,16 +49,21 @@ unfoldable pub readColumn : (Release → ℕ) → Answer File → List ℕ → L
 readColumn g (refused q) held = columnAfter (some q) [] held
 readColumn g (answered x) held = columnAfter none (map g (x .releases)) held
 
--- write: a sheet, a list of n releases in three columns, and room for bytes, of which 17 for each task, 10 for each release and 1 are needed
-unfoldable pub bytesNeeded : ℕ → ℕ → ℕ
-bytesNeeded tasks releases = 17 * tasks + 10 * releases + 1
+-- the bytes of some releases: 10 for each with a tick up to 1,000,000,000, 14 for each above
+unfoldable pub listBytes : List Release → ℕ
+listBytes [] = 0
+listBytes (r ∷ l) = releaseSize (widthFor (r .tick)) + listBytes l
+
+-- write: a sheet, a list of n releases in three columns, and room for bytes, of which 17 for each task, those of the releases and 1 are needed
+unfoldable pub bytesNeeded : ℕ → List Release → ℕ
+bytesNeeded tasks l = 17 * tasks + listBytes l + 1
 
 abbrev pub writeInputs : Tasks → ℕ → List ℕ → List ℕ → List ℕ → ℕ → Inputs
 writeInputs s n task tick cost room = record {
   tasks = s;
   single = none;
   count = some n;
-  lent = lends n task ∷ lends n tick ∷ lends n cost ∷ record { needed = bytesNeeded (s .count) n; slots = room } ∷ [];
+  lent = lends n task ∷ lends n tick ∷ lends n cost ∷ record { needed = bytesNeeded (s .count) (releasesOf n task tick cost); slots = room } ∷ [];
   kept = none;
   releases = releasesOf n task tick cost;
   unfit = none;

@@ -4,4 +4,5 @@ pub mod Records
 pub mod File
 pub mod FileCalls
 pub mod RoundTrips
+pub mod OldFiles
 pub mod SameWrites

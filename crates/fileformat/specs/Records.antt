@@ -1,28 +1,51 @@
 -- The records of a file. "Each record is one kind byte and a body whose length the kind fixes."
 -- A further kind is a constructor of `Record`, its size and bytes, and a line of `recordOf`.
-use Prim.Native.Nat.{ℕ}
-use mathlib.Core.Bool.{true, false}
+use Prim.Native.Nat.{ℕ, suc, _+_}
+use mathlib.Core.Bool.{Bool, true, false}
 use mathlib.Core.List.{List, [], _∷_, _++_}
-use lib.Dec.{ltb, eqb}
+use lib.Dec.{ltb, leb, eqb}
 use lib.ListN.{length}
+use Rattle.model.specs.Limits.{maxShortTick}
 use Rattle.model.specs.Tasks.{Release}
 use Rattle.taskset.specs.declared.Task.{Task}
 use Rattle.fileformat.specs.Numbers.{field, bytesOf}
+
+-- how a release record holds its tick: kind 2 in four bytes; kind 4, "a release with an eight-byte tick", in eight
+pub data Width : Type 0 where
+  short : Width
+  long : Width
+
+-- whether it is a long one, as code has it
+abbrev pub widthIn : Bool → Width
+widthIn true = long
+widthIn false = short
+
+abbrev pub kindOf : Width → ℕ
+kindOf short = 2
+kindOf long = 4
+
+abbrev pub tickBytes : Width → ℕ
+tickBytes short = 4
+tickBytes long = 8
 
 -- a record, or what is wrong with it: 1, no such kind; 2, the file ends inside the record or where a kind is due
 pub data Record : Type 0 where
   broken : ℕ → Record
   taskRecord : Task → Record
-  releaseRecord : Release → Record
+  releaseRecord : Width → Release → Record
   endRecord : Record
 
 -- "kind 1, task: P, J, E, D, four bytes each"
 unfoldable pub taskFrom : List ℕ → Task
 taskFrom l = record { period = field 0 4 l; jitter = field 4 4 l; cost = field 8 4 l; deadline = field 12 4 l }
 
--- "kind 2, release: task number, one byte; tick, four; cost, four"
-unfoldable pub releaseFrom : List ℕ → Release
-releaseFrom l = record { task = field 0 1 l; tick = field 1 4 l; cost = field 5 4 l }
+-- "kind 2, release: task number, one byte; tick, four; cost, four"; of kind 4 the tick has eight
+unfoldable pub releaseFrom : Width → List ℕ → Release
+releaseFrom w l = record { task = field 0 1 l; tick = field 1 (tickBytes w) l; cost = field (1 + tickBytes w) 4 l }
+
+-- the bytes of its body: 9 or 13
+abbrev pub bodySize : Width → ℕ
+bodySize w = 1 + tickBytes w + 4
 
 -- a record whose body has n bytes, l being what follows the kind byte
 unfoldable pub whole : ℕ → List ℕ → Record → Record
@@ -36,8 +59,12 @@ recordOf (k ∷ l) =
       | true ↦ whole 16 l (taskRecord (taskFrom l))
       | false ↦
           elim (eqb k 2) [
-            | true ↦ whole 9 l (releaseRecord (releaseFrom l))
-            | false ↦ elim (eqb k 3) [ true ↦ whole 0 l endRecord | false ↦ broken 1 ]
+            | true ↦ whole (bodySize short) l (releaseRecord short (releaseFrom short l))
+            | false ↦
+                elim (eqb k 3) [
+                  | true ↦ whole 0 l endRecord
+                  | false ↦ elim (eqb k 4) [ true ↦ whole (bodySize long) l (releaseRecord long (releaseFrom long l)) | false ↦ broken 1 ]
+                ]
           ]
     ]
 
@@ -45,18 +72,29 @@ recordOf (k ∷ l) =
 unfoldable pub taskBytes : Task → List ℕ
 taskBytes t = 1 ∷ (bytesOf 4 (t .period) ++ (bytesOf 4 (t .jitter) ++ (bytesOf 4 (t .cost) ++ bytesOf 4 (t .deadline))))
 
-unfoldable pub releaseBytes : Release → List ℕ
-releaseBytes r = 2 ∷ (bytesOf 1 (r .task) ++ (bytesOf 4 (r .tick) ++ bytesOf 4 (r .cost)))
+unfoldable pub releaseBytes : Width → Release → List ℕ
+releaseBytes w r = kindOf w ∷ (bytesOf 1 (r .task) ++ (bytesOf (tickBytes w) (r .tick) ++ bytesOf 4 (r .cost)))
 
 unfoldable pub recordBytes : Record → List ℕ
 recordBytes (broken n) = []
 recordBytes (taskRecord t) = taskBytes t
-recordBytes (releaseRecord r) = releaseBytes r
+recordBytes (releaseRecord w r) = releaseBytes w r
 recordBytes endRecord = 3 ∷ []
 
--- how many they are
+-- how many they are: of a release 10 or 14
+abbrev pub releaseSize : Width → ℕ
+releaseSize w = suc (bodySize w)
+
 unfoldable pub sizeOf : Record → ℕ
 sizeOf (broken n) = 0
 sizeOf (taskRecord t) = 17
-sizeOf (releaseRecord r) = 10
+sizeOf (releaseRecord w r) = releaseSize w
 sizeOf endRecord = 1
+
+-- "the writer uses kind 2 up to 1,000,000,000 and kind 4 above"
+unfoldable pub widthFor : ℕ → Width
+widthFor t = elim (leb t maxShortTick) [ true ↦ short | false ↦ long ]
+
+-- the record that a release is written as
+abbrev pub writtenRecord : Release → Record
+writtenRecord r = releaseRecord (widthFor (r .tick)) r

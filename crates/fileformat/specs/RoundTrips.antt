@@ -9,9 +9,11 @@ use Rattle.model.specs.Tasks.{Release}
 use Rattle.model.specs.Refusal.{answered}
 use Rattle.model.specs.Checks.{refusalOf}
 use Rattle.model.specs.Calls.{listInputs}
+use Rattle.taskset.specs.declared.Task.{Task}
 use Rattle.taskset.specs.declared.TaskSet.{TaskSet}
 use Rattle.taskset.specs.TaskSet.{viewOf}
 use Rattle.fileformat.specs.Numbers.{Bytes}
+use Rattle.fileformat.specs.Records.{short, long, taskRecord, releaseRecord, recordBytes}
 use Rattle.fileformat.specs.File.{File, encode, decode, ValidFile}
 use Rattle.fileformat.specs.FileCalls.{setOf, writeInputs, fileOf}
 
@@ -23,13 +25,23 @@ WrittenIsRead = (x : File) → ValidFile x → decode (encode x) ≡ answered x
 abbrev pub ReadIsWritten : Type 0
 ReadIsWritten = (f : List ℕ) (x : File) → Bytes f → decode f ≡ answered x → encode x ≡ f
 
--- `decode-valid`: what is read is within document 01's limits
+-- `decode-valid`: what is read is within the limits
 abbrev pub ReadIsValid : Type 0
 ReadIsValid = (f : List ℕ) (x : File) → decode f ≡ answered x → ValidFile x
 
--- the bytes that decide a read: 32 tasks, 1,024 releases and one more record
+-- `record-sizes`: a task has 17 bytes, a release of kind 2 has 10 and one of kind 4 has 14
+abbrev pub RecordSizes : Type 0
+RecordSizes =
+    (t : Task) (r : Release) → (length (recordBytes (taskRecord t)) ≡ 17) × (length (recordBytes (releaseRecord short r)) ≡ 10)
+    × (length (recordBytes (releaseRecord long r)) ≡ 14)
+
+-- `decode-short`: an accepted file has at most 14,881 bytes: 32 tasks of 17, 1,024 releases of 14, and the end
+abbrev pub ReadIsShort : Type 0
+ReadIsShort = (f : List ℕ) (x : File) → Bytes f → decode f ≡ answered x → length f ≤ 14881
+
+-- the bytes that decide a read: 32 tasks of 17, 1,024 releases of 14, and one more record of 17
 abbrev pub decidingBytes : ℕ
-decidingBytes = 10801
+decidingBytes = 14897
 
 -- `decode-first`: so many of the first bytes decide what a file answers
 abbrev pub FirstBytesDecide : Type 0

@@ -1,7 +1,7 @@
 -- "late": the verdict's late q is one of the boards' processor, and a job that is not finished D ticks after its release is late.
 use Prim.Native.Nat.{ℕ, suc, _+_, _-_, _*_, _≤_, _<_}
 use native.Mathlib.Omega.{arith}
-use Rattle.model.specs.Limits.{maxTick}
+use Rattle.model.specs.Limits.{maxShortTick}
 use Rattle.model.specs.Processor.{pickup, plain}
 use Rattle.model.specs.Tasks.{Tasks, releaseAt, InRange}
 use Rattle.model.specs.Run.{responseAt}
@@ -28,14 +28,14 @@ module _ (s : Tasks) (k : ℕ → ℕ) (i : ℕ) where
     over = omega (arith, pickup-plain, is-late s k i q (d .w) (d .over));
   }
 
-  -- the last tick of its list is within the limit
+  -- the last tick of its list is within document 01's limit
   pub late-end
       : InRange (s .period i) (s .jitter i) (s .cost i) (s .deadline i) → (q : ℕ) (d : Missing s k i q)
-      → pickup + s .period i + s .jitter i + d .w + s .jitter i + s .period i + q * s .period i ≤ maxTick
+      → pickup + s .period i + s .jitter i + d .w + s .jitter i + s .period i + q * s .period i ≤ maxShortTick
   late-end r q d = omega (arith, r .period-high, r .jitter-high, window-some s k i q (d .w) (d .is) .high, is-late s k i q (d .w) (d .over))
 
   -- a job that is not finished D ticks after its release is late
-  pub missed : (end : ℕ) → end ≤ maxTick → MissedOn plain s k i end → Missed s k i
+  pub missed : (end : ℕ) → end ≤ maxShortTick → MissedOn plain s k i end → Missed s k i
   unfolding responseAt
   missed end h d = record {
     list = d .list;

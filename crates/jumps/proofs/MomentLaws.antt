@@ -14,13 +14,14 @@ use Rattle.model.specs.Run.{Jobs, leftAt, finishOf}
 use Rattle.model.proofs.SeriesLaws.{le-by}
 use Rattle.model.proofs.TableLaws.{length-table}
 use Rattle.model.proofs.StopLaws.{has-append, has-behind, has-either, has-table, table-has, below, below-none, below-next, below-all, below-le}
+use Rattle.theory.proofs.RunLaws.{left-le}
 use Rattle.theory.proofs.WorkLaws.{supply-all}
 use Rattle.theory.proofs.FinishLaws.{finish-by, finish-done, finish-late}
 use Rattle.theory.proofs.JumpLaws.{Keeps, Rests, NoStart, left-rests, left-keeps, left-others, rests, keeps, finish-keeps, finish-soonest, rests-none, keeps-only}
 use Rattle.queues.specs.Queues.{jobsOf, maxFinish, firstFrom, nextOf, topReady, never, wakeOf, workOf, Holds, Runnable}
 use Rattle.queues.proofs.SearchedLaws.{work-in}
 use Rattle.queues.proofs.HeadLaws.{Ordered, Heads, May, start-soon, head-first, head-none, heads-rest, heads-run, heads-done}
-use Rattle.queues.proofs.ColumnLaws.{ordered, heads-start, none-above, none-found, one-found}
+use Rattle.queues.proofs.ColumnLaws.{ordered, timely, heads-start, none-above, none-found, one-found}
 use Rattle.queues.proofs.LeftColumnLaws.{Lefts, lefts-start, lefts-rest, lefts-run, lefts-done}
 use Rattle.queues.proofs.FinishColumnLaws.{Written, written-start, written-rest, written-run, written-done, written-end}
 use Rattle.jumps.specs.Jumps.{stopsOf, Queued, Waking, Sinces}
@@ -38,10 +39,11 @@ pub record Moment (n tasks : ℕ) (task cost ready held : List ℕ) (t wake stop
   pub time : t ≤ maxFinish
 
 -- the job that runs from t on: the oldest unfinished one of task i. It ends at `end` at the earliest
-pub record Front (n tasks t : ℕ) (head left : List ℕ) (i end : ℕ) : Type 0 where
+pub record Front (n tasks t : ℕ) (cost head left : List ℕ) (i end : ℕ) : Type 0 where
   pub task-in : i < tasks
   pub inside : getD head i 0 < n
   pub some-left : 1 ≤ getD left i 0
+  pub cost-left : getD left i 0 ≤ getD cost (getD head i 0) 0
   pub end-is : end ≡ t + getD left i 0
   pub end-soon : end ≤ maxFinish
 
@@ -53,7 +55,14 @@ module _ (n tasks : ℕ) (task cost ready held : List ℕ) (r : Runnable n tasks
   order = ordered n tasks task cost ready held r
 
   pub queued : Queued n tasks task ready
-  queued = record { few-tasks = r .few-tasks; task-long = r .task-long; ready-long = r .ready-long; known = r .known; in-order = r .in-order }
+  queued =
+      record {
+        few-tasks = r .few-tasks;
+        task-long = r .task-long;
+        timely = timely n tasks task cost ready held r;
+        known = r .known;
+        in-order = r .in-order;
+      }
 
   -- a stop is a start tick or a finish tick
   start-stop : (p : ℕ) → p < n → has (stopsOf j) (j .start p) ≡ true
@@ -208,12 +217,13 @@ module _ (n tasks : ℕ) (task cost ready held : List ℕ) (r : Runnable n tasks
           (head-first j tasks order t head (s .heads) i (found .0) (found .1) (none-above n tasks task cost ready head t (s .time) i e))
           k (no-start k a) (omega (arith, supply-all j t (order .all) k, is-left))
 
-      pub front : (end : ℕ) → end ≡ t + getD left i 0 → Front n tasks t head left i end
+      pub front : (end : ℕ) → end ≡ t + getD left i 0 → Front n tasks t cost head left i end
       front end x =
           record {
             task-in = found .0;
             inside = found .1 .0;
             some-left = omega (arith, is-left, unfinished);
+            cost-left = omega (arith, is-left, left-le j t (getD head i 0));
             end-is = x;
             end-soon = omega (
               arith,

@@ -1,4 +1,4 @@
--- What the functions of the run that jumps answer, over columns of 32-bit numbers.
+-- What the functions of the run that jumps answer, over columns of numbers.
 use Prim.Native.Nat.{ℕ, _≤_, _<_}
 use mathlib.Core.Path.{_≡_}
 use mathlib.Core.Bool.{Bool, _&&_, not}
@@ -11,7 +11,7 @@ use Rattle.model.specs.Series.{table}
 use Rattle.model.specs.Processor.{plain}
 use Rattle.model.specs.Run.{Jobs, finishOf}
 use Rattle.model.specs.Refusal.{Answer, refused, answered}
-use Rattle.queues.specs.Queues.{firstFrom, never, wakeOf}
+use Rattle.queues.specs.Queues.{firstFrom, never, wakeOf, Timely}
 use Rattle.jumps.specs.declared.JumpAnswer.{JumpAnswer}
 use Rattle.jumps.specs.declared.JumpAnswer.the-variants.{Ran, Refused}
 
@@ -32,11 +32,11 @@ comes task ready n i t p = eqb (getD task p 0) i && not (leb (wakeOf ready n p) 
 abbrev pub comingOf : List ℕ → List ℕ → ℕ → ℕ → ℕ → ℕ → ℕ
 comingOf task ready n i t from = firstFrom (comes task ready n i t) n from
 
--- columns of n jobs of some tasks, whose ready ticks never fall along a task
+-- columns of n jobs of some tasks that may run before never, and whose ready ticks never fall along a task
 pub record Queued (n tasks : ℕ) (task ready : List ℕ) : Type 0 where
   pub few-tasks : tasks ≤ maxTasks
   pub task-long : n ≤ length task
-  pub ready-long : n ≤ length ready
+  pub timely : Timely n ready
   pub known : (p : ℕ) → p < n → getD task p 0 < tasks
   pub in-order : (p q : ℕ) → p < q → q < n → getD task p 0 ≡ getD task q 0 → getD ready p 0 ≤ getD ready q 0
 

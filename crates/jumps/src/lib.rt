@@ -23,7 +23,7 @@ ghost use Rattle.model.specs.Ready.{readyList};
 ghost use Rattle.model.specs.Run.{finishOf, finishList};
 ghost use Rattle.model.specs.Calls.{releasesOf, columnAfter, runInputs, jumpCall};
 ghost use Rattle.taskset.specs.TaskSet.{viewOf};
-ghost use Rattle.queues.specs.Queues.{jobsOf, never, firstFrom, wakeOf, Holds, Runnable};
+ghost use Rattle.queues.specs.Queues.{jobsOf, never, firstFrom, wakeOf, Holds, Timely, Runnable};
 ghost use Rattle.jumps.specs.Jumps.{jumpIn, stopsOf, comes, comingOf, Queued, Next, Awake, Waking};
 
 // What the run that jumps answers: how often it stopped, or document 01's number and place.
@@ -33,8 +33,8 @@ pub enum JumpAnswer {
 }
 
 // Whether the job at p is one of task i that may not run in tick t yet.
-fn is_coming(task: &[u32], ready: &[u32], n: usize, i: u32, t: u64, p: usize) -> bool
-    requires { ⌜ (p < n) × (n ≤ length (now task)) × (n ≤ length (now ready)) ⌝ }
+fn is_coming(task: &[u32], ready: &[u64], n: usize, i: u32, t: u64, p: usize) -> bool
+    requires { ⌜ (p < n) × (n ≤ length (now task)) × Timely n (now ready) ⌝ }
     ensures { λ r. ⌜ r ≡ comes (now (task .entry)) (now (ready .entry)) n i t p ⌝ }
 {
     if task[p] != i {
@@ -44,8 +44,8 @@ fn is_coming(task: &[u32], ready: &[u32], n: usize, i: u32, t: u64, p: usize) ->
 }
 
 // The first job of task i from a place on that may not run in tick t yet, and n where there is none.
-fn coming_of(task: &[u32], ready: &[u32], n: usize, i: u32, t: u64, from: usize) -> usize
-    requires { ⌜ (from ≤ n) × (n ≤ length (now task)) × (n ≤ length (now ready)) ⌝ }
+fn coming_of(task: &[u32], ready: &[u64], n: usize, i: u32, t: u64, from: usize) -> usize
+    requires { ⌜ (from ≤ n) × (n ≤ length (now task)) × Timely n (now ready) ⌝ }
     ensures { λ r. ⌜ r ≡ comingOf (now (task .entry)) (now (ready .entry)) n i t from ⌝ }
 {
     let mut p = from;
@@ -62,7 +62,7 @@ fn coming_of(task: &[u32], ready: &[u32], n: usize, i: u32, t: u64, from: usize)
 // may run in tick t, `due` its start tick; those of task i are moved on where t has reached the tick.
 fn next_due(
     task: &[u32],
-    ready: &[u32],
+    ready: &[u64],
     n: usize,
     tasks: usize,
     t: u64,
@@ -90,7 +90,7 @@ fn next_due(
 // The next tick after t in which a job may run for the first time, NEVER where there is none. It is `wake` unless t has reached that.
 fn next_wake(
     task: &[u32],
-    ready: &[u32],
+    ready: &[u64],
     n: usize,
     tasks: usize,
     t: u64,
@@ -115,8 +115,8 @@ fn next_wake(
 }
 
 // The start tick of the oldest job of each task; 0 past the tasks.
-fn first_starts(head: &[usize; 32], ready: &[u32], n: usize, tasks: usize) -> [u64; 32]
-    requires { ⌜ (tasks ≤ 32) × (n ≤ length (now ready)) ⌝ }
+fn first_starts(head: &[usize; 32], ready: &[u64], n: usize, tasks: usize) -> [u64; 32]
+    requires { ⌜ (tasks ≤ 32) × Timely n (now ready) ⌝ }
     ensures { λ r. ⌜ Holds (λ i. wakeOf (now (ready .entry)) n (getD (now (head .entry)) i 0)) tasks 32 r ⌝ }
 {
     let mut since = [0; 32];
@@ -148,10 +148,10 @@ fn top_started(since: &[u64; 32], tasks: usize, t: u64) -> usize
 fn fill_finish(
     task: &[u32],
     cost: &[u32],
-    ready: &[u32],
+    ready: &[u64],
     n: usize,
     tasks: usize,
-    finish: &mut [u32],
+    finish: &mut [u64],
 ) -> u32
     requires { ⌜ Runnable n tasks (now task) (now cost) (now ready) (now finish) ⌝ }
     ensures finishes { λ _. ⌜
@@ -187,7 +187,7 @@ fn fill_finish(
             continue;
         }
         let p = head[i];
-        finish[p] = end as u32;
+        finish[p] = end;
         let next = next_of(task, n, i as u32, p + 1);
         head[i] = next;
         since[i] = wake_of(ready, n, next);
@@ -204,10 +204,10 @@ pub fn run(
     kept: &[u32],
     count: usize,
     task: &[u32],
-    tick: &[u32],
+    tick: &[u64],
     cost: &[u32],
-    ready: &mut [u32],
-    finish: &mut [u32],
+    ready: &mut [u64],
+    finish: &mut [u64],
 ) -> JumpAnswer
     ensures answer { λ r. ⌜
         jumpIn r

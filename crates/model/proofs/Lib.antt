@@ -8,5 +8,6 @@ pub mod SeriesLaws
 pub mod StopLaws
 pub mod SameVerdict
 pub mod TraceLaws
+pub mod OldListLaws
 pub mod SameAnswers
 pub mod Sums

@@ -102,15 +102,15 @@ kept-within s none r l e = let z : _≡_ {A = ℕ} 0 1 = cc in absurd (omega ari
 kept-within s (some k) r l e = within-at maxTasks 12 _ r (omega arith) (omega arith) (λ i f. omega (arith, first-found _ (s .count) 0 i f .high)) e
 
 -- 7, 8, 9
-pub fault-number : (s : Tasks) (before : ℕ) (r : Release) (n : ℕ) → releaseFault s before r ≡ some n → (7 ≤ n) × (n ≤ 9)
+pub fault-number : (s : Tasks) (low high : ℕ) (r : Release) (n : ℕ) → releaseFault s low high r ≡ some n → (7 ≤ n) × (n ≤ 9)
 unfolding releaseFault
-fault-number s before r n e = known (leb (s .count) (r .task)) refl
+fault-number s low high r n e = known (leb (s .count) (r .task)) refl
   where
     is : (m : ℕ) → 7 ≤ m → m ≤ 9 → some m ≡ some n → (7 ≤ n) × (n ≤ 9)
     is m a b h = let w : m ≡ n = cc in (omega arith, omega arith)
 
     cost
-        : (a b c : Bool) → leb (s .count) (r .task) ≡ a → (ltb (r .tick) before || ltb maxTick (r .tick)) ≡ b → (eqb (r .cost) 0 || ltb (s .cost (r .task)) (r .cost)) ≡ c
+        : (a b c : Bool) → leb (s .count) (r .task) ≡ a → (ltb (r .tick) low || ltb high (r .tick)) ≡ b → (eqb (r .cost) 0 || ltb (s .cost (r .task)) (r .cost)) ≡ c
         → (7 ≤ n) × (n ≤ 9)
     cost true b c h g f = is 7 (omega arith) (omega arith) (rw (releaseFault, h) at e)
     cost false true c h g f = is 8 (omega arith) (omega arith) (rw (releaseFault, h, g) at e)
@@ -118,17 +118,17 @@ fault-number s before r n e = known (leb (s .count) (r .task)) refl
     cost false false false h g f = let w : none ≡ some n = rw (releaseFault, h, g, f) at e in let z : _≡_ {A = ℕ} 0 1 = cc in absurd (omega arith)
 
     known : (a : Bool) → leb (s .count) (r .task) ≡ a → (7 ≤ n) × (n ≤ 9)
-    known a h = cost a (ltb (r .tick) before || ltb maxTick (r .tick)) (eqb (r .cost) 0 || ltb (s .cost (r .task)) (r .cost)) h refl refl
+    known a h = cost a (ltb (r .tick) low || ltb high (r .tick)) (eqb (r .cost) 0 || ltb (s .cost (r .task)) (r .cost)) h refl refl
 
 releases-within : (B : ℕ) (s : Tasks) (before p : ℕ) (l : List Release) (r : Refusal) → p + length l ≤ B → some r ≡ checkReleases s before p l → Within B r
 unfolding checkReleases
 releases-within B s before p [] r h e = let z : _≡_ {A = ℕ} 0 1 = cc in absurd (omega arith)
-releases-within B s before p (q ∷ l) r h e = go (releaseFault s before q) refl (releases-within B s (q .tick) (suc p) l r (omega arith))
+releases-within B s before p (q ∷ l) r h e = go (releaseFault s before maxTick q) refl (releases-within B s (q .tick) (suc p) l r (omega arith))
   where
-    go : (o : Option ℕ) → releaseFault s before q ≡ o → (some r ≡ checkReleases s (q .tick) (suc p) l → Within B r) → Within B r
+    go : (o : Option ℕ) → releaseFault s before maxTick q ≡ o → (some r ≡ checkReleases s (q .tick) (suc p) l → Within B r) → Within B r
     go none f i = i (rw (checkReleases, f) at e)
     go (some n) f i =
-        let k = fault-number s before q n f in
+        let k = fault-number s before maxTick q n f in
         within-known B n p r (omega (arith, k .0)) (omega (arith, k .1)) (omega arith) (rw (checkReleases, f) at e)
 
 -- 15: the task that fits at no K is one of the sheet

@@ -54,13 +54,14 @@ column-same (some q) r′ a a′ held e h = sym (column-kept (some q) q a held r
 
 -- the fault of a release of a task of the sheet
 fault-known
-    : (s s′ : Tasks) (before : ℕ) (r : Release) → s .count ≡ s′ .count → s .cost (r .task) ≡ s′ .cost (r .task) → releaseFault s before r ≡ releaseFault s′ before r
+    : (s s′ : Tasks) (low high : ℕ) (r : Release) → s .count ≡ s′ .count → s .cost (r .task) ≡ s′ .cost (r .task)
+    → releaseFault s low high r ≡ releaseFault s′ low high r
 unfolding releaseFault
-fault-known s s′ before r n c = λ x.
+fault-known s s′ low high r n c = λ x.
     elim (leb (n x) (r .task)) [
       | true ↦ some 7
       | false ↦
-          elim (ltb (r .tick) before || ltb maxTick (r .tick)) [
+          elim (ltb (r .tick) low || ltb high (r .tick)) [
             | true ↦ some 8
             | false ↦ elim (eqb (r .cost) 0 || ltb (c x) (r .cost)) [ true ↦ some 9 | false ↦ none ]
           ]
@@ -102,19 +103,19 @@ module _ (s s′ : Tasks) (same : SameTasks s s′) where
       ∙ ap (λ n. first (λ i. ltb (s′ .jitter i) (k i)) n 0) (same .count))
 
   -- 7, 8, 9: a release is checked against the count and its own task's E
-  pub fault-same : (before : ℕ) (r : Release) → releaseFault s before r ≡ releaseFault s′ before r
-  fault-same before r = go (leb (s .count) (r .task)) refl
+  pub fault-same : (low high : ℕ) (r : Release) → releaseFault s low high r ≡ releaseFault s′ low high r
+  fault-same low high r = go (leb (s .count) (r .task)) refl
     where
-      go : (b : Bool) → leb (s .count) (r .task) ≡ b → releaseFault s before r ≡ releaseFault s′ before r
+      go : (b : Bool) → leb (s .count) (r .task) ≡ b → releaseFault s low high r ≡ releaseFault s′ low high r
       go true e =
-          fault-task s before r (leb-true _ _ e) ∙ sym (fault-task s′ before r (omega (arith, leb-true (s .count) (r .task) e, same .count)))
-      go false e = fault-known s s′ before r (same .count) (same .cost (r .task) (leb-false (s .count) (r .task) e))
+          fault-task s low high r (leb-true _ _ e) ∙ sym (fault-task s′ low high r (omega (arith, leb-true (s .count) (r .task) e, same .count)))
+      go false e = fault-known s s′ low high r (same .count) (same .cost (r .task) (leb-false (s .count) (r .task) e))
 
   -- the releases in order
   pub releases-same : (before p : ℕ) (l : List Release) → checkReleases s before p l ≡ checkReleases s′ before p l
   unfolding checkReleases
   releases-same before p [] = refl
-  releases-same before p (r ∷ l) = λ x. elim (fault-same before r x) [ none ↦ releases-same (r .tick) (suc p) l x | some n ↦ some (record { number = n; place = p }) ]
+  releases-same before p (r ∷ l) = λ x. elim (fault-same before maxTick r x) [ none ↦ releases-same (r .tick) (suc p) l x | some n ↦ some (record { number = n; place = p }) ]
 
   -- the first refusal of a call, of inputs that differ in the sheet alone
   pub refusal-same : (o : Option ℕ) (n : Option ℕ) (c c′ : List Lent) (k : Option (ℕ → ℕ)) (l : List Release) (u u′ : Option ℕ) → c ≡ c′ → u ≡ u′

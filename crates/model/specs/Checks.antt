@@ -56,22 +56,23 @@ unfoldable pub checkKept : Tasks → Option (ℕ → ℕ) → Option Refusal
 checkKept s none = none
 checkKept s (some k) = refuseAt 12 (first (λ i. ltb (s .jitter i) (k i)) (s .count) 0)
 
--- what is wrong with a release, the lower number first: 7, a task not in the sheet; 8, a tick below the one before or over the limit; 9, cost 0 or over E
-unfoldable pub releaseFault : Tasks → ℕ → Release → Option ℕ
-releaseFault s before r =
+-- what is wrong with a release whose tick may be low to high, the lower number first: 7, a task not in the sheet; 8, a tick below low or over high; 9, cost 0
+-- or over E
+unfoldable pub releaseFault : Tasks → ℕ → ℕ → Release → Option ℕ
+releaseFault s low high r =
     elim (leb (s .count) (r .task)) [
       | true ↦ some 7
       | false ↦
-          elim (ltb (r .tick) before || ltb maxTick (r .tick)) [
+          elim (ltb (r .tick) low || ltb high (r .tick)) [
             | true ↦ some 8
             | false ↦ elim (eqb (r .cost) 0 || ltb (s .cost (r .task)) (r .cost)) [ true ↦ some 9 | false ↦ none ]
           ]
     ]
 
--- the releases in order, from the place p on, the tick before being given
+-- the releases in order, from the place p on, the tick before being given: no tick is below the one before or over the limit
 unfoldable pub checkReleases : Tasks → ℕ → ℕ → List Release → Option Refusal
 checkReleases s before p [] = none
-checkReleases s before p (r ∷ l) = elim (releaseFault s before r) [ none ↦ checkReleases s (r .tick) (suc p) l | some n ↦ refuse n p ]
+checkReleases s before p (r ∷ l) = elim (releaseFault s before maxTick r) [ none ↦ checkReleases s (r .tick) (suc p) l | some n ↦ refuse n p ]
 
 -- 15: the first task that fits at no K
 unfoldable pub checkChoice : Option ℕ → Option Refusal

@@ -8,7 +8,7 @@ use lib.ListN.{length}
 use lib.IntN.{ℤ}
 use lib.Dec.{ltb, eqb}
 use Rattle.model.specs.Series.{on, sum, most}
-use Rattle.model.specs.Limits.{maxTick}
+use Rattle.model.specs.Limits.{maxShortTick}
 use Rattle.model.specs.Tasks.{Tasks, Release, releaseAt, load}
 use Rattle.model.specs.Arrival.{arrivals}
 use Rattle.model.specs.Gap.{Legal}
@@ -74,7 +74,7 @@ pub record Missed (s : Tasks) (k : ℕ → ℕ) (i : ℕ) : Type 0 where
   pub list : List Release
   pub trace : Trace s list
   pub legal : (j : ℕ) → j < s .count → Legal s list j
-  pub ticks : (p : ℕ) → p < length list → releaseAt list p .tick ≤ maxTick
+  pub ticks : (p : ℕ) → p < length list → releaseAt list p .tick ≤ maxShortTick
   pub job : ℕ
   pub in-list : job < length list
   pub own-job : releaseAt list job .task ≡ i

@@ -18,5 +18,6 @@ pub mod Claims
 pub mod Refusal
 pub mod Checks
 pub mod Calls
+pub mod OldLists
 pub mod SameTasks
 pub mod Sums

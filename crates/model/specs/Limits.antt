@@ -1,4 +1,4 @@
--- Document 01's limits.
+-- The limits of documents 01 and 02.
 use Prim.Native.Nat.{ℕ}
 
 -- tasks of a sheet
@@ -13,9 +13,13 @@ maxTime = 1000000
 abbrev pub maxReleases : ℕ
 maxReleases = 1024
 
--- tick of a release
+-- tick of a release (document 02, R-3)
 abbrev pub maxTick : ℕ
-maxTick = 1000000000
+maxTick = 1000000000000000
+
+-- document 01's limit on ticks: that of a kind 2 record, whose tick has four bytes, and of the list that a "late" verdict promises
+abbrev pub maxShortTick : ℕ
+maxShortTick = 1000000000
 
 -- "horizon H"
 abbrev pub horizonTick : ℕ

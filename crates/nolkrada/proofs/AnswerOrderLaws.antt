@@ -75,9 +75,9 @@ abbrev LateFault : Option ℕ → Type 0
 LateFault none = 0 ≤ 0
 LateFault (some n) = afterSlots n ≡ true
 
-fault-side : (s : Tasks) (before : ℕ) (r : Release) → LateFault (releaseFault s before r)
+fault-side : (s : Tasks) (low high : ℕ) (r : Release) → LateFault (releaseFault s low high r)
 unfolding releaseFault afterSlots
-fault-side s before r = go (leb (s .count) (r .task)) (ltb (r .tick) before || ltb maxTick (r .tick)) (eqb (r .cost) 0 || ltb (s .cost (r .task)) (r .cost))
+fault-side s low high r = go (leb (s .count) (r .task)) (ltb (r .tick) low || ltb high (r .tick)) (eqb (r .cost) 0 || ltb (s .cost (r .task)) (r .cost))
   where
     go : (a b c : Bool) → LateFault (elim a [ true ↦ some 7 | false ↦ elim b [ true ↦ some 8 | false ↦ elim c [ true ↦ some 9 | false ↦ none ] ] ])
     go true b c = refl
@@ -88,7 +88,7 @@ fault-side s before r = go (leb (s .count) (r .task)) (ltb (r .tick) before || l
 releases-side : (s : Tasks) (before p : ℕ) (l : List Release) → Side true (checkReleases s before p l)
 unfolding checkReleases
 releases-side s before p [] = omega arith
-releases-side s before p (r ∷ l) = go (releaseFault s before r) (fault-side s before r) (releases-side s (r .tick) (suc p) l)
+releases-side s before p (r ∷ l) = go (releaseFault s before maxTick r) (fault-side s before maxTick r) (releases-side s (r .tick) (suc p) l)
   where
     go
         : (o : Option ℕ)

@@ -109,7 +109,7 @@ lent-needs m sheet task tick cost answer h =
 read-within
     : (f : List ℕ) (a : Answer File) (sheet task tick cost answer : ℕ) (r : Refusal) → decode f ≡ a → readWithin a sheet task tick cost answer ≡ refused r → Within top r
 unfolding readWithin
-read-within f (refused q) sheet task tick cost answer r d e = within-more 10785 top r (omega arith) (decode-within f r (d ∙ e))
+read-within f (refused q) sheet task tick cost answer r d e = within-more 14881 top r (omega arith) (decode-within f r (d ∙ e))
 read-within f (answered x) sheet task tick cost answer r d e =
     within-more maxReleases top r (omega arith)
     (slots-within maxReleases _ r (lent-needs (length (x .releases)) sheet task tick cost answer (decode-valid f x d .few)) (slotted x _ r e))
@@ -154,5 +154,5 @@ codes-tell = record {
   load = λ text sheet answer. tells-of _ (λ r. load-slots text (load text) (length sheet) (length answer) r refl);
   write = λ sheet count n task tick cost out answer.
       slots-told 1 (length answer) _ (omega arith)
-      (λ r e. within-more 10785 top r (omega arith) (answer-within 10785 _ _ r (write-limited (viewOf (sheetFrom sheet count)) n task tick cost (length out)) e));
+      (λ r e. within-more 14881 top r (omega arith) (answer-within 14881 _ _ r (write-limited (viewOf (sheetFrom sheet count)) n task tick cost (length out)) e));
 }

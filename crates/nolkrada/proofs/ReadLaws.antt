@@ -7,15 +7,15 @@ use mathlib.Core.List.{List, [], _∷_, _++_}
 use native.Mathlib.Omega.{arith}
 use lib.Dec.{leb, ltb, eqb}
 use lib.ListN.{length, drop}
-use Rattle.model.specs.Limits.{maxTasks, maxTick, maxReleases}
+use Rattle.model.specs.Limits.{maxTasks, maxReleases}
 use Rattle.model.specs.Tasks.{Tasks, Release}
 use Rattle.model.specs.Refusal.{Refusal, Answer, refused, answered}
 use Rattle.model.specs.Checks.{Lent, inRange, checkSlots, releaseFault}
 use Rattle.model.specs.Calls.{lends}
 use Rattle.model.proofs.CheckLaws.{slots-next, slot-of}
 use Rattle.taskset.specs.declared.Task.{Task}
-use Rattle.fileformat.specs.Records.{Record, broken, taskRecord, releaseRecord, endRecord, recordOf, whole, sizeOf}
-use Rattle.fileformat.specs.File.{File, State, Step, stop, next, last, taskFault, listFault, endFault, unless, advance, afterEnd, readFrom, decode}
+use Rattle.fileformat.specs.Records.{bodySize, long, short, Width, Record, broken, taskRecord, releaseRecord, endRecord, recordOf, whole, sizeOf}
+use Rattle.fileformat.specs.File.{File, State, Step, stop, next, last, taskFault, lowTick, highTick, listFault, endFault, unless, advance, afterEnd, readBy, readFrom, decode}
 use Rattle.fileformat.specs.FileCalls.{readCall, readCount}
 use Rattle.nolkrada.specs.Interface.{refusalCode, codeOf, codeIn, tooFew}
 use Rattle.nolkrada.proofs.AnswerOrderLaws.{slots-extra}
@@ -34,7 +34,7 @@ LowFault (some n) = n < 12
 abbrev LowRecord : Record → Type 0
 LowRecord (broken n) = n < 12
 LowRecord (taskRecord t) = 0 ≤ 0
-LowRecord (releaseRecord r) = 0 ≤ 0
+LowRecord (releaseRecord w r) = 0 ≤ 0
 LowRecord endRecord = 0 ≤ 0
 
 abbrev LowStep : Step → Type 0
@@ -55,8 +55,9 @@ unfolding recordOf
 record-low [] = omega arith
 record-low (k ∷ l) =
     either LowRecord (eqb k 1) _ _ (whole-low 16 l _ (omega arith))
-    (either LowRecord (eqb k 2) _ _ (whole-low 9 l _ (omega arith))
-    (either LowRecord (eqb k 3) _ _ (whole-low 0 l _ (omega arith)) (omega arith)))
+    (either LowRecord (eqb k 2) _ _ (whole-low (bodySize short) l _ (omega arith))
+    (either LowRecord (eqb k 3) _ _ (whole-low 0 l _ (omega arith))
+    (either LowRecord (eqb k 4) _ _ (whole-low (bodySize long) l _ (omega arith)) (omega arith))))
 
 task-low : (a b : ℕ) (t : Task) → LowFault (taskFault a b t)
 unfolding taskFault
@@ -65,16 +66,17 @@ task-low a b t =
     (either LowFault (leb maxTasks a) _ _ (omega arith)
     (either LowFault (inRange (t .period) (t .jitter) (t .cost) (t .deadline)) _ _ (omega arith) (omega arith)))
 
-release-low : (s : Tasks) (before : ℕ) (r : Release) → LowFault (releaseFault s before r)
+release-low : (s : Tasks) (low high : ℕ) (r : Release) → LowFault (releaseFault s low high r)
 unfolding releaseFault
-release-low s before r =
+release-low s low high r =
     either LowFault (leb (s .count) (r .task)) _ _ (omega arith)
-    (either LowFault (ltb (r .tick) before || ltb maxTick (r .tick)) _ _ (omega arith)
+    (either LowFault (ltb (r .tick) low || ltb high (r .tick)) _ _ (omega arith)
     (either LowFault (eqb (r .cost) 0 || ltb (s .cost (r .task)) (r .cost)) _ _ (omega arith) (omega arith)))
 
-list-low : (s : Tasks) (n before : ℕ) (r : Release) → LowFault (listFault s n before r)
+list-low : (s : Tasks) (n before : ℕ) (w : Width) (r : Release) → LowFault (listFault s n before w r)
 unfolding listFault
-list-low s n before r = either LowFault (eqb (s .count) 0) _ _ (omega arith) (go (releaseFault s before r) (release-low s before r))
+list-low s n before w r =
+    either LowFault (eqb (s .count) 0) _ _ (omega arith) (go (releaseFault s (lowTick w before) (highTick w) r) (release-low s (lowTick w before) (highTick w) r))
   where
     go : (o : Option ℕ) → LowFault o → LowFault (elim o [ some k ↦ some k | none ↦ elim (leb maxReleases n) [ true ↦ some 10 | false ↦ none ] ])
     go none h = either LowFault (leb maxReleases n) _ _ (omega arith) (omega arith)
@@ -93,7 +95,7 @@ advance-low : (s : State) (r : Record) → LowRecord r → LowStep (advance s r)
 unfolding advance
 advance-low s (broken n) h = h
 advance-low s (taskRecord t) h = unless-low _ _ (task-low _ _ t) (omega arith)
-advance-low s (releaseRecord r) h = unless-low _ _ (list-low _ _ _ r) (omega arith)
+advance-low s (releaseRecord w r) h = unless-low _ _ (list-low _ _ _ w r) (omega arith)
 advance-low s endRecord h = unless-low _ _ (end-low _) (omega arith)
 
 end-of-low : (s : State) (at : ℕ) (f : List ℕ) → LowAnswer (afterEnd s at f)
@@ -102,7 +104,7 @@ end-of-low s at [] = omega arith
 end-of-low s at (b ∷ l) = omega arith
 
 from-low : (n : ℕ) (s : State) (at : ℕ) (f : List ℕ) → LowAnswer (readFrom n s at f)
-unfolding readFrom
+unfolding readBy
 from-low zero s at f = omega arith
 from-low (suc n) s at f =
     go (advance s (recordOf f)) (advance-low s (recordOf f) (record-low f)) (λ s′. from-low n s′ (at + sizeOf (recordOf f)) (drop (sizeOf (recordOf f)) f))

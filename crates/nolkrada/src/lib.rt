@@ -276,7 +276,7 @@ pub extern "C" fn nolkrada_trace_check(
     count: u32,
     n: u32,
     task: &[u32],
-    tick: &[u32],
+    tick: &[u64],
     cost: &[u32],
     answer: &mut [u64],
 ) -> u64
@@ -302,9 +302,9 @@ pub extern "C" fn nolkrada_ready(
     kept: &[u32],
     n: u32,
     task: &[u32],
-    tick: &[u32],
+    tick: &[u64],
     cost: &[u32],
-    ready: &mut [u32],
+    ready: &mut [u64],
 ) -> u64
     ensures code { λ r. ⌜
         r
@@ -333,10 +333,10 @@ pub extern "C" fn nolkrada_run(
     kept: &[u32],
     n: u32,
     task: &[u32],
-    tick: &[u32],
+    tick: &[u64],
     cost: &[u32],
-    ready: &mut [u32],
-    finish: &mut [u32],
+    ready: &mut [u64],
+    finish: &mut [u64],
 ) -> u64
     ensures code { λ r. ⌜
         r
@@ -373,10 +373,10 @@ pub extern "C" fn nolkrada_jump(
     kept: &[u32],
     n: u32,
     task: &[u32],
-    tick: &[u32],
+    tick: &[u64],
     cost: &[u32],
-    ready: &mut [u32],
-    finish: &mut [u32],
+    ready: &mut [u64],
+    finish: &mut [u64],
     answer: &mut [u64],
 ) -> u64
     ensures { λ r. ⌜
@@ -488,7 +488,7 @@ pub extern "C" fn nolkrada_read(
     file: &[u8],
     sheet: &mut [u32],
     task: &mut [u32],
-    tick: &mut [u32],
+    tick: &mut [u64],
     cost: &mut [u32],
     answer: &mut [u64],
 ) -> u64
@@ -562,7 +562,7 @@ pub extern "C" fn nolkrada_write(
     count: u32,
     n: u32,
     task: &[u32],
-    tick: &[u32],
+    tick: &[u64],
     cost: &[u32],
     out: &mut [u8],
     answer: &mut [u64],

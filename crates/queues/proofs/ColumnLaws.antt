@@ -9,9 +9,9 @@ use lib.Dec.{leb, eqb}
 use borrow.Author.Tests.{leb-true, leb-false, eqb-true, eqb-false}
 use Rattle.model.proofs.SeriesLaws.{le-by}
 use Rattle.theory.proofs.RunLaws.{left-zero}
-use Rattle.queues.specs.Queues.{jobsOf, maxFinish, nextOf, topReady, wakeOf, Holds, Runnable}
+use Rattle.queues.specs.Queues.{jobsOf, maxFinish, nextOf, topReady, wakeOf, Holds, Timely, Runnable}
 use Rattle.queues.proofs.SearchedLaws.{Least, least-is, wake-in, wake-out}
-use Rattle.queues.proofs.HeadLaws.{Ordered, Heads, May}
+use Rattle.queues.proofs.HeadLaws.{Ordered, Heads, May, start-soon}
 
 module _ (n tasks : ℕ) (task cost ready finish : List ℕ) (r : Runnable n tasks task cost ready finish) where
   pub ordered : Ordered (jobsOf n task cost ready) tasks
@@ -25,6 +25,10 @@ module _ (n tasks : ℕ) (task cost ready finish : List ℕ) (r : Runnable n tas
         in-order = λ p q a b e. omega (arith, r .in-order p q a b e);
         soon = r .finish-high;
       }
+
+  -- each job may run before its finish, and so before never
+  pub timely : Timely n ready
+  timely = record { long = r .ready-long; soon = λ p l. omega (arith, start-soon (jobsOf n task cost ready) tasks ordered p l) }
 
   -- before the first tick the oldest unfinished job of a task is its first
   pub heads-start : (head : List ℕ) → Holds (λ i. nextOf task n i 0) tasks 32 head → Heads (jobsOf n task cost ready) tasks 0 head

@@ -20,7 +20,7 @@ use Rattle.theory.proofs.JumpLaws.{same-or}
 use Rattle.queues.specs.Queues.{maxFinish, firstFrom}
 use Rattle.queues.proofs.SearchedLaws.{Least, least-is}
 
--- jobs of tasks 0, .., tasks - 1, each with some work, whose start ticks never fall along a task; all are finished before 32 bits run out
+-- jobs of tasks 0, .., tasks - 1, each with some work, whose start ticks never fall along a task; all are finished by the largest finish tick
 pub record Ordered (j : Jobs) (tasks : ℕ) : Type 0 where
   pub all : AllOurs j
   pub few : j .count ≤ maxReleases

@@ -17,13 +17,13 @@ use Rattle.model.specs.Calls.{releasesOf, columnAfter, runInputs}
 use Rattle.model.specs.Run.{jobs, finishOf, finishAt, finishList}
 use Rattle.releases.proofs.ReleaseLaws.{length-releases, release-at}
 use Rattle.model.proofs.TableLaws.{length-table, table-agree}
-use Rattle.shaper.proofs.ShaperLaws.{maxReady}
 use Rattle.trace.specs.TraceCalls.{Shapable}
 use Rattle.trace.proofs.ReadyAtLaws.{ready-rising}
 use Rattle.trace.proofs.ListCallLaws.{Callable, callable-of, listed-shapable, run-checks}
 use Rattle.trace.proofs.CloseWalkLaws.{inside, task-is, list-high, ready-high, ready-slot}
 use Rattle.processor.proofs.FinishBound.{finish-bound}
 use Rattle.queues.specs.Queues.{jobsOf, maxFinish, Runnable}
+use Rattle.queues.specs.TickBounds.{TickBounds}
 use Rattle.queues.proofs.AgreeLaws.{Agree, finish-agree}
 
 -- the ready column once the ready ticks are written
@@ -146,14 +146,16 @@ module _ (s : Tasks) (kept : List ℕ) (n : ℕ) (task tick cost ready finish : 
           table-agree _ (finishAt s (column kept) (releasesOf n task tick cost)) n same-finish
           ∙ ap (table (finishAt s (column kept) (releasesOf n task tick cost))) (sym (length-releases n task tick cost))
 
--- where every check of a run passes, no ready tick of the list is over 2,023,000,000 and no finish over 2,024,000,001
-pub run-bounds
-    : (s : Tasks) (kept : List ℕ) (n : ℕ) (task tick cost ready finish : List ℕ)
-    → none ≡ refusalOf (runInputs s kept n task tick cost ready finish)
-    → (p : ℕ)
-    → p < length (releasesOf n task tick cost)
-    → (readyAt s (column kept) (releasesOf n task tick cost) p ≤ maxReady) × (finishAt s (column kept) (releasesOf n task tick cost) p ≤ maxFinish)
-run-bounds s kept n task tick cost ready finish e p h =
-    let c : Cleared s kept n task tick cost ready finish = record { clear = e } in
-    let l : p < n = omega (arith, length-releases n task tick cost) in
-    (ready-high s n task tick (shapable s kept n task tick cost ready finish c) cost (column kept) p l, finish-high s kept n task tick cost ready finish c p l)
+-- the largest ticks of a run
+pub run-bounds : TickBounds
+run-bounds =
+    record {
+      bounded = λ s kept n task tick cost ready finish e p h.
+          let c : Cleared s kept n task tick cost ready finish = record { clear = sym e } in
+          let l : p < n = omega (arith, length-releases n task tick cost) in
+          record {
+            ready-high = ready-high s n task tick (shapable s kept n task tick cost ready finish c) cost (column kept) p l;
+            finish-high = finish-high s kept n task tick cost ready finish c p l;
+          };
+      fits = omega arith;
+    }

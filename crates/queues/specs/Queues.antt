@@ -1,4 +1,4 @@
--- The jobs of a list in columns of 32-bit numbers, and what the functions over their queues answer.
+-- The jobs of a list in columns of numbers, and what the functions over their queues answer.
 use Prim.Native.Nat.{ℕ, zero, suc, _+_, _-_, _*_, _≤_, _<_, min}
 use mathlib.Core.Path.{_≡_}
 use mathlib.Core.Bool.{Bool, true, cond}
@@ -22,7 +22,7 @@ jobsOf n task cost ready = record {
 }
 
 -- the largest finish tick of a list that passes the checks of a run: the largest release tick, the pickup, and 1,000,000 ticks for each of
--- 1,024 releases: 2,024,000,001
+-- 1,024 releases: 1,000,001,024,000,001
 abbrev pub maxFinish : ℕ
 maxFinish = maxTick + pickup + maxTime * maxReleases
 
@@ -38,13 +38,18 @@ firstFrom test n from = orElse n (first test (n - from) from)
 abbrev pub nextOf : List ℕ → ℕ → ℕ → ℕ → ℕ
 nextOf task n i from = firstFrom (λ p. eqb (getD task p 0) i) n from
 
--- a tick over every tick of 32 bits
+-- a tick over every start and finish tick of a run: 2^64 − 1, the largest of 64 bits
 abbrev pub never : ℕ
-never = 4294967296
+never = 18446744073709551615
 
 -- the tick from which the job at p may run; never where p is past the list
 unfoldable pub wakeOf : List ℕ → ℕ → ℕ → ℕ
 wakeOf ready n p = cond (ltb p n) (plain .start (getD ready p 0)) never
+
+-- a column whose first n slots hold ready ticks of jobs that may run before never
+pub record Timely (n : ℕ) (ready : List ℕ) : Type 0 where
+  pub long : n ≤ length ready
+  pub soon : (p : ℕ) → p < n → plain .start (getD ready p 0) < never
 
 -- the highest-priority task whose oldest unfinished job may run in tick t
 abbrev pub topReady : List ℕ → List ℕ → ℕ → ℕ → ℕ → ℕ

@@ -2,14 +2,14 @@
 // of the ticking run.
 use taskset::PICKUP;
 ghost use mathlib.Core.Path.{_≡_};
-ghost use Prim.Native.Nat.{_≤_, min};
+ghost use Prim.Native.Nat.{_≤_, _<_, min};
 ghost use lib.Dec.{leb};
 ghost use lib.ListN.{length, getD};
 ghost use Rattle.model.specs.Processor.{plain};
-ghost use Rattle.queues.specs.Queues.{nextOf, wakeOf, topReady, wakeAll, workOf, Holds};
+ghost use Rattle.queues.specs.Queues.{nextOf, never, wakeOf, topReady, wakeAll, workOf, Holds, Timely};
 
-// A tick over every tick of 32 bits.
-pub const NEVER: u64 = 4294967296;
+// A tick over every start and finish tick of a run.
+pub const NEVER: u64 = 18446744073709551615;
 
 // The smaller of two numbers.
 pub fn smaller(a: u64, b: u64) -> u64
@@ -19,10 +19,11 @@ pub fn smaller(a: u64, b: u64) -> u64
 }
 
 // The first tick in which a job may run, given its ready tick.
-fn start_of(ready: u32) -> u64
+fn start_of(ready: u64) -> u64
+    requires { ⌜ plain .start ready < never ⌝ }
     ensures { λ r. ⌜ r ≡ plain .start ready ⌝ }
 {
-    numbers::wide(ready) + PICKUP
+    ready + PICKUP
 }
 
 // The first job of task i from a place on, and n where there is none.
@@ -41,8 +42,8 @@ pub fn next_of(task: &[u32], n: usize, i: u32, from: usize) -> usize
 }
 
 // The tick from which the job at p may run, and NEVER where p is past the list.
-pub fn wake_of(ready: &[u32], n: usize, p: usize) -> u64
-    requires { ⌜ n ≤ length (now ready) ⌝ }
+pub fn wake_of(ready: &[u64], n: usize, p: usize) -> u64
+    requires { ⌜ Timely n (now ready) ⌝ }
     ensures { λ r. ⌜ r ≡ wakeOf (now (ready .entry)) n p ⌝ }
 {
     if p < n {
@@ -51,9 +52,9 @@ pub fn wake_of(ready: &[u32], n: usize, p: usize) -> u64
     NEVER
 }
 
-// Whether the job at p may run in tick t: wake_of(ready, n, p) <= t. Written out, the test needs no sum.
-pub fn may_run(ready: &[u32], n: usize, p: usize, t: u64) -> bool
-    requires { ⌜ n ≤ length (now ready) ⌝ }
+// Whether the job at p may run in tick t: wake_of(ready, n, p) <= t. Written out, it is compiled to a comparison of ready tick and t, without a sum.
+pub fn may_run(ready: &[u64], n: usize, p: usize, t: u64) -> bool
+    requires { ⌜ Timely n (now ready) ⌝ }
     ensures { λ r. ⌜ r ≡ leb (wakeOf (now (ready .entry)) n p) t ⌝ }
 {
     if p < n {
@@ -63,8 +64,8 @@ pub fn may_run(ready: &[u32], n: usize, p: usize, t: u64) -> bool
 }
 
 // The highest-priority task whose oldest unfinished job may run in tick t; tasks where there is none.
-pub fn top_ready(head: &[usize; 32], ready: &[u32], n: usize, tasks: usize, t: u64) -> usize
-    requires { ⌜ (tasks ≤ 32) × (n ≤ length (now ready)) ⌝ }
+pub fn top_ready(head: &[usize; 32], ready: &[u64], n: usize, tasks: usize, t: u64) -> usize
+    requires { ⌜ (tasks ≤ 32) × Timely n (now ready) ⌝ }
     ensures { λ r. ⌜ r ≡ topReady (now (head .entry)) (now (ready .entry)) n tasks t ⌝ }
 {
     let mut i = 0;
@@ -78,8 +79,8 @@ pub fn top_ready(head: &[usize; 32], ready: &[u32], n: usize, tasks: usize, t: u
 }
 
 // The first tick in which the oldest unfinished job of some task may run; NEVER where every job is finished.
-pub fn wake_all(head: &[usize; 32], ready: &[u32], n: usize, tasks: usize) -> u64
-    requires { ⌜ (tasks ≤ 32) × (n ≤ length (now ready)) ⌝ }
+pub fn wake_all(head: &[usize; 32], ready: &[u64], n: usize, tasks: usize) -> u64
+    requires { ⌜ (tasks ≤ 32) × Timely n (now ready) ⌝ }
     ensures { λ r. ⌜ r ≡ wakeAll (now (head .entry)) (now (ready .entry)) n tasks ⌝ }
 {
     let mut wake = NEVER;

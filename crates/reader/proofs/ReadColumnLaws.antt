@@ -1,10 +1,11 @@
 -- Laws of the columns that a read writes, and of its answer.
-use Prim.Native.Nat.{ℕ, _+_, _*_, _≤_, _<_}
+use Prim.Native.Nat.{ℕ, _+_, _*_, _-_, _≤_, _<_}
 use mathlib.Core.Path.{_≡_, refl, sym, ap, ap₂, _∙_}
 use mathlib.Core.Option.{some, none}
 use mathlib.Core.List.{List, [], _∷_, _++_, map}
 use native.Mathlib.Omega.{arith}
 use native.Mathlib.Numerals.{add-one}
+use lib.Dec.{eqb}
 use lib.ListN.{length, getD, take, drop, set, length-set, length-map, take-append-drop, List·getD-map}
 use lib.Seq.{take-suc, take-suc-set, take-length, drop-set-lt, drop-drop}
 use Rattle.model.specs.Tasks.{Release, noRelease}
@@ -17,17 +18,12 @@ use Rattle.reader.specs.declared.Scanned.{Scanned}
 use Rattle.reader.specs.declared.ReadOutcome.the-variants.{Read, Refused as Halted}
 use Rattle.taskset.specs.declared.TaskSet.{TaskSet}
 use Rattle.taskset.specs.declared.Checked.the-variants.{Fine, Refused}
-use Rattle.fileformat.specs.Records.{releaseFrom}
+use Rattle.fileformat.specs.Records.{widthIn, Width, short, long, kindOf, bodySize, releaseRecord, releaseFrom, releaseSize}
 use Rattle.fileformat.specs.File.{File, decode}
 use Rattle.fileformat.specs.FileCalls.{setOf, readCall, readCount, readSheet, readColumn}
-use Rattle.reader.specs.Reader.{releaseOf, releasesAt, Listed, answerWith, fileIn, ScanSays, ReadSays}
-use Rattle.reader.proofs.ScanLaws.{length-releases}
-
--- a column of which the first i slots are written
-pub record Copied (vals held now : List ℕ) (i : ℕ) : Type 0 where
-  pub front : take i now ≡ take i vals
-  pub kept : drop i now ≡ drop i held
-  pub long : length now ≡ length held
+use Rattle.reader.specs.Reader.{releaseOf, recordThere, offsetOf, releaseIn, releasesAt, AreReleases, Listed, Copied, Putting, answerWith, fileIn, ScanSays, ReadSays}
+use Rattle.fileformat.proofs.ReleasePlaces.{Placed, placed}
+use Rattle.reader.proofs.ScanLaws.{length-releases, offset-more}
 
 pub copied-none : (vals held : List ℕ) → Copied vals held held 0
 copied-none vals held = record { front = refl; kept = refl; long = refl }
@@ -44,6 +40,14 @@ module _ (vals held now : List ℕ) (i : ℕ) (c : Copied vals held now i) where
         long = simp length-set (c .long);
       }
 
+  copied-here : Copied vals now now i
+  copied-here = record { front = c .front; kept = refl; long = refl }
+
+  copied-past : (n : ℕ) → i ≤ n → drop n now ≡ drop n held
+  copied-past n h =
+      let e : i + (n - i) ≡ n = omega arith in
+      ap (λ k. drop k now) (sym e) ∙ sym (drop-drop (n - i) i now) ∙ ap (drop (n - i)) (c .kept) ∙ drop-drop (n - i) i held ∙ ap (λ k. drop k held) e
+
   pub copied-all : length vals ≤ i → i ≤ length vals → now ≡ columnAfter none vals held
   unfolding columnAfter
   copied-all h g =
@@ -58,7 +62,7 @@ module _ (f : List ℕ) (start count : ℕ) (g : Release → ℕ) where
   length-column : length column ≡ count
   length-column = simp length-map (length-releases f start count)
 
-  column-at : (i : ℕ) → i < count → g (releaseFrom (drop (start + 10 * i + 1) f)) ≡ getD column i (g noRelease)
+  column-at : (i : ℕ) → i < count → g (releaseIn (recordThere f (offsetOf f start i))) ≡ getD column i (g noRelease)
   unfolding releasesAt
   column-at i h = sym (List·getD-map g (releasesAt f start count) i noRelease ∙ ap g (getD-table _ noRelease count i h))
 
@@ -67,32 +71,51 @@ module _ (f : List ℕ) (start count : ℕ) (g : Release → ℕ) where
       → Copied column held now i
       → i < count
       → count ≤ length now
-      → r ≡ releaseFrom (drop (start + 10 * i + 1) f)
+      → r ≡ releaseIn (recordThere f (offsetOf f start i))
       → g noRelease ≡ 0
       → Copied column held (set now i (g r)) (i + 1)
   column-next held now i r c h k e z =
       copied-next _ _ _ i c _ (omega (arith, length-column)) (omega arith) (ap g e ∙ column-at i h ∙ ap (getD column i) z)
 
+  column-then : (held now : List ℕ) (i : ℕ) → Copied column held now i → i ≤ count → columnAfter none column now ≡ columnAfter none column held
+  unfolding columnAfter
+  column-then held now i c h = ap (λ x. column ++ x) (copied-past column held now i c (length column) (omega (arith, length-column)))
+
   column-all : (held now : List ℕ) (i : ℕ) → Copied column held now i → count ≤ i → i ≤ count → now ≡ columnAfter none column held
   column-all held now i c h k = copied-all _ _ _ i c (omega (arith, length-column)) (omega (arith, length-column))
 
--- the three columns, of which the first i slots are written
-pub record Putting (f : List ℕ) (start count : ℕ) (task₀ tick₀ cost₀ task tick cost : List ℕ) (i : ℕ) : Type 0 where
-  pub in-file : start + 10 * count ≤ length f
-  pub within : i ≤ count
-  pub task-long : count ≤ length task
-  pub tick-long : count ≤ length tick
-  pub cost-long : count ≤ length cost
-  pub task-copied : Copied (map (λ r. r .task) (releasesAt f start count)) task₀ task i
-  pub tick-copied : Copied (map (λ r. r .tick) (releasesAt f start count)) tick₀ tick i
-  pub cost-copied : Copied (map (λ r. r .cost) (releasesAt f start count)) cost₀ cost i
+-- the kind byte at an offset tells how long the record of a release is
+pub width-here : (f : List ℕ) (at : ℕ) (w : Width) (r : Release) → Placed f at w r → widthIn (eqb (getD f at 0) 4) ≡ w
+width-here f at w r p = ap (λ k. widthIn (eqb k 4)) (p .kind) ∙ by-kind w
+  where
+    by-kind : (w : Width) → widthIn (eqb (kindOf w) 4) ≡ w
+    by-kind short = refl
+    by-kind long = refl
+
+-- the release record at an offset, as it is read there
+pub record Reading (f : List ℕ) (at : ℕ) : Type 0 where
+  pub width : Width
+  pub job : Release
+  pub there : releaseRecord width job ≡ recordThere f at
+  pub placed-there : Placed f at width job
+  pub kind : widthIn (eqb (getD f at 0) 4) ≡ width
+
+-- a record whose kind byte is 2 has a body of nine bytes
+pub short-room : (f : List ℕ) (at : ℕ) → Reading f at → getD f at 0 ≡ 2 → at + 1 + 9 ≤ length f
+short-room f at r k =
+    let w : short ≡ r .width = ap (λ b. widthIn (eqb b 4)) (sym k) ∙ r .kind in
+    omega (arith, r .placed-there .room, ap bodySize w)
 
 module _ (f : List ℕ) (start count : ℕ) (task₀ tick₀ cost₀ : List ℕ) where
   pub putting-none
-      : start + 10 * count ≤ length f → count ≤ length task₀ → count ≤ length tick₀ → count ≤ length cost₀ → Putting f start count task₀ tick₀ cost₀ task₀ tick₀ cost₀ 0
-  putting-none h a b c =
+      : start ≤ length f → AreReleases f start count → count ≤ length task₀ → count ≤ length tick₀ → count ≤ length cost₀
+      → Putting f start count task₀ tick₀ cost₀ task₀ tick₀ cost₀ (start + 10 * 0) 0
+  unfolding offsetOf
+  putting-none s h a b c =
       record {
-        in-file = h;
+        stand = h;
+        offset = omega arith;
+        inside = omega arith;
         within = omega arith;
         task-long = a;
         tick-long = b;
@@ -102,13 +125,27 @@ module _ (f : List ℕ) (start count : ℕ) (task₀ tick₀ cost₀ : List ℕ)
         cost-copied = copied-none _ _;
       }
 
-  module _ (task tick cost : List ℕ) (i : ℕ) (p : Putting f start count task₀ tick₀ cost₀ task tick cost i) where
+  module _ (task tick cost : List ℕ) (at i : ℕ) (p : Putting f start count task₀ tick₀ cost₀ task tick cost at i) where
+    pub reading : i < count → Reading f at
+    reading h =
+        let s = p .stand i h in
+        let e : releaseRecord (s .0) (s .1) ≡ recordThere f at = s .2 ∙ ap (recordThere f) (sym (p .offset)) in
+        let q = placed f at (s .0) (s .1) e in
+        record { width = s .0; job = s .1; there = e; placed-there = q; kind = width-here f at (s .0) (s .1) q }
+
     pub putting-next
-        : (j : Job) → i < count → releaseOf j ≡ releaseFrom (drop (start + 10 * i + 1) f)
-        → Putting f start count task₀ tick₀ cost₀ (set task i (j .task)) (set tick i (j .tick)) (set cost i (j .cost)) (i + 1)
-    putting-next j h e =
+        : (j : Job) (size : ℕ) → i < count → releaseOf j ≡ releaseFrom (widthIn (eqb (getD f at 0) 4)) (drop (at + 1) f)
+        → size ≡ releaseSize (widthIn (eqb (getD f at 0) 4))
+        → Putting f start count task₀ tick₀ cost₀ (set task i (j .task)) (set tick i (j .tick)) (set cost i (j .cost)) (at + size) (i + 1)
+    unfolding releaseIn
+    putting-next j size h d z =
+        let g = reading h in
+        let e : releaseOf j ≡ releaseIn (recordThere f (offsetOf f start i)) =
+        d ∙ ap (λ w. releaseFrom w (drop (at + 1) f)) (g .kind) ∙ sym (g .placed-there .body) ∙ ap releaseIn (g .there ∙ ap (recordThere f) (p .offset)) in
         record {
-          in-file = p .in-file;
+          stand = p .stand;
+          offset = ap (λ k. at + k) (z ∙ ap releaseSize (g .kind)) ∙ offset-more f start i at (g .width) (g .job) (p .offset) (g .there);
+          inside = omega (arith, z, ap releaseSize (g .kind), g .placed-there .room);
           within = omega arith;
           task-long = simp length-set (p .task-long);
           tick-long = simp length-set (p .tick-long);
@@ -117,6 +154,39 @@ module _ (f : List ℕ) (start count : ℕ) (task₀ tick₀ cost₀ : List ℕ)
           tick-copied = column-next f start count (λ r. r .tick) tick₀ tick i (releaseOf j) (p .tick-copied) h (p .tick-long) e refl;
           cost-copied = column-next f start count (λ r. r .cost) cost₀ cost i (releaseOf j) (p .cost-copied) h (p .cost-long) e refl;
         }
+
+    -- a short record
+    pub putting-short
+        : (j : Job) → i < count → at ≡ start + 10 * i → getD f at 0 ≡ 2 → releaseOf j ≡ releaseFrom short (drop (at + 1) f)
+        → Putting f start count task₀ tick₀ cost₀ (set task i (j .task)) (set tick i (j .tick)) (set cost i (j .cost)) (start + 10 * (i + 1)) (i + 1)
+    putting-short j h o k d =
+        let w : widthIn (eqb (getD f at 0) 4) ≡ short = ap (λ b. widthIn (eqb b 4)) k in
+        let e : at + 10 ≡ start + 10 * (i + 1) = omega arith in
+        rw e at (putting-next j 10 h (d ∙ ap (λ v. releaseFrom v (drop (at + 1) f)) (sym w)) (sym (ap releaseSize w)))
+
+    -- from here on, the slots past i are those that there are
+    pub putting-here : Putting f start count task tick cost task tick cost at i
+    putting-here = record {
+      stand = p .stand;
+      offset = p .offset;
+      inside = p .inside;
+      within = p .within;
+      task-long = p .task-long;
+      tick-long = p .tick-long;
+      cost-long = p .cost-long;
+      task-copied = copied-here _ _ _ i (p .task-copied);
+      tick-copied = copied-here _ _ _ i (p .tick-copied);
+      cost-copied = copied-here _ _ _ i (p .cost-copied);
+    }
+
+    -- and a list written after that is written after all
+    pub putting-then : (task′ tick′ cost′ : List ℕ) → Listed (releasesAt f start count) task tick cost task′ tick′ cost′
+        → Listed (releasesAt f start count) task₀ tick₀ cost₀ task′ tick′ cost′
+    putting-then task′ tick′ cost′ l = record {
+      task-column = l .task-column ∙ column-then f start count (λ r. r .task) _ _ i (p .task-copied) (p .within);
+      tick-column = l .tick-column ∙ column-then f start count (λ r. r .tick) _ _ i (p .tick-copied) (p .within);
+      cost-column = l .cost-column ∙ column-then f start count (λ r. r .cost) _ _ i (p .cost-copied) (p .within);
+    }
 
     pub putting-all : count ≤ i → Listed (releasesAt f start count) task₀ tick₀ cost₀ task tick cost
     putting-all h =

@@ -1,5 +1,5 @@
 -- Laws of the scan: what holds where the scan stands, and what each record does.
-use Prim.Native.Nat.{ℕ, suc, _+_, _*_, _-_, _≤_, _<_}
+use Prim.Native.Nat.{ℕ, zero, suc, _+_, _*_, _-_, _≤_, _<_}
 use mathlib.Core.Path.{_≡_, refl, sym, ap, ap₂, _∙_}
 use mathlib.Core.Option.{some, none}
 use mathlib.Core.List.{List, [], _∷_, _++_}
@@ -19,16 +19,18 @@ use Rattle.taskset.specs.declared.Checked.the-variants.{Fine}
 use Rattle.taskset.specs.TaskSet.{noTask, viewOf}
 use Rattle.releases.specs.Releases.{faultAt}
 use Rattle.releases.proofs.ReleaseLaws.{faulty, fault-of, faultless-of}
-use Rattle.fileformat.specs.Records.{Record, broken, taskRecord, releaseRecord, endRecord, releaseFrom, recordOf, sizeOf}
-use Rattle.fileformat.specs.File.{State, stop, sheetOf, taskFault, listFault, advance, afterEnd, readFrom, empty, decode}
+use Rattle.fileformat.specs.Records.{widthIn, Width, Record, broken, taskRecord, releaseRecord, endRecord, releaseSize, recordOf, sizeOf}
+use Rattle.fileformat.specs.File.{State, stop, sheetOf, taskFault, lowTick, highTick, listFault, advance, afterEnd, readFrom, empty, decode}
 use Rattle.fileformat.specs.FileCalls.{tasksIn, setOf, readSheet}
 use Rattle.fileformat.proofs.StepLaws.{task-few, list-fault, end-early, end-fine, broken-stops, task-stops, task-taken, release-stops, release-taken, end-stops, end-taken, read-stop, read-next, read-last}
 use Rattle.fileformat.proofs.SheetLaws.{same-sheet, length-tasks, list-agrees, set-of-tasks}
+use Rattle.fileformat.proofs.NumberLaws.{by-order}
 use Rattle.fileformat.proofs.OffsetLaws.{room}
-use Rattle.fileformat.proofs.ReleasePlaces.{task-first, release-here}
+use Rattle.fileformat.proofs.ReleasePlaces.{task-first}
+use Rattle.fileformat.proofs.WidthLaws.{size-low}
 use Rattle.reader.specs.declared.Job.{Job}
 use Rattle.reader.specs.declared.Scanned.{Scanned}
-use Rattle.reader.specs.Reader.{releaseOf, releasesAt, answerWith, fileIn, ScanSays, Refuses}
+use Rattle.reader.specs.Reader.{releaseOf, recordThere, offsetOf, releaseIn, releasesAt, AreReleases, answerWith, fileIn, ScanSays, Refuses}
 
 -- an answer is no refusal
 never-both : {A B : Type 0} (a : A) (q : Refusal) → answered a ≡ refused q → B
@@ -36,10 +38,11 @@ never-both a q e = let z : _≡_ {A = ℕ} 0 1 = cc in absurd (omega arith)
 
 -- the fault of a release decides its record's
 pub list-refused
-    : (s : Tasks) (n before p : ℕ) (r : Release) (q : Refusal) → 1 ≤ s .count → some q ≡ faultAt p (releaseFault s before r) → some q ≡ faultAt p (listFault s n before r)
-list-refused s n before p r q l e =
-    let w = fault-of p _ q e in
-    ap some (w .1) ∙ faulty p (q .number) _ (list-fault s n before r (q .number) l (w .0))
+    : (s : Tasks) (n before p : ℕ) (w : Width) (r : Release) (q : Refusal) → 1 ≤ s .count
+    → some q ≡ faultAt p (releaseFault s (lowTick w before) (highTick w) r) → some q ≡ faultAt p (listFault s n before w r)
+list-refused s n before p w r q l e =
+    let a = fault-of p _ q e in
+    ap some (a .1) ∙ faulty p (q .number) _ (list-fault s n before w r (q .number) l (a .0))
 
 -- the releases from an offset on
 pub length-releases : (f : List ℕ) (start n : ℕ) → length (releasesAt f start n) ≡ n
@@ -50,9 +53,26 @@ no-releases : (f : List ℕ) (start n : ℕ) → n ≡ 0 → releasesAt f start 
 unfolding releasesAt table
 no-releases f start n z = ap (releasesAt f start) z
 
-releases-more : (f : List ℕ) (start n : ℕ) (r : Release) → r ≡ releaseFrom (drop (start + 10 * n + 1) f) → releasesAt f start (n + 1) ≡ releasesAt f start n ++ (r ∷ [])
-unfolding releasesAt table
-releases-more f start n r e = rw (add-one, e)
+-- a record before which no record stands begins where they begin
+offset-none : (f : List ℕ) (start n : ℕ) → n ≡ 0 → offsetOf f start n ≡ start
+unfolding offsetOf
+offset-none f start n z = ap (offsetOf f start) z
+
+-- one release record more, at its offset
+module _ (f : List ℕ) (start n at : ℕ) (w : Width) (r : Release) (o : at ≡ offsetOf f start n) (e : releaseRecord w r ≡ recordThere f at) where
+  record-next : releaseRecord w r ≡ recordThere f (offsetOf f start n)
+  record-next = e ∙ ap (recordThere f) o
+
+  pub offset-more : at + releaseSize w ≡ offsetOf f start (n + 1)
+  unfolding offsetOf sizeOf
+  offset-more = rw (add-one, ← record-next) (ap (λ k. k + releaseSize w) o)
+
+  releases-more : releasesAt f start (n + 1) ≡ releasesAt f start n ++ (r ∷ [])
+  unfolding releasesAt table releaseIn
+  releases-more = rw (add-one, ← record-next)
+
+  stand-more : AreReleases f start n → AreReleases f start (n + 1)
+  stand-more h k l = by-order n k (λ g. let x : n ≡ k = omega arith in rw (← x) (w, r, record-next)) (λ g. h k g)
 
 -- what is read so far: the tasks, and so many releases after them
 abbrev pub stateOf : List ℕ → TaskSet → ℕ → ℕ → State
@@ -61,7 +81,9 @@ stateOf f s n before = record { tasks = tasksIn s; releases = releasesAt f (17 *
 -- where the scan stands: the file's answer is what the reading gives from here on
 pub record Scanning (f : List ℕ) (s : TaskSet) (n before at : ℕ) : Type 0 where
   pub rest : decode f ≡ readFrom (suc (length f) - (s .count + n)) (stateOf f s n before) at (drop at f)
-  pub offset : at ≡ 17 * s .count + 10 * n
+  pub offset : at ≡ offsetOf f (17 * s .count) n
+  pub far : 17 * s .count + 10 * n ≤ at
+  pub stand : AreReleases f (17 * s .count) n
   pub within : at ≤ length f
   pub few-tasks : s .count ≤ maxTasks
   pub tasks-long : length (s .tasks) ≡ maxTasks
@@ -79,7 +101,7 @@ module _ (f : List ℕ) (s : TaskSet) (n before at : ℕ) (i : Scanning f s n be
   left = length f - (s .count + n)
 
   more : suc (length f) - (s .count + n) ≡ suc left
-  more = omega (arith, i .offset, i .within)
+  more = omega (arith, i .far, i .within)
 
   abbrev state : State
   state = stateOf f s n before
@@ -101,18 +123,18 @@ module _ (f : List ℕ) (s : TaskSet) (n before at : ℕ) (i : Scanning f s n be
       let w = fault-of at _ q a in
       ap refused (w .1) ∙ stopped (taskRecord t) (q .number) e (task-stops state t (q .number) (sym (task-fault-here t) ∙ w .0))
 
-  list-fault-here : (r : Release) → listFault (viewOf s) n before r ≡ listFault (sheetOf (tasksIn s)) (length (state .releases)) before r
-  list-fault-here r =
-      list-agrees (viewOf s) (sheetOf (tasksIn s)) n before r (same-sheet s in-array)
-      ∙ ap (λ k. listFault (sheetOf (tasksIn s)) k before r) (sym length-here)
+  list-fault-here : (w : Width) (r : Release) → listFault (viewOf s) n before w r ≡ listFault (sheetOf (tasksIn s)) (length (state .releases)) before w r
+  list-fault-here w r =
+      list-agrees (viewOf s) (sheetOf (tasksIn s)) n before w r (same-sheet s in-array)
+      ∙ ap (λ k. listFault (sheetOf (tasksIn s)) k before w r) (sym length-here)
 
   pub scan-job-stops
-      : (j : Job) (q : Refusal) → releaseRecord (releaseOf j) ≡ recordOf (drop at f) → some q ≡ faultAt at (listFault (viewOf s) n before (releaseOf j))
-      → refused q ≡ decode f
-  scan-job-stops j q e a =
-      let w = fault-of at _ q a in
-      ap refused (w .1)
-      ∙ stopped (releaseRecord (releaseOf j)) (q .number) e (release-stops state (releaseOf j) (q .number) (sym (list-fault-here (releaseOf j)) ∙ w .0))
+      : (w : Width) (j : Job) (q : Refusal) → releaseRecord w (releaseOf j) ≡ recordOf (drop at f)
+      → some q ≡ faultAt at (listFault (viewOf s) n before w (releaseOf j)) → refused q ≡ decode f
+  scan-job-stops w j q e a =
+      let b = fault-of at _ q a in
+      ap refused (b .1)
+      ∙ stopped (releaseRecord w (releaseOf j)) (q .number) e (release-stops state w (releaseOf j) (q .number) (sym (list-fault-here w (releaseOf j)) ∙ b .0))
 
   pub scan-end-stops : endRecord ≡ recordOf (drop at f) → s .count ≡ 0 → refused (record { number = 5; place = at }) ≡ decode f
   scan-end-stops e z = stopped endRecord 5 e (end-stops state 5 (end-early _ (length-tasks s in-array ∙ z)))
@@ -142,14 +164,17 @@ module _ (f : List ℕ) (s : TaskSet) (n before at : ℕ) (i : Scanning f s n be
   scan-task-next t e a =
       let fine = faultless-of at _ a in
       let low : s .count < maxTasks = task-few _ _ t fine in
-      let k : left ≡ suc (length f) - (s .count + 1 + n) = omega (arith, i .offset, i .within) in
+      let z : n ≡ 0 = task-first _ _ t fine in
+      let k : left ≡ suc (length f) - (s .count + 1 + n) = omega (arith, i .far, i .within) in
       record {
         rest =
             here
             ∙ read-next left state at (drop at f) (taskRecord t) (sym e) _ (task-taken state t (sym (task-fault-here t) ∙ fine))
             ∙ ap₂ (λ b g. readFrom b (record { tasks = tasksIn s ++ (t ∷ []); releases = state .releases; before = before }) (at + 17) g) k (drop-drop 17 at f)
-            ∙ ap (λ q. readFrom (suc (length f) - (s .count + 1 + n)) q (at + 17) (drop (at + 17) f)) (state-task t low (task-first _ _ t fine));
-        offset = omega (arith, i .offset);
+            ∙ ap (λ q. readFrom (suc (length f) - (s .count + 1 + n)) q (at + 17) (drop (at + 17) f)) (state-task t low z);
+        offset = omega (arith, i .offset, offset-none f (17 * s .count) n z, offset-none f (17 * (s .count + 1)) n z);
+        far = omega (arith, i .far);
+        stand = λ r l. absurd (omega arith);
         within = room f at (taskRecord t) (i .within) e;
         few-tasks = omega arith;
         tasks-long = simp length-set (i .tasks-long);
@@ -157,27 +182,26 @@ module _ (f : List ℕ) (s : TaskSet) (n before at : ℕ) (i : Scanning f s n be
       }
 
   -- a release more
-  releases-here : (j : Job) → releaseRecord (releaseOf j) ≡ recordOf (drop at f) → releasesAt f (17 * s .count) (n + 1) ≡ state .releases ++ (releaseOf j ∷ [])
-  releases-here j e =
-      releases-more f (17 * s .count) n (releaseOf j)
-      (release-here f at (releaseOf j) e ∙ ap (λ k. releaseFrom (drop (k + 1) f)) (i .offset))
-
   pub scan-job-next
-      : (j : Job) → releaseRecord (releaseOf j) ≡ recordOf (drop at f) → none ≡ faultAt at (listFault (viewOf s) n before (releaseOf j))
-      → Scanning f s (n + 1) (j .tick) (at + 10)
+      : (w : Width) (j : Job) → releaseRecord w (releaseOf j) ≡ recordOf (drop at f) → none ≡ faultAt at (listFault (viewOf s) n before w (releaseOf j))
+      → Scanning f s (n + 1) (j .tick) (at + releaseSize w)
   unfolding sizeOf
-  scan-job-next j e a =
+  scan-job-next w j e a =
       let fine = faultless-of at _ a in
-      let k : left ≡ suc (length f) - (s .count + (n + 1)) = omega (arith, i .offset, i .within) in
+      let z = releaseSize w in
+      let k : left ≡ suc (length f) - (s .count + (n + 1)) = omega (arith, i .far, i .within) in
       record {
         rest =
             here
-            ∙ read-next left state at (drop at f) (releaseRecord (releaseOf j)) (sym e) _ (release-taken state (releaseOf j) (sym (list-fault-here (releaseOf j)) ∙ fine))
-            ∙ ap₂ (λ b g. readFrom b (record { tasks = tasksIn s; releases = state .releases ++ (releaseOf j ∷ []); before = j .tick }) (at + 10) g) k (drop-drop 10 at f)
-            ∙ ap (λ q. readFrom (suc (length f) - (s .count + (n + 1))) (record { tasks = tasksIn s; releases = q; before = j .tick }) (at + 10) (drop (at + 10) f))
-            (sym (releases-here j e));
-        offset = omega (arith, i .offset);
-        within = room f at (releaseRecord (releaseOf j)) (i .within) e;
+            ∙ read-next left state at (drop at f) (releaseRecord w (releaseOf j)) (sym e) _
+            (release-taken state w (releaseOf j) (sym (list-fault-here w (releaseOf j)) ∙ fine))
+            ∙ ap₂ (λ b g. readFrom b (record { tasks = tasksIn s; releases = state .releases ++ (releaseOf j ∷ []); before = j .tick }) (at + z) g) k (drop-drop z at f)
+            ∙ ap (λ q. readFrom (suc (length f) - (s .count + (n + 1))) (record { tasks = tasksIn s; releases = q; before = j .tick }) (at + z) (drop (at + z) f))
+            (sym (releases-more f (17 * s .count) n at w (releaseOf j) (i .offset) e));
+        offset = offset-more f (17 * s .count) n at w (releaseOf j) (i .offset) e;
+        far = omega (arith, i .far, size-low w);
+        stand = stand-more f (17 * s .count) n at w (releaseOf j) (i .offset) e (i .stand);
+        within = room f at (releaseRecord w (releaseOf j)) (i .within) e;
         few-tasks = i .few-tasks;
         tasks-long = i .tasks-long;
         padded = i .padded;
@@ -206,7 +230,9 @@ module _ (f : List ℕ) (s : TaskSet) (n before at : ℕ) (i : Scanning f s n be
       (record {
         answer = scan-end e h g;
         sheet = set-of-tasks s in-array (i .padded) ∙ ap readSheet (scan-end e h g);
-        within = omega (arith, i .offset, i .within);
+        few-tasks = i .few-tasks;
+        inside = omega (arith, i .far, i .within);
+        stand = i .stand;
         none-refused = λ q d. never-both _ q (scan-end e h g ∙ d);
       })
 
@@ -217,14 +243,25 @@ scan-refuses f k p r h e =
     record {
       answer = ap (answerWith (fileIn f r)) (h .answer) ∙ e;
       sheet = h .sheet ∙ ap readSheet e;
-      within = omega (arith, ap (λ s. s .count) (h .sheet), h .no-release);
+      few-tasks = omega (arith, ap (λ s. s .count) (h .sheet));
+      inside = omega (arith, ap (λ s. s .count) (h .sheet));
+      stand = λ q l. absurd (omega (arith, h .no-release));
       none-refused = λ q d. h .no-release;
     }
 
 -- where the scan begins
 pub scan-begins : (f : List ℕ) (s : TaskSet) → s ≡ setOf [] → Scanning f s 0 0 0
-unfolding decode setOf tasksIn releasesAt table
+unfolding decode setOf tasksIn releasesAt table offsetOf
 scan-begins f s e =
     let k : suc (length f) ≡ suc (length f) - 0 = omega arith in
     rw e
-    (record { rest = ap (λ b. readFrom b empty 0 f) k; offset = omega arith; within = omega arith; few-tasks = omega arith; tasks-long = refl; padded = refl })
+    (record {
+      rest = ap (λ b. readFrom b empty 0 f) k;
+      offset = refl;
+      far = omega arith;
+      stand = λ r l. absurd (omega arith);
+      within = omega arith;
+      few-tasks = omega arith;
+      tasks-long = refl;
+      padded = refl;
+    })

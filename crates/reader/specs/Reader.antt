@@ -1,16 +1,17 @@
 -- What the reader's structs and answers mean.
-use Prim.Native.Nat.{ℕ, _+_, _*_, _≤_}
+use Prim.Native.Nat.{ℕ, zero, suc, _+_, _*_, _≤_, _<_}
 use mathlib.Core.Path.{_≡_}
 use mathlib.Core.List.{List, [], map}
-use lib.ListN.{length, drop}
+use lib.ListN.{length, take, drop}
 use mathlib.Core.Option.{none}
+use Rattle.model.specs.Limits.{maxTasks}
 use Rattle.model.specs.Calls.{columnAfter}
 use Rattle.model.specs.Series.{table}
-use Rattle.model.specs.Tasks.{Release}
+use Rattle.model.specs.Tasks.{Release, noRelease}
 use Rattle.model.specs.Refusal.{Refusal, Answer, refused, answered}
 use Rattle.taskset.specs.declared.Checked.{Checked}
 use Rattle.taskset.specs.declared.Checked.the-variants.{Fine, Refused}
-use Rattle.fileformat.specs.Records.{Record, broken, taskRecord, releaseRecord, endRecord, releaseFrom}
+use Rattle.fileformat.specs.Records.{Width, short, long, Record, broken, taskRecord, releaseRecord, endRecord, recordOf, sizeOf}
 use Rattle.fileformat.specs.File.{File, decode}
 use Rattle.fileformat.specs.FileCalls.{tasksIn, setOf, readCall, readCount, readSheet, readColumn}
 use Rattle.reader.specs.declared.Job.{Job}
@@ -19,7 +20,7 @@ use Rattle.reader.specs.declared.ReadOutcome.{ReadOutcome}
 use Rattle.reader.specs.declared.ReadOutcome.the-variants.{Read, Refused as Halted}
 use Rattle.reader.specs.declared.ReadAnswer.{ReadAnswer}
 use Rattle.reader.specs.declared.Found.{Found}
-use Rattle.reader.specs.declared.Found.the-variants.{Broken, OfTask, OfRelease, End}
+use Rattle.reader.specs.declared.Found.the-variants.{Broken, OfTask, OfRelease, OfLongRelease, End}
 
 abbrev pub releaseOf : Job → Release
 releaseOf j = record { task = j .task; tick = j .tick; cost = j .cost }
@@ -27,18 +28,57 @@ releaseOf j = record { task = j .task; tick = j .tick; cost = j .cost }
 abbrev pub recordIn : Found → Record
 recordIn (Broken n) = broken n
 recordIn (OfTask t) = taskRecord t
-recordIn (OfRelease j) = releaseRecord (releaseOf j)
+recordIn (OfRelease j) = releaseRecord short (releaseOf j)
+recordIn (OfLongRelease j) = releaseRecord long (releaseOf j)
 recordIn End = endRecord
+
+-- the record at an offset of a file, and the offset of the record r places after one
+abbrev pub recordThere : List ℕ → ℕ → Record
+recordThere f at = recordOf (drop at f)
+
+unfoldable pub offsetOf : List ℕ → ℕ → ℕ → ℕ
+offsetOf f start zero = start
+offsetOf f start (suc r) = offsetOf f start r + sizeOf (recordThere f (offsetOf f start r))
+
+-- the release of a release record
+unfoldable pub releaseIn : Record → Release
+releaseIn (broken n) = noRelease
+releaseIn (taskRecord t) = noRelease
+releaseIn (releaseRecord w r) = r
+releaseIn endRecord = noRelease
 
 -- the n releases whose records stand one after another from an offset of a file on
 unfoldable pub releasesAt : List ℕ → ℕ → ℕ → List Release
-releasesAt f start n = table (λ r. releaseFrom (drop (start + 10 * r + 1) f)) n
+releasesAt f start n = table (λ r. releaseIn (recordThere f (offsetOf f start r))) n
+
+-- and that they are release records
+abbrev pub AreReleases : List ℕ → ℕ → ℕ → Type 0
+AreReleases f start n = (r : ℕ) → r < n → (w : Width) × (q : Release) × (releaseRecord w q ≡ recordThere f (offsetOf f start r))
 
 -- three columns after a list of releases was written to them: slots past it keep what they held
 pub record Listed (l : List Release) (task tick cost task′ tick′ cost′ : List ℕ) : Type 0 where
   pub task-column : task′ ≡ columnAfter none (map (λ r. r .task) l) task
   pub tick-column : tick′ ≡ columnAfter none (map (λ r. r .tick) l) tick
   pub cost-column : cost′ ≡ columnAfter none (map (λ r. r .cost) l) cost
+
+-- a column of which the first i slots are written
+pub record Copied (vals held now : List ℕ) (i : ℕ) : Type 0 where
+  pub front : take i now ≡ take i vals
+  pub kept : drop i now ≡ drop i held
+  pub long : length now ≡ length held
+
+-- the three columns, of which the first i slots are written; the next record stands at an offset
+pub record Putting (f : List ℕ) (start count : ℕ) (task₀ tick₀ cost₀ task tick cost : List ℕ) (at i : ℕ) : Type 0 where
+  pub stand : AreReleases f start count
+  pub offset : at ≡ offsetOf f start i
+  pub inside : at ≤ length f
+  pub within : i ≤ count
+  pub task-long : count ≤ length task
+  pub tick-long : count ≤ length tick
+  pub cost-long : count ≤ length cost
+  pub task-copied : Copied (map (λ r. r .task) (releasesAt f start count)) task₀ task i
+  pub tick-copied : Copied (map (λ r. r .tick) (releasesAt f start count)) tick₀ tick i
+  pub cost-copied : Copied (map (λ r. r .cost) (releasesAt f start count)) cost₀ cost i
 
 -- a refusal, or else a file
 abbrev pub answerWith : File → Checked → Answer File
@@ -49,11 +89,13 @@ answerWith x (Refused n p) = refused (record { number = n; place = p })
 abbrev pub fileIn : List ℕ → Scanned → File
 fileIn f r = record { tasks = tasksIn (r .tasks); releases = releasesAt f (17 * r .tasks .count) (r .releases) }
 
--- what a scan promises: its answer is the file's, the tasks are its sheet, the records of the releases end within it, and a refusal has none
+-- what a scan promises: its answer is the file's, the tasks are its sheet, the records that follow theirs are releases, and a refusal has none
 pub record ScanSays (f : List ℕ) (r : Scanned) : Type 0 where
   pub answer : answerWith (fileIn f r) (r .answer) ≡ decode f
   pub sheet : r .tasks ≡ readSheet (decode f)
-  pub within : 17 * r .tasks .count + 10 * r .releases ≤ length f
+  pub few-tasks : r .tasks .count ≤ maxTasks
+  pub inside : 17 * r .tasks .count ≤ length f
+  pub stand : AreReleases f (17 * r .tasks .count) (r .releases)
   pub none-refused : (q : Refusal) → decode f ≡ refused q → r .releases ≡ 0
 
 -- a refusal of a scan

@@ -1,4 +1,6 @@
 // Reader of the file.
+use numbers::larger;
+use numbers::wide;
 use numbers::wide_byte;
 use taskset::Checked;
 use taskset::Task;
@@ -10,22 +12,23 @@ ghost use Rattle.model.specs.Tasks.{Tasks};
 ghost use Rattle.taskset.specs.TaskSet.{refusalIn};
 ghost use Rattle.releases.specs.Releases.{faultAt};
 ghost use Rattle.fileformat.specs.Numbers.{field};
-ghost use Rattle.fileformat.specs.Records.{taskFrom, releaseFrom, recordOf};
-ghost use Rattle.fileformat.specs.File.{listFault};
-ghost use Rattle.reader.specs.Reader.{releaseOf, recordIn, releasesAt, Listed, ScanSays, Refuses, ReadSays};
+ghost use Rattle.fileformat.specs.Records.{widthIn, bodySize, taskFrom, releaseFrom, releaseSize, recordOf};
+ghost use Rattle.fileformat.specs.File.{lowTick, highTick, listFault};
+ghost use Rattle.reader.specs.Reader.{releaseOf, recordIn, releasesAt, AreReleases, Listed, Putting, ScanSays, Refuses, ReadSays};
 
 // A release as it stands in a file.
 pub struct Job {
     pub task: u32,
-    pub tick: u32,
+    pub tick: u64,
     pub cost: u32,
 }
 
-// The record at an offset, or what is wrong with it.
+// The record at an offset, or what is wrong with it. The tick of a long release record (kind 4) has eight bytes.
 pub enum Found {
     Broken { number: u32 },
     OfTask { task: Task },
     OfRelease { job: Job },
+    OfLongRelease { job: Job },
     End,
 }
 
@@ -48,6 +51,16 @@ fn number_at(f: &[u8], at: usize) -> u32
     a + 256 * b + 65536 * c + 16777216 * d
 }
 
+// The number of the eight bytes at an offset, the low byte first.
+fn wide_number_at(f: &[u8], at: usize) -> u64
+    requires { ⌜ at + 8 ≤ length (now f) ⌝ }
+    ensures { λ r. ⌜ r ≡ field at 8 (now (f .entry)) ⌝ }
+{
+    let low = wide(number_at(f, at));
+    let high = wide(number_at(f, at + 4));
+    low + 4294967296 * high
+}
+
 // The body of a task record.
 fn task_at(f: &[u8], at: usize) -> Task
     requires { ⌜ at + 16 ≤ length (now f) ⌝ }
@@ -66,18 +79,34 @@ fn task_at(f: &[u8], at: usize) -> Task
 }
 
 // The body of a release record.
-fn job_at(f: &[u8], at: usize) -> Job
-    requires { ⌜ at + 9 ≤ length (now f) ⌝ }
-    ensures { λ r. ⌜ releaseOf r ≡ releaseFrom (drop at (now (f .entry))) ⌝ }
+fn job_at(f: &[u8], at: usize, long: bool) -> Job
+    requires { ⌜ at + bodySize (widthIn long) ≤ length (now f) ⌝ }
+    ensures { λ r. ⌜ releaseOf r ≡ releaseFrom (widthIn long) (drop at (now (f .entry))) ⌝ }
 {
     let task = wide_byte(f[at]);
-    let tick = number_at(f, at + 1);
+    if long {
+        let late = wide_number_at(f, at + 1);
+        let cost = number_at(f, at + 9);
+        return Job {
+            task: task,
+            tick: late,
+            cost: cost,
+        };
+    }
+    let tick = wide(number_at(f, at + 1));
     let cost = number_at(f, at + 5);
     Job {
         task: task,
         tick: tick,
         cost: cost,
     }
+}
+
+// The bytes of a release record.
+fn release_size(long: bool) -> usize
+    ensures { λ r. ⌜ r ≡ releaseSize (widthIn long) ⌝ }
+{
+    if long { 14 } else { 10 }
 }
 
 // The record at an offset: 1 where there is no such kind, 2 where the file ends inside it or where a kind is due.
@@ -90,31 +119,60 @@ fn record_at(f: &[u8], at: usize) -> Found
         return Found::Broken { number: 2 };
     }
     let kind = f[at];
-    if kind == 1 {
-        if left < 17 {
-            return Found::Broken { number: 2 };
+    if kind < 3 {
+        if kind == 2 {
+            if left < 10 {
+                return Found::Broken { number: 2 };
+            }
+            let job = job_at(f, at + 1, false);
+            return Found::OfRelease { job: job };
         }
-        let task = task_at(f, at + 1);
-        return Found::OfTask { task: task };
-    }
-    if kind == 2 {
-        if left < 10 {
-            return Found::Broken { number: 2 };
+        if kind == 1 {
+            if left < 17 {
+                return Found::Broken { number: 2 };
+            }
+            let task = task_at(f, at + 1);
+            return Found::OfTask { task: task };
         }
-        let job = job_at(f, at + 1);
-        return Found::OfRelease { job: job };
+        return Found::Broken { number: 1 };
     }
     if kind == 3 {
         return Found::End;
     }
+    if kind == 4 {
+        if left < 14 {
+            return Found::Broken { number: 2 };
+        }
+        let job = job_at(f, at + 1, true);
+        return Found::OfLongRelease { job: job };
+    }
     Found::Broken { number: 1 }
 }
 
-// What is wrong with a release record of a task whose cost is `most`, after so many releases: 8, 9 or 10, with the offset given.
-fn check_job(releases: usize, at: usize, before: u32, most: u32, j: Job) -> Checked
-    ensures { λ r. ⌜ ((s : Tasks) → j .task < s .count → s .cost (j .task) ≡ most → refusalIn r ≡ faultAt at (listFault s releases before (releaseOf j))) ⌝ }
+// The least tick that a release record may have after the tick before it.
+fn low_tick(long: bool, before: u64) -> u64
+    ensures { λ r. ⌜ r ≡ lowTick (widthIn long) before ⌝ }
 {
-    let k = releases::check_release(at, before, most, j.tick, j.cost);
+    if long {
+        return larger(before, 1000000001);
+    }
+    before
+}
+
+// The largest tick that a release record may have.
+fn high_tick(long: bool) -> u64
+    ensures { λ r. ⌜ r ≡ highTick (widthIn long) ⌝ }
+{
+    if long { 1000000000000000 } else { 1000000000 }
+}
+
+// What is wrong with a release record of a task whose cost is `most`, after so many releases: 8, 9 or 10, with the offset given.
+fn check_job(releases: usize, at: usize, before: u64, most: u32, long: bool, j: Job) -> Checked
+    ensures { λ r. ⌜ ((s : Tasks) → j .task < s .count → s .cost (j .task) ≡ most → refusalIn r ≡ faultAt at (listFault s releases before (widthIn long) (releaseOf j))) ⌝ }
+{
+    let low = low_tick(long, before);
+    let high = high_tick(long);
+    let k = releases::check_release(at, low, high, most, j.tick, j.cost);
     let Checked::Fine = k else {
         return k;
     };
@@ -142,13 +200,14 @@ fn refused(number: u32, place: usize) -> Scanned
     }
 }
 
-// The whole file, record by record. The releases are checked and counted.
+// The whole file, record by record. The releases are checked and counted. Each kind of release has a branch of its own, in which the ticks
+// that it may have are known.
 fn scan(f: &[u8]) -> Scanned
     ensures { λ r. ⌜ ScanSays (now (f .entry)) r ⌝ }
 {
     let mut tasks = entries::no_tasks();
     let mut releases = 0;
-    let mut before = 0;
+    let mut before: u64 = 0;
     let mut at = 0;
     loop {
         let r = record_at(f, at);
@@ -173,13 +232,30 @@ fn scan(f: &[u8]) -> Scanned
                     return refused(7, at);
                 }
                 let own = tasks.tasks[i];
-                let k = check_job(releases, at, before, own.cost, job);
+                let k = check_job(releases, at, before, own.cost, false, job);
                 if let Checked::Refused { number, place } = k {
                     return refused(number, place);
                 }
                 releases += 1;
                 before = job.tick;
                 at += 10;
+            }
+            Found::OfLongRelease { job } => {
+                if tasks.count == 0 {
+                    return refused(5, at);
+                }
+                let whose = job.task as usize;
+                if tasks.count <= whose {
+                    return refused(7, at);
+                }
+                let own = tasks.tasks[whose];
+                let k = check_job(releases, at, before, own.cost, true, job);
+                if let Checked::Refused { number, place } = k {
+                    return refused(number, place);
+                }
+                releases += 1;
+                before = job.tick;
+                at += 14;
             }
             Found::End => {
                 if tasks.count == 0 {
@@ -210,33 +286,100 @@ pub struct ReadAnswer {
     pub tasks: TaskSet,
 }
 
-// Writes to three columns the releases whose records stand one after another from an offset on; slots past them keep what they held.
-fn put_columns(
+// Writes to three columns the releases whose records stand one after another from an offset on, as long as they are short; the answer is how
+// many. Slots past them keep what they held.
+fn put_shorts(
     f: &[u8],
     start: usize,
     count: usize,
     task: &mut [u32],
-    tick: &mut [u32],
+    tick: &mut [u64],
+    cost: &mut [u32],
+) -> usize
+    requires { ⌜
+        (start ≤ length (now f))
+        × AreReleases (now f) start count
+        × (count ≤ length (now task))
+        × (count ≤ length (now tick))
+        × (count ≤ length (now cost))
+        ⌝ }
+    ensures { λ r. ⌜
+        Putting (now (f .entry)) start count (now (task .entry)) (now (tick .entry)) (now (cost .entry))
+        (now (task .exit)) (now (tick .exit)) (now (cost .exit)) (start + 10 * r) r
+        ⌝ }
+{
+    let mut i = 0;
+    while i < count {
+        let at = start + 10 * i;
+        if f[at] != 2 {
+            return i;
+        }
+        let job = job_at(f, at + 1, false);
+        task[i] = job.task;
+        tick[i] = job.tick;
+        cost[i] = job.cost;
+        i += 1;
+    }
+    i
+}
+
+// Goes on with a list of which the first releases are written, all of them short: writes the others, whatever their kinds.
+fn put_rest(
+    f: &[u8],
+    start: usize,
+    count: usize,
+    from: usize,
+    task: &mut [u32],
+    tick: &mut [u64],
     cost: &mut [u32],
 )
-    requires { ⌜ (start + 10 * count ≤ length (now f)) × (count ≤ length (now task)) × (count ≤ length (now tick)) × (count ≤ length (now cost)) ⌝ }
+    requires { ⌜ Putting (now f) start count (now task) (now tick) (now cost) (now task) (now tick) (now cost) (start + 10 * from) from ⌝ }
     ensures { λ _. ⌜
         Listed (releasesAt (now (f .entry)) start count) (now (task .entry)) (now (tick .entry)) (now (cost .entry))
         (now (task .exit)) (now (tick .exit)) (now (cost .exit))
         ⌝ }
 {
-    let mut i = 0;
+    let mut at = start + 10 * from;
+    let mut i = from;
     while i < count {
-        let j = job_at(f, start + 10 * i + 1);
+        let long = f[at] == 4;
+        let j = job_at(f, at + 1, long);
         task[i] = j.task;
         tick[i] = j.tick;
         cost[i] = j.cost;
+        at += release_size(long);
         i += 1;
     }
 }
 
+// Writes to three columns the releases whose records stand one after another from an offset on; slots past them keep what they held. Ticks
+// never fall, so the short records come first.
+fn put_columns(
+    f: &[u8],
+    start: usize,
+    count: usize,
+    task: &mut [u32],
+    tick: &mut [u64],
+    cost: &mut [u32],
+)
+    requires { ⌜
+        (start ≤ length (now f))
+        × AreReleases (now f) start count
+        × (count ≤ length (now task))
+        × (count ≤ length (now tick))
+        × (count ≤ length (now cost))
+        ⌝ }
+    ensures { λ _. ⌜
+        Listed (releasesAt (now (f .entry)) start count) (now (task .entry)) (now (tick .entry)) (now (cost .entry))
+        (now (task .exit)) (now (tick .exit)) (now (cost .exit))
+        ⌝ }
+{
+    let shorts = put_shorts(f, start, count, task, tick, cost);
+    put_rest(f, start, count, shorts, task, tick, cost);
+}
+
 // Reads a file: the sheet and, to the columns lent, its releases. The columns are checked (13) after the whole file; a refusal changes no slot.
-pub fn read(f: &[u8], task: &mut [u32], tick: &mut [u32], cost: &mut [u32]) -> ReadAnswer
+pub fn read(f: &[u8], task: &mut [u32], tick: &mut [u64], cost: &mut [u32]) -> ReadAnswer
     ensures { λ r. ⌜ ReadSays (now (f .entry)) (now (task .entry)) (now (tick .entry)) (now (cost .entry)) r (now (task .exit)) (now (tick .exit)) (now (cost .exit)) ⌝ }
 {
     let s = scan(f);

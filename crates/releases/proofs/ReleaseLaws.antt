@@ -69,7 +69,7 @@ module _ (s : Tasks) (n : ℕ) (task tick cost : List ℕ) where
   checking-none = record { within = omega arith; rest = refl }
 
   pub checking-fault
-      : (before i : ℕ) (q : Refusal) → Checking s n task tick cost before i → i < n → some q ≡ faultAt i (releaseFault s before (placed i))
+      : (before i : ℕ) (q : Refusal) → Checking s n task tick cost before i → i < n → some q ≡ faultAt i (releaseFault s before maxTick (placed i))
       → some q ≡ checkReleases s 0 0 (releasesOf n task tick cost)
   checking-fault before i q c h e =
       let w = fault-of i _ q e in
@@ -78,7 +78,7 @@ module _ (s : Tasks) (n : ℕ) (task tick cost : List ℕ) where
       ∙ sym (c .rest ∙ ap (checkReleases s before i) (drop-releases n task tick cost i h))
 
   pub checking-next
-      : (before i : ℕ) → Checking s n task tick cost before i → i < n → none ≡ faultAt i (releaseFault s before (placed i))
+      : (before i : ℕ) → Checking s n task tick cost before i → i < n → none ≡ faultAt i (releaseFault s before maxTick (placed i))
       → Checking s n task tick cost (getD tick i 0) (i + 1)
   checking-next before i c h e =
       record {

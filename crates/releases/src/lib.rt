@@ -12,17 +12,20 @@ ghost use Rattle.model.specs.Calls.{lends, releasesOf, listInputs};
 ghost use Rattle.taskset.specs.TaskSet.{viewOf, refusalIn};
 ghost use Rattle.releases.specs.Releases.{faultAt, release};
 
-// One release of a task whose cost is `most`, given the tick before it: 8 or 9 with the place given, or nothing wrong.
-pub fn check_release(place: usize, before: u32, most: u32, tick: u32, cost: u32) -> Checked
-    ensures { λ r. ⌜ ((s : Tasks) (task : ℕ) → task < s .count → s .cost task ≡ most → refusalIn r ≡ faultAt place (releaseFault s before (release task tick cost))) ⌝ }
+// The largest tick of a release.
+const MAX_TICK: u64 = 1000000000000000;
+
+// One release of a task whose cost is `most`, whose tick may be `low` to `high`: 8 or 9 with the place given, or nothing wrong.
+pub fn check_release(place: usize, low: u64, high: u64, most: u32, tick: u64, cost: u32) -> Checked
+    ensures { λ r. ⌜ ((s : Tasks) (task : ℕ) → task < s .count → s .cost task ≡ most → refusalIn r ≡ faultAt place (releaseFault s low high (release task tick cost))) ⌝ }
 {
-    if tick < before {
+    if tick < low {
         return Checked::Refused {
             number: 8,
             place: place,
         };
     }
-    if 1000000000 < tick {
+    if high < tick {
         return Checked::Refused {
             number: 8,
             place: place,
@@ -44,12 +47,12 @@ pub fn check_release(place: usize, before: u32, most: u32, tick: u32, cost: u32)
 }
 
 // The releases in order: 7, 8 or 9 at the first release with a fault.
-pub fn check_releases(s: TaskSet, count: usize, task: &[u32], tick: &[u32], cost: &[u32]) -> Checked
+pub fn check_releases(s: TaskSet, count: usize, task: &[u32], tick: &[u64], cost: &[u32]) -> Checked
     requires { ⌜ (s .count ≤ 32) × (count ≤ length (now task)) × (count ≤ length (now tick)) × (count ≤ length (now cost)) ⌝ }
     ensures { λ r. ⌜ refusalIn r ≡ checkReleases (viewOf s) 0 0 (releasesOf count (now (task .entry)) (now (tick .entry)) (now (cost .entry))) ⌝ }
 {
     let tasks = s.count;
-    let mut before = 0;
+    let mut before: u64 = 0;
     let mut i = 0;
     while i < count {
         let next = tick[i];
@@ -61,7 +64,7 @@ pub fn check_releases(s: TaskSet, count: usize, task: &[u32], tick: &[u32], cost
             };
         }
         let t = s.tasks[at];
-        let k = check_release(i, before, t.cost, next, cost[i]);
+        let k = check_release(i, before, MAX_TICK, t.cost, next, cost[i]);
         let Checked::Fine = k else {
             return k;
         };
@@ -85,7 +88,7 @@ pub fn check_count(count: usize) -> Checked
 }
 
 // The columns of a list: 13 where one is shorter than the count.
-pub fn check_columns(count: usize, task: &[u32], tick: &[u32], cost: &[u32]) -> Checked
+pub fn check_columns(count: usize, task: &[u32], tick: &[u64], cost: &[u32]) -> Checked
     ensures { λ r. ⌜ refusalIn r ≡ checkSlots (lends count (now (task .entry)) ∷ lends count (now (tick .entry)) ∷ lends count (now (cost .entry)) ∷ []) ⌝ }
 {
     if task.len() < count {
@@ -110,7 +113,7 @@ pub fn check_columns(count: usize, task: &[u32], tick: &[u32], cost: &[u32]) -> 
 }
 
 // A sheet and a list: the sheet (5, 4, 6), the list's count (10), its columns (13), its releases (7, 8, 9).
-pub fn check_list(s: TaskSet, count: usize, task: &[u32], tick: &[u32], cost: &[u32]) -> Checked
+pub fn check_list(s: TaskSet, count: usize, task: &[u32], tick: &[u64], cost: &[u32]) -> Checked
     ensures { λ r. ⌜ refusalIn r ≡ refusalOf (listInputs (viewOf s) count (now (task .entry)) (now (tick .entry)) (now (cost .entry))) ⌝ }
 {
     let sheet = taskset::check(s);

@@ -4,9 +4,9 @@ use libc::STDOUT_FILENO;
 
 fn main() {
     // No byte past these changes the answer.
-    let mut file: [u8; 10801] = [0; 10801];
+    let mut file: [u8; 14897] = [0; 14897];
     let n = io::read_full(STDIN_FILENO, &mut file);
-    let mut out: [u8; 67648] = [0; 67648];
+    let mut out: [u8; 108608] = [0; 108608];
     let m = answers::replay_text(&file, n, &mut out);
     io::write_all(STDOUT_FILENO, &out[..m]);
 }

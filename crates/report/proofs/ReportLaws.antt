@@ -14,27 +14,27 @@ use Rattle.report.specs.PutLine.{PutLine}
 
 -- a field, and what follows it
 pub then
-    : (l : List ℕ) (at n end : ℕ) (m : List ℕ) (r : ℕ) (b k : List ℕ) (t : ℕ)
-    → PutField l at n end m r → Put m r b k t → Put l at (field n end ++ b) k t
-then l at n end m r b k t p q = put-append l at (field n end) m r b k t (p .put) q
+    : (w : ℕ) (l : List ℕ) (at n end : ℕ) (m : List ℕ) (r : ℕ) (b k : List ℕ) (t : ℕ)
+    → PutField w l at n end m r → Put m r b k t → Put l at (field n end ++ b) k t
+then w l at n end m r b k t p q = put-append l at (field n end) m r b k t (p .put) q
 
 -- the line of a task, field after field
 pub task-line
     : (x0 x1 x2 x3 x4 x5 x6 : ℕ) (m0 m1 m2 m3 m4 m5 m6 m7 : List ℕ) (r0 r1 r2 r3 r4 r5 r6 r7 : ℕ)
-    → PutField m0 r0 x0 32 m1 r1
-    → PutField m1 r1 x1 32 m2 r2
-    → PutField m2 r2 x2 32 m3 r3
-    → PutField m3 r3 x3 32 m4 r4
-    → PutField m4 r4 x4 32 m5 r5
-    → PutField m5 r5 x5 32 m6 r6
-    → PutField m6 r6 x6 10 m7 r7
+    → PutField 11 m0 r0 x0 32 m1 r1
+    → PutField 11 m1 r1 x1 32 m2 r2
+    → PutField 11 m2 r2 x2 32 m3 r3
+    → PutField 11 m3 r3 x3 32 m4 r4
+    → PutField 11 m4 r4 x4 32 m5 r5
+    → PutField 11 m5 r5 x5 32 m6 r6
+    → PutField 11 m6 r6 x6 10 m7 r7
     → PutLine 77 m0 r0 (choiceFields x0 x1 x2 x3 x4 x5 x6) m7 r7
 unfolding choiceFields
 task-line x0 x1 x2 x3 x4 x5 x6 m0 m1 m2 m3 m4 m5 m6 m7 r0 r1 r2 r3 r4 r5 r6 r7 p0 p1 p2 p3 p4 p5 p6 = record {
   put =
-      then m0 r0 x0 32 m1 r1 _ m7 r7 p0
-      (then m1 r1 x1 32 m2 r2 _ m7 r7 p1
-      (then m2 r2 x2 32 m3 r3 _ m7 r7 p2 (then m3 r3 x3 32 m4 r4 _ m7 r7 p3 (then m4 r4 x4 32 m5 r5 _ m7 r7 p4 (then m5 r5 x5 32 m6 r6 _ m7 r7 p5 (p6 .put))))));
+      then _ m0 r0 x0 32 m1 r1 _ m7 r7 p0
+      (then _ m1 r1 x1 32 m2 r2 _ m7 r7 p1
+      (then _ m2 r2 x2 32 m3 r3 _ m7 r7 p2 (then _ m3 r3 x3 32 m4 r4 _ m7 r7 p3 (then _ m4 r4 x4 32 m5 r5 _ m7 r7 p4 (then _ m5 r5 x5 32 m6 r6 _ m7 r7 p5 (p6 .put))))));
   small = omega arith;
   long = omega arith;
 }
@@ -42,18 +42,18 @@ task-line x0 x1 x2 x3 x4 x5 x6 m0 m1 m2 m3 m4 m5 m6 m7 r0 r1 r2 r3 r4 r5 r6 r7 p
 -- the line of a release, field after field
 pub job-line
     : (x0 x1 x2 x3 x4 x5 : ℕ) (m0 m1 m2 m3 m4 m5 m6 : List ℕ) (r0 r1 r2 r3 r4 r5 r6 : ℕ)
-    → PutField m0 r0 x0 32 m1 r1
-    → PutField m1 r1 x1 32 m2 r2
-    → PutField m2 r2 x2 32 m3 r3
-    → PutField m3 r3 x3 32 m4 r4
-    → PutField m4 r4 x4 32 m5 r5
-    → PutField m5 r5 x5 10 m6 r6
-    → PutLine 66 m0 r0 (runFields x0 x1 x2 x3 x4 x5) m6 r6
+    → PutField 11 m0 r0 x0 32 m1 r1
+    → PutField 11 m1 r1 x1 32 m2 r2
+    → PutField 21 m2 r2 x2 32 m3 r3
+    → PutField 21 m3 r3 x3 32 m4 r4
+    → PutField 21 m4 r4 x4 32 m5 r5
+    → PutField 21 m5 r5 x5 10 m6 r6
+    → PutLine 106 m0 r0 (runFields x0 x1 x2 x3 x4 x5) m6 r6
 unfolding runFields
 job-line x0 x1 x2 x3 x4 x5 m0 m1 m2 m3 m4 m5 m6 r0 r1 r2 r3 r4 r5 r6 p0 p1 p2 p3 p4 p5 = record {
   put =
-      then m0 r0 x0 32 m1 r1 _ m6 r6 p0
-      (then m1 r1 x1 32 m2 r2 _ m6 r6 p1 (then m2 r2 x2 32 m3 r3 _ m6 r6 p2 (then m3 r3 x3 32 m4 r4 _ m6 r6 p3 (then m4 r4 x4 32 m5 r5 _ m6 r6 p4 (p5 .put)))));
+      then _ m0 r0 x0 32 m1 r1 _ m6 r6 p0
+      (then _ m1 r1 x1 32 m2 r2 _ m6 r6 p1 (then _ m2 r2 x2 32 m3 r3 _ m6 r6 p2 (then _ m3 r3 x3 32 m4 r4 _ m6 r6 p3 (then _ m4 r4 x4 32 m5 r5 _ m6 r6 p4 (p5 .put)))));
   small = omega arith;
   long = omega arith;
 }
@@ -61,13 +61,13 @@ job-line x0 x1 x2 x3 x4 x5 m0 m1 m2 m3 m4 m5 m6 r0 r1 r2 r3 r4 r5 r6 p0 p1 p2 p3
 -- the line of a refusal
 pub refusal-line
     : (n p : ℕ) (l m1 : List ℕ) (r1 : ℕ) (m2 : List ℕ) (r2 : ℕ) (m3 : List ℕ) (r3 : ℕ) (m4 : List ℕ) (r4 : ℕ)
-    → Put l 0 refusedWord m1 r1 → PutField m1 r1 n 32 m2 r2 → Put m2 r2 atWord m3 r3 → PutField m3 r3 p 10 m4 r4
+    → Put l 0 refusedWord m1 r1 → PutField 11 m1 r1 n 32 m2 r2 → Put m2 r2 atWord m3 r3 → PutField 11 m3 r3 p 10 m4 r4
     → PutLine 64 l 0 (refusalText n p) m4 r4
 unfolding refusalText
 refusal-line n p l m1 r1 m2 r2 m3 r3 m4 r4 a b c d = record {
   put =
       put-append l 0 refusedWord m1 r1 _ m4 r4 a
-      (then m1 r1 n 32 m2 r2 _ m4 r4 b (put-append m2 r2 atWord m3 r3 (field p 10) m4 r4 c (d .put)));
+      (then _ m1 r1 n 32 m2 r2 _ m4 r4 b (put-append m2 r2 atWord m3 r3 (field p 10) m4 r4 c (d .put)));
   small = omega (arith, a .next, c .next);
   long = d .long ∙ put-length m2 r2 atWord m3 r3 c ∙ b .long ∙ put-length l 0 refusedWord m1 r1 a;
 }
@@ -87,7 +87,7 @@ choice-page s ks ws l m1 r1 m2 r2 m3 r3 a b c = record {
 -- the text of a run: header, lines
 pub run-page
     : (n : ℕ) (ta ti re fi l m1 : List ℕ) (r1 : ℕ) (m2 : List ℕ) (r2 : ℕ)
-    → Put l 0 runHeader m1 r1 → PutLine 67584 m1 r1 (lines (runLine ta ti re fi) n) m2 r2 → PutLine 67648 l 0 (runText n ta ti re fi) m2 r2
+    → Put l 0 runHeader m1 r1 → PutLine 108544 m1 r1 (lines (runLine ta ti re fi) n) m2 r2 → PutLine 108608 l 0 (runText n ta ti re fi) m2 r2
 unfolding runText
 run-page n ta ti re fi l m1 r1 m2 r2 a b = record {
   put = put-append l 0 runHeader m1 r1 _ m2 r2 a (b .put);

@@ -29,20 +29,20 @@ fn put_job(
     at: usize,
     p: u32,
     i: u32,
-    tick: u32,
-    ready: u32,
-    finish: u32,
-    response: u32,
+    tick: u64,
+    ready: u64,
+    finish: u64,
+    response: u64,
 ) -> usize
-    requires { ⌜ at + 66 ≤ length (now out) ⌝ }
-    ensures { λ r. ⌜ PutLine 66 (now (out .entry)) at (runFields p i tick ready finish response) (now (out .exit)) r ⌝ }
+    requires { ⌜ at + 106 ≤ length (now out) ⌝ }
+    ensures { λ r. ⌜ PutLine 106 (now (out .entry)) at (runFields p i tick ready finish response) (now (out .exit)) r ⌝ }
 {
     let a = text::put_field(out, at, p, 32);
     let b = text::put_field(out, a, i, 32);
-    let c = text::put_field(out, b, tick, 32);
-    let d = text::put_field(out, c, ready, 32);
-    let e = text::put_field(out, d, finish, 32);
-    text::put_field(out, e, response, 10)
+    let c = text::put_wide_field(out, b, tick, 32);
+    let d = text::put_wide_field(out, c, ready, 32);
+    let e = text::put_wide_field(out, d, finish, 32);
+    text::put_wide_field(out, e, response, 10)
 }
 
 // The line of a refusal.
@@ -83,7 +83,7 @@ pub fn put_choice(out: &mut [u8], s: TaskSet, kept: &[u32], worst: &[u32]) -> us
 }
 
 // The response of a job.
-fn response(finish: u32, tick: u32) -> u32
+fn response(finish: u64, tick: u64) -> u64
     ensures { λ r. ⌜ r ≡ finish - tick ⌝ }
 {
     if finish < tick { 0 } else { finish - tick }
@@ -95,12 +95,12 @@ fn put_jobs(
     from: usize,
     n: usize,
     task: &[u32],
-    tick: &[u32],
-    ready: &[u32],
-    finish: &[u32],
+    tick: &[u64],
+    ready: &[u64],
+    finish: &[u64],
 ) -> usize
     requires { ⌜
-        (from + 67584 ≤ length (now out))
+        (from + 108544 ≤ length (now out))
         × (n ≤ 1024)
         × (n ≤ length (now task))
         × (n ≤ length (now tick))
@@ -108,7 +108,7 @@ fn put_jobs(
         × (n ≤ length (now finish))
         ⌝ }
     ensures { λ r. ⌜
-        PutLine 67584 (now (out .entry)) from (lines (runLine (now (task .entry)) (now (tick .entry)) (now (ready .entry)) (now (finish .entry))) n) (now (out .exit)) r
+        PutLine 108544 (now (out .entry)) from (lines (runLine (now (task .entry)) (now (tick .entry)) (now (ready .entry)) (now (finish .entry))) n) (now (out .exit)) r
         ⌝ }
 {
     let mut at = from;
@@ -134,13 +134,13 @@ pub fn put_run(
     out: &mut [u8],
     n: usize,
     task: &[u32],
-    tick: &[u32],
-    ready: &[u32],
-    finish: &[u32],
+    tick: &[u64],
+    ready: &[u64],
+    finish: &[u64],
 ) -> usize
-    requires { ⌜ (67648 ≤ length (now out)) × (n ≤ 1024) × (n ≤ length (now task)) × (n ≤ length (now tick)) × (n ≤ length (now ready)) × (n ≤ length (now finish)) ⌝ }
+    requires { ⌜ (108608 ≤ length (now out)) × (n ≤ 1024) × (n ≤ length (now task)) × (n ≤ length (now tick)) × (n ≤ length (now ready)) × (n ≤ length (now finish)) ⌝ }
     ensures { λ r. ⌜
-        PutLine 67648 (now (out .entry)) 0 (runText n (now (task .entry)) (now (tick .entry)) (now (ready .entry)) (now (finish .entry))) (now (out .exit)) r
+        PutLine 108608 (now (out .entry)) 0 (runText n (now (task .entry)) (now (tick .entry)) (now (ready .entry)) (now (finish .entry))) (now (out .exit)) r
         ⌝ }
 {
     let a = text::put_bytes(out, 0, b"job task release ready finish response\n");

@@ -25,10 +25,10 @@ ghost use Rattle.queues.specs.Queues.{jobsOf, Runnable};
 fn fill_finish(
     task: &[u32],
     cost: &[u32],
-    ready: &[u32],
+    ready: &[u64],
     n: usize,
     tasks: usize,
-    finish: &mut [u32],
+    finish: &mut [u64],
 )
     requires { ⌜ Runnable n tasks (now task) (now cost) (now ready) (now finish) ⌝ }
     ensures { λ _. ⌜
@@ -61,7 +61,7 @@ fn fill_finish(
             continue;
         }
         let p = head[i];
-        finish[p] = t as u32;
+        finish[p] = t;
         let next = next_of(task, n, i as u32, p + 1);
         head[i] = next;
         left[i] = work_of(cost, n, next);
@@ -75,10 +75,10 @@ pub fn run(
     kept: &[u32],
     count: usize,
     task: &[u32],
-    tick: &[u32],
+    tick: &[u64],
     cost: &[u32],
-    ready: &mut [u32],
-    finish: &mut [u32],
+    ready: &mut [u64],
+    finish: &mut [u64],
 ) -> Checked
     ensures refusal { λ r. ⌜
         refusalIn r

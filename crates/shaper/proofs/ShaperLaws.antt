@@ -10,6 +10,7 @@ use Rattle.model.specs.Gap.{gap}
 use Rattle.model.specs.Ready.{after, readyNext, readyFrom, readyTicks}
 use Rattle.shaper.specs.declared.Shaper.{Shaper}
 use Rattle.shaper.specs.declared.Shaped.{Shaped}
+use Rattle.shaper.specs.ReadyTicks.{maxReady}
 use Rattle.shaper.specs.Shaper.{latest, due, stateOf, shapedAfter, readyBy, advance, shapeOne, Small, Shapes}
 use Rattle.shaper.proofs.ReadyLaws.{ready-most}
 use Rattle.shaper.proofs.History.{historyFrom, historyOf, history-snoc}
@@ -104,11 +105,7 @@ module _ (P K : ℕ) where
       next : due P (readyNext P K h x ∷ h) 1 ≤ b + P
       next = omega (arith, due-next P h (readyNext P K h x), next-le h x b (g 0 (omega arith)) l)
 
--- the largest ready tick of a list within document 01's limits: the largest release and 1,023 periods
-abbrev pub maxReady : ℕ
-maxReady = 2023000000
-
--- a task's releases within document 01's limits, for a period P
+-- a task's releases within the documents' limits, for a period P
 pub record Within (P : ℕ) (a : List ℕ) : Type 0 where
   pub period-high : P ≤ maxTime
   pub few : length a ≤ maxReleases
@@ -133,7 +130,7 @@ module _ (P K : ℕ) (a : List ℕ) (w : Within P a) where
       omega (
         arith,
         ready-most P K a n maxTick l (λ m i. w .ticks-high m (omega arith)),
-        periods-le P n 1023 (w .period-high) (omega (arith, w .few)),
+        periods-le P n (maxReleases - 1) (w .period-high) (omega (arith, w .few)),
       )
 
 -- the state of a task in a list: it stands for the releases before the first ..

@@ -64,17 +64,14 @@ decimal-below n (suc k) h = go (ltb n 10) refl (decimal-below (n / 10) k)
     go true e ih = omega (arith, decimal-some n (ltb-true n 10 e))
     go false e ih = omega (arith, decimal-last n (ltb-false n 10 e), ih (omega arith))
 
--- and one byte more in its field
-pub field-below : (n end k : ℕ) → n < 10 ^ suc k → length (field n end) ≤ suc (suc k)
+-- a field is one byte longer than its number
+pub field-long : (n end : ℕ) → length (field n end) ≡ length (decimal n) + 1
 unfolding field
-field-below n end k h = omega (arith, length-append (decimal n) (end ∷ []), decimal-below n k h)
+field-long n end = length-append (decimal n) (end ∷ [])
 
--- a number of 32 bits
-pub decimal-length : (n : ℕ) → n < 4294967296 → length (decimal n) ≤ 10
-decimal-length n h = decimal-below n 9 (omega arith)
-
-pub field-length : (n end : ℕ) → n < 4294967296 → length (field n end) ≤ 11
-field-length n end h = field-below n end 9 (omega arith)
+-- the field of a number below 10^(k + 1)
+pub field-below : (n end k : ℕ) → n < 10 ^ suc k → length (field n end) ≤ suc (suc k)
+field-below n end k h = omega (arith, field-long n end, decimal-below n k h)
 
 pub put-nothing : (l : List ℕ) (i : ℕ) → Put l i [] l i
 put-nothing l i = record { holds = refl; next = sym (add-zero i) }
@@ -107,9 +104,15 @@ pub put-ended : (l : List ℕ) (at n end : ℕ) (m : List ℕ) (r : ℕ) (k : Li
 unfolding field
 put-ended l at n end m r k t p q = put-append l at (decimal n) m r (end ∷ []) k t p q
 
-pub field-put : (l : List ℕ) (at n end : ℕ) (m : List ℕ) (r : ℕ) → n < 4294967296 → Put l at (field n end) m r → PutField l at n end m r
-field-put l at n end m r h p = record {
+-- room for k + 2 bytes is room for the field of a number below 10^(k + 1)
+pub field-room : (at n end k long : ℕ) → n < 10 ^ suc k → at + suc (suc k) ≤ long → at + length (field n end) ≤ long
+field-room at n end k long h room = omega (arith, field-below n end k h)
+
+-- a number below 10^(k + 1) was written
+pub field-put
+    : (l : List ℕ) (at n end k : ℕ) (m : List ℕ) (r : ℕ) → n < 10 ^ suc k → Put l at (field n end) m r → PutField (suc (suc k)) l at n end m r
+field-put l at n end k m r h p = record {
   put = p;
-  small = omega (arith, field-length n end h, p .next);
+  small = omega (arith, field-below n end k h, p .next);
   long = put-length l at (field n end) m r p;
 }

@@ -34,8 +34,8 @@ pub record Put (held : List ℕ) (at : ℕ) (text now : List ℕ) (r : ℕ) : Ty
   pub holds : now ≡ sets held at text
   pub next : r ≡ at + length text
 
--- a field was written, of at most 11 bytes
-pub record PutField (held : List ℕ) (at n end : ℕ) (now : List ℕ) (r : ℕ) : Type 0 where
+-- a field was written, of at most so many bytes
+pub record PutField (most : ℕ) (held : List ℕ) (at n end : ℕ) (now : List ℕ) (r : ℕ) : Type 0 where
   pub put : Put held at (field n end) now r
-  pub small : r ≤ at + 11
+  pub small : r ≤ at + most
   pub long : length now ≡ length held

@@ -12,6 +12,7 @@ use Rattle.taskset.specs.declared.Task.{Task}
 use Rattle.taskset.specs.TaskSet.{noTask}
 use Rattle.fileformat.specs.Records.{taskRecord, endRecord, taskBytes, recordBytes, sizeOf}
 use Rattle.fileformat.specs.File.{File, joined, encode, decode, readFrom, afterEnd, empty, taskFault, endFault}
+use Rattle.fileformat.specs.FileCalls.{listBytes}
 use Rattle.fileformat.proofs.RecordLaws.{TaskFits, length-task, task-read, record-end}
 use Rattle.fileformat.proofs.StepLaws.{task-stops, task-taken, end-stops, end-taken, read-stop, read-next, read-last}
 use Rattle.fileformat.proofs.RoundTrips.{taskPart, encode-parts, length-encode, tasksOnly, decode-encode}
@@ -75,7 +76,7 @@ same-from (t ∷ l) n ts at h a =
 
 -- numbers that records hold: a text answers as the file with the same numbers does, line n as the record at 17n
 pub same-if-fit : (ts : List Task) → AllFit ts → decode (encode (tasksAlone ts)) ≡ inRecords (load (textOf ts))
-unfolding decode load joined
+unfolding decode load joined listBytes
 same-if-fit ts h =
     let e : suc (length (encode (tasksAlone ts))) ≡ length ts + suc (16 * length ts + 1) = omega (arith, length-encode (tasksAlone ts)) in
     ap₂ (λ k f. readFrom k empty 0 f) e (encode-parts (tasksAlone ts)) ∙ same-from ts (16 * length ts + 1) [] 0 h refl

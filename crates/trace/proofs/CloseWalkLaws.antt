@@ -13,7 +13,8 @@ use Rattle.model.specs.Calls.{releasesOf}
 use Rattle.shaper.specs.declared.Shaper.{Shaper}
 use Rattle.shaper.specs.declared.Shaped.{Shaped}
 use Rattle.shaper.specs.Shaper.{Small, Shapes}
-use Rattle.shaper.proofs.ShaperLaws.{maxReady, ready-within}
+use Rattle.shaper.specs.ReadyTicks.{maxReady}
+use Rattle.shaper.proofs.ShaperLaws.{ready-within}
 use Rattle.releases.proofs.ReleaseLaws.{length-releases, release-at}
 use Rattle.model.proofs.TableLaws.{length-table, getD-table}
 use Rattle.trace.specs.Standing.{Standing}
@@ -42,7 +43,7 @@ module _ (s : Tasks) (n : ℕ) (task tick : List ℕ) (w : Shapable s n task tic
   pub list-high : (q : ℕ) → q < length (releasesOf n task tick cost) → releaseAt (releasesOf n task tick cost) q .tick ≤ maxTick
   list-high q g = let e : q < n = omega (arith, length-releases n task tick cost) in rw (release-at n task tick cost q e) (w .tick-high q e)
 
-  -- no ready tick passes 2,023,000,000
+  -- no ready tick is over the largest that the limits allow
   pub ready-high : (k : ℕ → ℕ) (p : ℕ) → p < n → readyAt s k (releasesOf n task tick cost) p ≤ maxReady
   ready-high k p h =
       let i = getD task p 0 in
@@ -71,9 +72,7 @@ pub record Walking (s : Tasks) (k : ℕ → ℕ) (n : ℕ) (task tick : List ℕ
 -- the release at p has gone through its task's shaper, with the answer g. `none` stands for an entry that m does not have
 pub record Step (task tick : List ℕ) (m : List Shaper) (p : ℕ) (g : Shaped) : Type 0 where
   pub none : Shaper
-  pub release : ℕ
-  pub is-tick : release ≡ getD tick p 0
-  pub shapes : Shapes (getD m (getD task p 0) none) release g
+  pub shapes : Shapes (getD m (getD task p 0) none) (getD tick p 0) g
 
 module _ (s : Tasks) (k : ℕ → ℕ) (n : ℕ) (task tick : List ℕ) where
   pub walk-fresh : (m : List Shaper) → Standing (s .period) k (λ i. []) (s .count) m → Walking s k n task tick m 0
@@ -90,41 +89,33 @@ module _ (s : Tasks) (k : ℕ → ℕ) (n : ℕ) (task tick : List ℕ) where
     l cost = releasesOf n task tick cost
 
     -- the step is allowed
-    pub walk-small : (d : Shaper) (x : ℕ) → x ≡ a → Small (getD m i d) x
-    walk-small d x e =
-        rw e
-        (step-small s k (l []) m p i a (v .standing []) (inside n task tick [] p h) (task-is n task tick [] p h) (tick-is n task tick [] p h) (w .few-tasks)
+    pub walk-small : (d : Shaper) → Small (getD m i d) a
+    walk-small d =
+        step-small s k (l []) m p i a (v .standing []) (inside n task tick [] p h) (task-is n task tick [] p h) (tick-is n task tick [] p h) (w .few-tasks)
         (w .known p h) d
-        (w .period-high i (w .known p h)) (list-few s n task tick w []) (list-high s n task tick w []))
+        (w .period-high i (w .known p h)) (list-few s n task tick w []) (list-high s n task tick w [])
 
     module _ (g : Shaped) (f : Step task tick m p g) where
-      shapes : Shapes (getD m i (f .none)) a g
-      shapes = rw (f .is-tick) at (f .shapes)
-
       module _ (cost : List ℕ) where
         -- the step's ready tick is that of the list
         pub walk-ready : g .ready ≡ readyAt s k (l cost) p
         walk-ready =
             step-ready s k (l cost) m p i a (v .standing cost) (inside n task tick cost p h) (task-is n task tick cost p h) (tick-is n task tick cost p h) (w .few-tasks)
             (w .known p h) (f .none)
-            g shapes
+            g (f .shapes)
 
         -- and that of the task's history
         pub walk-history : g .ready ≡ readyNext (s .period i) (k i) (historyAt s k (l cost) p i) a
         walk-history =
             step-next s k (l cost) m p i a (v .standing cost) (inside n task tick cost p h) (task-is n task tick cost p h) (tick-is n task tick cost p h) (w .few-tasks)
             (w .known p h) (f .none)
-            g shapes
+            g (f .shapes)
 
         stands : StandingAt s k (l cost) (set m i (g .state)) (suc p)
         stands =
             standing-step s k (l cost) m p i a (v .standing cost) (inside n task tick cost p h) (task-is n task tick cost p h) (tick-is n task tick cost p h)
             (w .few-tasks) (w .known p h) (f .none)
-            g shapes
-
-      -- its ready tick is within 32 bits
-      pub walk-fits : g .ready ≤ maxReady
-      walk-fits = rw (walk-ready []) (ready-high s n task tick w [] k p h)
+            g (f .shapes)
 
       pub walk-next : Walking s k n task tick (set m i (g .state)) (p + 1)
       walk-next = record { within = omega arith; standing = λ cost. rw add-one (stands cost) }

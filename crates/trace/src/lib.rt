@@ -1,5 +1,4 @@
 // The trace check and the ready ticks of a list of releases: one shaper for each task of the sheet.
-use numbers::wide;
 use shaper::Shaper;
 use taskset::Checked;
 use taskset::TaskSet;
@@ -73,8 +72,8 @@ pub fn fill_ready(
     kept: &[u32],
     count: usize,
     task: &[u32],
-    tick: &[u32],
-    ready: &mut [u32],
+    tick: &[u64],
+    ready: &mut [u64],
 )
     requires { ⌜ Shapable (viewOf s) count (now task) (now tick) × (s .count ≤ length (now kept)) × (count ≤ length (now ready)) ⌝ }
     ensures { λ _. ⌜
@@ -87,17 +86,17 @@ pub fn fill_ready(
     while p < count {
         let i = task[p] as usize;
         let state = all.of[i];
-        let got = state.shape(wide(tick[p]));
+        let got = state.shape(tick[p]);
         let after = got.state;
         all.of[i] = after;
-        ready[p] = got.ready as u32;
+        ready[p] = got.ready;
         p += 1;
     }
 }
 
 // Whether a list that passed its check is legal: the first release that the shapers with the full jitters would move is the first that is
 // too close.
-fn first_close(s: TaskSet, count: usize, task: &[u32], tick: &[u32]) -> TraceAnswer
+fn first_close(s: TaskSet, count: usize, task: &[u32], tick: &[u64]) -> TraceAnswer
     requires { ⌜ Shapable (viewOf s) count (now task) (now tick) ⌝ }
     ensures { λ r. ⌜ ((cost : List ℕ) → traceIn r ≡ answered (firstClose (viewOf s) (releasesOf count (now (task .entry)) (now (tick .entry)) cost))) ⌝ }
 {
@@ -105,7 +104,7 @@ fn first_close(s: TaskSet, count: usize, task: &[u32], tick: &[u32]) -> TraceAns
     let mut p = 0;
     while p < count {
         let i = task[p] as usize;
-        let at = wide(tick[p]);
+        let at = tick[p];
         let state = all.of[i];
         let got = state.shape(at);
         if at < got.ready {
@@ -123,7 +122,7 @@ pub fn check_trace(
     s: TaskSet,
     count: usize,
     task: &[u32],
-    tick: &[u32],
+    tick: &[u64],
     cost: &[u32],
 ) -> TraceAnswer
     ensures { λ r. ⌜ traceIn r ≡ traceCall (viewOf s) count (now (task .entry)) (now (tick .entry)) (now (cost .entry)) ⌝ }
@@ -145,7 +144,7 @@ fn check_slots(
     kept: &[u32],
     count: usize,
     task: &[u32],
-    tick: &[u32],
+    tick: &[u64],
     cost: &[u32],
     slots: usize,
 ) -> Checked
@@ -177,7 +176,7 @@ pub fn check_call(
     kept: &[u32],
     count: usize,
     task: &[u32],
-    tick: &[u32],
+    tick: &[u64],
     cost: &[u32],
     slots: usize,
 ) -> Checked
@@ -216,7 +215,7 @@ pub fn check_two(
     kept: &[u32],
     count: usize,
     task: &[u32],
-    tick: &[u32],
+    tick: &[u64],
     cost: &[u32],
     first: usize,
     second: usize,
@@ -237,9 +236,9 @@ pub fn check_and_shape(
     kept: &[u32],
     count: usize,
     task: &[u32],
-    tick: &[u32],
+    tick: &[u64],
     cost: &[u32],
-    ready: &mut [u32],
+    ready: &mut [u64],
     slots: usize,
 ) -> Checked
     ensures refusal { λ r. ⌜
@@ -267,9 +266,9 @@ pub fn ready_ticks(
     kept: &[u32],
     count: usize,
     task: &[u32],
-    tick: &[u32],
+    tick: &[u64],
     cost: &[u32],
-    ready: &mut [u32],
+    ready: &mut [u64],
 ) -> Checked
     ensures refusal { λ r. ⌜
         refusalIn r

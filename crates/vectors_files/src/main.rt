@@ -42,7 +42,7 @@ fn print_bytes(bytes: &[u8], count: usize) {
 }
 
 // Calls the read, and prints the answer, the task set and the columns lent.
-fn read_call(file: &[u8], task: &mut [u32], tick: &mut [u32], cost: &mut [u32])
+fn read_call(file: &[u8], task: &mut [u32], tick: &mut [u64], cost: &mut [u32])
     ensures { λ _. ⌜
         now (task .exit)
         ≡ readColumn (λ q. q .task) (readCall (now (file .entry)) (now (task .entry)) (now (tick .entry)) (now (cost .entry))) (now (task .entry))
@@ -62,18 +62,18 @@ fn read_call(file: &[u8], task: &mut [u32], tick: &mut [u32], cost: &mut [u32])
     print_outcome(outcome);
     cases::print_task_set(tasks);
     cases::print_column(task);
-    cases::print_column(tick);
+    cases::print_ticks(tick);
     cases::print_column(cost);
 }
 
 // A case of the read: the file, then the columns of tasks, ticks and costs.
 fn read_case() {
-    let mut file = [0u8; 12288];
+    let mut file = [0u8; 16384];
     let n = cases::read_block(&mut file);
     let mut task = [0u32; 1056];
     let tasks = cases::read_column(&mut task);
-    let mut tick = [0u32; 1056];
-    let ticks = cases::read_column(&mut tick);
+    let mut tick = [0u64; 1056];
+    let ticks = cases::read_ticks(&mut tick);
     let mut cost = [0u32; 1056];
     let costs = cases::read_column(&mut cost);
     read_call(
@@ -96,7 +96,7 @@ fn print_written(answer: WriteAnswer) {
 }
 
 // Calls the write, and prints the answer and the bytes lent.
-fn write_call(set: TaskSet, count: usize, task: &[u32], tick: &[u32], cost: &[u32], out: &mut [u8])
+fn write_call(set: TaskSet, count: usize, task: &[u32], tick: &[u64], cost: &[u32], out: &mut [u8])
     ensures { λ _. ⌜
         now (out .exit)
         ≡ columnAfter
@@ -116,11 +116,11 @@ fn write_case(head: &[u32; 136]) {
     let count = cases::index(head[1]);
     let mut task = [0u32; 1056];
     let tasks = cases::read_column(&mut task);
-    let mut tick = [0u32; 1056];
-    let ticks = cases::read_column(&mut tick);
+    let mut tick = [0u64; 1056];
+    let ticks = cases::read_ticks(&mut tick);
     let mut cost = [0u32; 1056];
     let costs = cases::read_column(&mut cost);
-    let mut out = [0u8; 12288];
+    let mut out = [0u8; 16384];
     let n = cases::read_block(&mut out);
     write_call(
         set,
@@ -133,8 +133,8 @@ fn write_case(head: &[u32; 136]) {
 }
 
 // Writes what was read, and prints the bytes of the file.
-fn write_again(set: TaskSet, count: usize, task: &[u32], tick: &[u32], cost: &[u32]) {
-    let mut out = [0u8; 12288];
+fn write_again(set: TaskSet, count: usize, task: &[u32], tick: &[u64], cost: &[u32]) {
+    let mut out = [0u8; 16384];
     let answer = writer::write(set, count, task, tick, cost, &mut out);
     print_written(answer);
     if let WriteAnswer::Written { bytes } = answer {
@@ -144,10 +144,10 @@ fn write_again(set: TaskSet, count: usize, task: &[u32], tick: &[u32], cost: &[u
 
 // A case of both: a file is read and written again.
 fn again_case() {
-    let mut file = [0u8; 12288];
+    let mut file = [0u8; 16384];
     let n = cases::read_block(&mut file);
     let mut task = [0u32; 1024];
-    let mut tick = [0u32; 1024];
+    let mut tick = [0u64; 1024];
     let mut cost = [0u32; 1024];
     let answer = reader::read(&file[..n], &mut task, &mut tick, &mut cost);
     let outcome = answer.outcome;

@@ -1,5 +1,6 @@
 // Runs the stored cases of both runs, and prints a line for each: the answer of the ticking run and every slot of its lent columns of ready and
-// finish ticks, then those of the run that jumps, whose columns held the same.
+// finish ticks, then those of the run that jumps, whose columns held the same. A case may ask for the run that jumps alone, where ticking would
+// take too long.
 use jumps::JumpAnswer;
 use taskset::TaskSet;
 ghost use mathlib.Core.Path.{_≡_};
@@ -16,10 +17,10 @@ fn run_call(
     kept: &[u32],
     count: usize,
     task: &[u32],
-    tick: &[u32],
+    tick: &[u64],
     cost: &[u32],
-    ready: &mut [u32],
-    finish: &mut [u32],
+    ready: &mut [u64],
+    finish: &mut [u64],
 )
     ensures ticks { λ _. ⌜
         now (ready .exit)
@@ -38,8 +39,8 @@ fn run_call(
 {
     let answer = schedule::run(set, kept, count, task, tick, cost, ready, finish);
     cases::print_checked(answer);
-    cases::print_column(ready);
-    cases::print_column(finish);
+    cases::print_ticks(ready);
+    cases::print_ticks(finish);
 }
 
 // Prints what the run that jumps answers.
@@ -59,10 +60,10 @@ fn jump_call(
     kept: &[u32],
     count: usize,
     task: &[u32],
-    tick: &[u32],
+    tick: &[u64],
     cost: &[u32],
-    ready: &mut [u32],
-    finish: &mut [u32],
+    ready: &mut [u64],
+    finish: &mut [u64],
 )
     ensures ticks { λ _. ⌜
         now (ready .exit)
@@ -81,11 +82,12 @@ fn jump_call(
 {
     let answer = jumps::run(set, kept, count, task, tick, cost, ready, finish);
     print_jump(answer);
-    cases::print_column(ready);
-    cases::print_column(finish);
+    cases::print_ticks(ready);
+    cases::print_ticks(finish);
 }
 
-// A case: count of releases; then kept jitters, tasks, ticks, costs, and the columns of ready and finish ticks.
+// A case: 0 for both runs, 1 for the run that jumps alone; count of releases; then kept jitters, tasks, ticks, costs, and the columns of ready and
+// finish ticks.
 fn run_case(head: &[u32; 136]) {
     let set = cases::task_set(head);
     let count = cases::index(head[1]);
@@ -93,27 +95,29 @@ fn run_case(head: &[u32; 136]) {
     let keeps = cases::read_column(&mut kept);
     let mut task = [0u32; 1056];
     let tasks = cases::read_column(&mut task);
-    let mut tick = [0u32; 1056];
-    let ticks = cases::read_column(&mut tick);
+    let mut tick = [0u64; 1056];
+    let ticks = cases::read_ticks(&mut tick);
     let mut cost = [0u32; 1056];
     let costs = cases::read_column(&mut cost);
-    let mut ready = [0u32; 1056];
-    let readies = cases::read_column(&mut ready);
-    let mut finish = [0u32; 1056];
-    let finishes = cases::read_column(&mut finish);
+    let mut ready = [0u64; 1056];
+    let readies = cases::read_ticks(&mut ready);
+    let mut finish = [0u64; 1056];
+    let finishes = cases::read_ticks(&mut finish);
     let mut ready2 = ready;
     let mut finish2 = finish;
-    run_call(
-        set,
-        &kept[..keeps],
-        count,
-        &task[..tasks],
-        &tick[..ticks],
-        &cost[..costs],
-        &mut ready[..readies],
-        &mut finish[..finishes],
-    );
-    cases::print_half();
+    if head[0] != 1 {
+        run_call(
+            set,
+            &kept[..keeps],
+            count,
+            &task[..tasks],
+            &tick[..ticks],
+            &cost[..costs],
+            &mut ready[..readies],
+            &mut finish[..finishes],
+        );
+        cases::print_half();
+    }
     jump_call(
         set,
         &kept[..keeps],

@@ -27,8 +27,8 @@ fn trace_case(head: &[u32; 136]) {
     let count = cases::index(head[1]);
     let mut task = [0u32; 1056];
     let tasks = cases::read_column(&mut task);
-    let mut tick = [0u32; 1056];
-    let ticks = cases::read_column(&mut tick);
+    let mut tick = [0u64; 1056];
+    let ticks = cases::read_ticks(&mut tick);
     let mut cost = [0u32; 1056];
     let costs = cases::read_column(&mut cost);
     let answer = trace::check_trace(set, count, &task[..tasks], &tick[..ticks], &cost[..costs]);
@@ -41,9 +41,9 @@ fn ready_call(
     kept: &[u32],
     count: usize,
     task: &[u32],
-    tick: &[u32],
+    tick: &[u64],
     cost: &[u32],
-    ready: &mut [u32],
+    ready: &mut [u64],
 )
     ensures { λ _. ⌜
         now (ready .exit)
@@ -55,7 +55,7 @@ fn ready_call(
 {
     let answer = trace::ready_ticks(set, kept, count, task, tick, cost, ready);
     cases::print_checked(answer);
-    cases::print_column(ready);
+    cases::print_ticks(ready);
 }
 
 // A case of the ready ticks: count of releases; then kept jitters, tasks, ticks, costs and the column of ready ticks.
@@ -66,12 +66,12 @@ fn ready_case(head: &[u32; 136]) {
     let keeps = cases::read_column(&mut kept);
     let mut task = [0u32; 1056];
     let tasks = cases::read_column(&mut task);
-    let mut tick = [0u32; 1056];
-    let ticks = cases::read_column(&mut tick);
+    let mut tick = [0u64; 1056];
+    let ticks = cases::read_ticks(&mut tick);
     let mut cost = [0u32; 1056];
     let costs = cases::read_column(&mut cost);
-    let mut ready = [0u32; 1056];
-    let slots = cases::read_column(&mut ready);
+    let mut ready = [0u64; 1056];
+    let slots = cases::read_ticks(&mut ready);
     ready_call(
         set,
         &kept[..keeps],

@@ -6,21 +6,18 @@ use native.Mathlib.Omega.{arith}
 use native.Mathlib.Numerals.{add-one}
 use lib.ListN.{length, getD, take, drop, set, length-append}
 use lib.Seq.{length-sets, sets-eq, take-suc, take-all, getD-take, length-take-le}
-use Rattle.model.specs.Tasks.{Release, noRelease}
-use Rattle.model.specs.Calls.{releasesOf}
 use Rattle.taskset.specs.declared.Task.{Task}
 use Rattle.taskset.specs.declared.TaskSet.{TaskSet}
 use Rattle.taskset.specs.TaskSet.{noTask}
 use Rattle.releases.specs.Releases.{release}
-use Rattle.releases.proofs.ReleaseLaws.{length-releases, release-at}
 use Rattle.writer.specs.Writer.{stored}
 use Rattle.fileformat.specs.Numbers.{bytesOf}
-use Rattle.fileformat.specs.Records.{taskBytes, releaseBytes}
+use Rattle.fileformat.specs.Records.{Width, kindOf, tickBytes, taskBytes, releaseBytes}
 use Rattle.fileformat.specs.File.{joined}
 use Rattle.fileformat.specs.FileCalls.{tasksIn}
-use Rattle.fileformat.proofs.NumberLaws.{length-bytes}
+use Rattle.fileformat.proofs.NumberLaws.{length-bytes, bytes-eight}
 use Rattle.fileformat.proofs.SheetLaws.{length-tasks}
-use Rattle.fileformat.proofs.RoundTrips.{taskPart, releasePart, task-part-more, release-part-more, length-task-part, length-release-part}
+use Rattle.fileformat.proofs.RoundTrips.{taskPart, task-part-more, length-task-part}
 
 -- a run of stores after another
 pub stored-more : (l a b : List ℕ) (i : ℕ) → stored l i (a ++ b) ≡ stored (stored l i a) (i + length a) b
@@ -88,17 +85,36 @@ put-task-bytes l l₁ l₂ l₃ l₄ at t e₁ e₂ e₃ e₄ =
     )) in
     a₄ ∙ ap (λ x. stored l at (1 ∷ x)) (simp append-assoc)
 
--- and of a release record
+-- eight bytes are those of two numbers of four
+pub put-eight
+    : (l l₁ l₂ : List ℕ) (at n : ℕ) → n < 18446744073709551616 → l₁ ≡ stored l at (bytesOf 4 (n % 4294967296)) → l₂ ≡ stored l₁ (at + 4) (bytesOf 4 (n / 4294967296))
+    → l₂ ≡ stored l at (bytesOf 8 n)
+put-eight l l₁ l₂ at n h e₁ e₂ =
+    e₂ ∙ ap (λ x. stored x (at + 4) (bytesOf 4 (n / 4294967296))) e₁
+    ∙ stored-at l (bytesOf 4 (n % 4294967296)) (bytesOf 4 (n / 4294967296)) at (at + 4) (omega (arith, length-bytes 4 (n % 4294967296)))
+    ∙ ap (stored l at) (sym (bytes-eight n h))
+
+-- the stores with which a release record begins, and those of the whole record
+pub put-head-bytes : (l : List ℕ) (at kind task b : ℕ) → b ≡ task % 256 → set (set l at kind) (at + 1) b ≡ stored l at (kind ∷ bytesOf 1 task)
+unfolding bytesOf
+put-head-bytes l at kind task b p =
+    ap₂ (λ x v. set x (at + 1) v) (stored-one l at kind) p ∙ stored-one (stored l at (kind ∷ [])) (at + 1) (task % 256)
+    ∙ stored-at l (kind ∷ []) ((task % 256) ∷ []) at (at + 1) refl
+
 pub put-release-bytes
-    : (l l₁ l₂ : List ℕ) (at task tick cost b : ℕ) → b ≡ task % 256 → l₁ ≡ stored (set (set l at 2) (at + 1) b) (at + 2) (bytesOf 4 tick)
-    → l₂ ≡ stored l₁ (at + 6) (bytesOf 4 cost) → l₂ ≡ stored l at (releaseBytes (release task tick cost))
-unfolding releaseBytes bytesOf
-put-release-bytes l l₁ l₂ at task tick cost b p e₁ e₂ =
-    let a₀ : set (set l at 2) (at + 1) b ≡ stored l at (2 ∷ (task % 256) ∷ []) = ap₂ (λ x v. set x (at + 1) v) (stored-one l at 2) p ∙ stored-one (stored l at (2 ∷ []))
-    (at + 1) (task % 256) ∙ stored-at l (2 ∷ []) ((task % 256) ∷ []) at (at + 1) refl in
-    let a₁ = e₁ ∙ ap (λ x. stored x (at + 2) (bytesOf 4 tick)) a₀ ∙ stored-at l (2 ∷ (task % 256) ∷ []) (bytesOf 4 tick) at (at + 2) refl in
-    e₂ ∙ ap (λ x. stored x (at + 6) (bytesOf 4 cost)) a₁ ∙ stored-at l (2 ∷ (task % 256) ∷ bytesOf 4 tick) (bytesOf 4 cost) at (at + 6)
-    (omega (arith, length-bytes 4 tick))
+    : (w : Width) (l l₀ l₁ l₂ : List ℕ) (at task tick cost : ℕ) → l₀ ≡ stored l at (kindOf w ∷ bytesOf 1 task)
+    → l₁ ≡ stored l₀ (at + 2) (bytesOf (tickBytes w) tick) → l₂ ≡ stored l₁ (at + (2 + tickBytes w)) (bytesOf 4 cost)
+    → l₂ ≡ stored l at (releaseBytes w (release task tick cost))
+unfolding releaseBytes
+put-release-bytes w l l₀ l₁ l₂ at task tick cost e₀ e₁ e₂ =
+    let k = tickBytes w in
+    let h : List ℕ = kindOf w ∷ bytesOf 1 task in
+    let n : length (bytesOf 1 task) ≡ 1 = length-bytes 1 task in
+    let a₁ = e₁ ∙ ap (λ x. stored x (at + 2) (bytesOf k tick)) e₀ ∙ stored-at l (kindOf w ∷ bytesOf 1 task) (bytesOf k tick) at (at + 2) (omega (arith, n)) in
+    e₂ ∙ ap (λ x. stored x (at + (2 + k)) (bytesOf 4 cost)) a₁
+    ∙ stored-at l (kindOf w ∷ (bytesOf 1 task ++ bytesOf k tick)) (bytesOf 4 cost) at (at + (2 + k))
+    (omega (arith, n, length-bytes k tick, length-append (bytesOf 1 task) (bytesOf k tick)))
+    ∙ ap (λ x. stored l at (kindOf w ∷ x)) (append-assoc (bytesOf 1 task) (bytesOf k tick) (bytesOf 4 cost))
 
 -- the tasks of a set, of which the first i are written
 pub record TasksPut (s : TaskSet) (held : List ℕ) (count : ℕ) (now : List ℕ) (at i : ℕ) : Type 0 where
@@ -148,51 +164,3 @@ module _ (s : TaskSet) (held : List ℕ) where
 
     pub tasks-all : count ≤ i → now ≡ stored held 0 (taskPart (tasksIn s))
     tasks-all h = p .front ∙ ap (λ x. stored held 0 (taskPart x)) (take-all i (tasksIn s) (omega (arith, long-tasks, p .same)))
-
--- the releases of a list, of which the first i are written
-pub record ReleasesPut (held : List ℕ) (from n : ℕ) (task tick cost now : List ℕ) (at i : ℕ) : Type 0 where
-  pub within : i ≤ n
-  pub offset : at ≡ from + 10 * i
-  pub room : from + 10 * n ≤ length now
-  pub long : length now ≡ length held
-  pub task-long : n ≤ length task
-  pub tick-long : n ≤ length tick
-  pub cost-long : n ≤ length cost
-  pub front : now ≡ stored held from (releasePart (take i (releasesOf n task tick cost)))
-
-module _ (held : List ℕ) (from n : ℕ) (task tick cost : List ℕ) where
-  pub releases-none : from + 10 * n ≤ length held → n ≤ length task → n ≤ length tick → n ≤ length cost → ReleasesPut held from n task tick cost held from 0
-  unfolding joined
-  releases-none r a b c =
-      record { within = omega arith; offset = omega arith; room = r; long = refl; task-long = a; tick-long = b; cost-long = c; front = stored-none held from }
-
-  abbrev list : List Release
-  list = releasesOf n task tick cost
-
-  module _ (now : List ℕ) (at i : ℕ) (p : ReleasesPut held from n task tick cost now at i) where
-    pub releases-next
-        : (now′ : List ℕ) → i < n → now′ ≡ stored now at (releaseBytes (release (getD task i 0) (getD tick i 0) (getD cost i 0))) → length now′ ≡ length now
-        → ReleasesPut held from n task tick cost now′ (at + 10) (i + 1)
-    releases-next now′ h e g =
-        let r : Release = release (getD task i 0) (getD tick i 0) (getD cost i 0) in
-        let c : length (take i list) ≡ i = length-take-le i list (omega (arith, length-releases n task tick cost)) in
-        let t : take (suc i) list ≡ take i list ++ (release (getD task i 0) (getD tick i 0) (getD cost i 0) ∷ []) = take-suc list i noRelease
-        (omega (arith, length-releases n task tick cost)) ∙ ap (λ x. take i list ++ (x ∷ [])) (release-at n task tick cost i h) in
-        record {
-          within = omega arith;
-          offset = omega (arith, p .offset);
-          room = omega (arith, p .room);
-          long = g ∙ p .long;
-          task-long = p .task-long;
-          tick-long = p .tick-long;
-          cost-long = p .cost-long;
-          front =
-              rw add-one
-              (e ∙ ap (λ x. stored x at (releaseBytes (release (getD task i 0) (getD tick i 0) (getD cost i 0)))) (p .front)
-              ∙ stored-at held (releasePart (take i list)) (releaseBytes (release (getD task i 0) (getD tick i 0) (getD cost i 0))) from at
-              (omega (arith, p .offset, length-release-part (take i list)))
-              ∙ ap (stored held from) (sym (ap releasePart t ∙ release-part-more (take i list) (release (getD task i 0) (getD tick i 0) (getD cost i 0)))));
-        }
-
-    pub releases-all : n ≤ i → now ≡ stored held from (releasePart list)
-    releases-all h = p .front ∙ ap (λ x. stored held from (releasePart x)) (take-all i list (omega (arith, length-releases n task tick cost)))

@@ -76,7 +76,7 @@ same-length c = search needs
 returns : tie.Need-returns
 returns c =
     let s : tie.Start = start (made (c .before .before .before .before .before)) in
-    wider 64 67648 _ _ _ _ _ (omega arith)
+    wider 64 108608 _ _ _ _ _ (omega arith)
     (rw (unfit (c .before .before .before .before .before) .list-text (s .args .n) (now (s .args .task)) (now (s .args .tick)) (now (s .args .cost))) at
     (c .before .before .put-refusal .ensures))
 

@@ -30,14 +30,14 @@ abbrev bytes : tie.After-read → List ℕ
 bytes c = take (start c .args .n) (now (start c .args .file))
 
 -- the buffer has room for the bytes that decide
-room : (c : tie.After-bytes) → 10801 ≤ length (now (c .before .before .args .file))
+room : (c : tie.After-bytes) → 14897 ≤ length (now (c .before .before .args .file))
 room c = omega (arith, c .bytes .given)
 
 abbrev zeros : List ℕ
 zeros = replicate 1024 0
 
 -- a file that was refused
-small : (c : tie.After-outcome) → c .outcome .given .0 .1 .0 ≤ 10785
+small : (c : tie.After-outcome) → c .outcome .given .0 .1 .0 ≤ 14881
 small c =
     halts (bytes (halted c)) zeros zeros zeros (omega arith) (omega arith) (omega arith) _ _ _ (c .outcome .given .1) (halted c .read .ensures .outcome) .small
 
@@ -118,7 +118,7 @@ same-length c = search needs
 returns : tie.Need-returns
 returns c =
     replay-printed _ _ _ _ _ _ (omega (arith, room (halted (c .before .before .before .before .before) .before .before .before .before .before)))
-    (wider 64 67648 _ _ _ _ _ (omega arith) (rw (refusal (c .before .before .before .before .before)) at (c .before .before .put-refusal .ensures)))
+    (wider 64 108608 _ _ _ _ _ (omega arith) (rw (refusal (c .before .before .before .before .before)) at (c .before .before .put-refusal .ensures)))
 
 same-length-2 : tie.Need-same-length-2
 same-length-2 c = search needs

@@ -17,7 +17,9 @@ loop-holds : tie.Need-loop-holds Inv-loop μ-loop
 loop-holds c = passed-none _ _ _ (omega arith)
 
 is-coming-requires : tie.Need-is-coming-requires Inv-loop μ-loop
-is-coming-requires c κs = omega arith
+is-coming-requires c κs =
+    let r = c .before .before .before .before .pre in
+    (c .loop-test .taken, r .1, r .2)
 
 returns : tie.Need-returns Inv-loop μ-loop
 returns c =

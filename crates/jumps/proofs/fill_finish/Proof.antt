@@ -5,6 +5,7 @@ use native.Mathlib.Omega.{arith}
 use borrow.Author.Needs.{needs}
 use lib.ListN.{getD}
 use Rattle.queues.specs.Queues.{maxFinish}
+use Rattle.queues.proofs.ColumnLaws.{timely}
 use Rattle.jumps.proofs.MomentLaws.{Moment, Front, queued, stops-few, moment-start, moment-wait, moment-cut, moment-done, moment-end, front}
 use Rattle.jumps.proofs.fill_finish.Statement.{statement}
 use Rattle.jumps.proofs.fill_finish.Tie as tie
@@ -20,7 +21,7 @@ first-jobs-requires : tie.Need-first-jobs-requires Inv-loop μ-loop
 first-jobs-requires c κs = omega arith
 
 first-starts-requires : tie.Need-first-starts-requires Inv-loop μ-loop
-first-starts-requires c κs = omega arith
+first-starts-requires c κs = let r = c .before .before .before .before .before .before .pre in (r .few-tasks, timely _ _ _ _ _ _ r)
 
 first-work-requires : tie.Need-first-work-requires Inv-loop μ-loop
 first-work-requires c κs = omega arith
@@ -82,7 +83,7 @@ loop-less c = omega (arith, loop-again c .time, c .before .before .before .befor
 found : (c : tie.Else1 Inv-loop μ-loop)
     → let b = at (c .before) in
     let a = b .before .before .before .before .before .before .before .before .before .before .args in
-    Front (a .n) (a .tasks) (b .loop .t) (b .loop .head) (b .loop .left) (c .before .top-started .result)
+    Front (a .n) (a .tasks) (b .loop .t) (a .cost .now) (b .loop .head) (b .loop .left) (c .before .top-started .result)
     (b .loop .t + getD (b .loop .left) (c .before .top-started .result) 0)
 found c =
     let b = c .before in
@@ -105,8 +106,12 @@ add-end c = omega (arith, found (c .before), c .wide .ensures)
 sub-left : tie.Need-sub-left Inv-loop μ-loop
 sub-left c = omega (arith, c .if3 .taken)
 
+-- no more is left than the cost, which has 32 bits
 cast-left : tie.Need-cast-left Inv-loop μ-loop
-cast-left c = omega (arith, found (c .before .before), c .before .wide .ensures)
+cast-left c =
+    let b = at (c .before .before .before) in
+    let costs = b .before .before .before .before .before .before .before .before .shared-slice-known2 .given in
+    omega (arith, found (c .before .before), c .before .wide .ensures, costs (getD (b .loop .head) (c .before .before .before .top-started .result) 0))
 
 mul-left : tie.Need-mul-left Inv-loop μ-loop
 mul-left c = omega (arith, found (c .before .before), at (c .before .before .before) .loop .inv .can .few-tasks)
@@ -136,9 +141,6 @@ mul-p c = omega (arith, found (c .before .before), at (c .before .before .before
 array-read-p : tie.Need-array-read-p Inv-loop μ-loop
 array-read-p c = omega (arith, found (c .before .before), at (c .before .before .before) .loop .inv .can .few-tasks)
 
-cast-finish : tie.Need-cast-finish Inv-loop μ-loop
-cast-finish c = omega (arith, found (c .before .before), c .before .wide .ensures)
-
 mul-finish : tie.Need-mul-finish Inv-loop μ-loop
 mul-finish c = omega (arith, found (c .before .before), at (c .before .before .before) .loop .inv .can .few)
 
@@ -165,7 +167,7 @@ array-write-head : tie.Need-array-write-head Inv-loop μ-loop
 array-write-head c = omega (arith, found (c .before .before .before), at (c .before .before .before .before) .loop .inv .can .few-tasks)
 
 wake-of-requires : tie.Need-wake-of-requires Inv-loop μ-loop
-wake-of-requires c κs = at (c .before .before .before .before) .loop .inv .can .ready-long
+wake-of-requires c κs = timely _ _ _ _ _ _ (at (c .before .before .before .before) .loop .inv .can)
 
 mul-since : tie.Need-mul-since Inv-loop μ-loop
 mul-since c = omega (arith, found (c .before .before .before .before), at (c .before .before .before .before .before) .loop .inv .can .few-tasks)
@@ -235,7 +237,6 @@ fill-finish-spec =
     loop-again-2
     mul-p
     array-read-p
-    cast-finish
     mul-finish
     slice-write-finish
     cast-next-of

@@ -41,10 +41,10 @@ slice-read-coming-of c = omega (arith, few (c .before .before .before .before .b
 coming-of-requires : tie.Need-coming-of-requires
 coming-of-requires c κs =
     let s = c .before .before .before .before .before .before .before in
-    (s .pre .1 .within _ (s .pre .2), s .pre .0 .task-long, s .pre .0 .ready-long)
+    (s .pre .1 .within _ (s .pre .2), s .pre .0 .task-long, s .pre .0 .timely)
 
 wake-of-requires : tie.Need-wake-of-requires
-wake-of-requires c κs = c .before .before .before .before .before .before .before .before .pre .0 .ready-long
+wake-of-requires c κs = c .before .before .before .before .before .before .before .before .pre .0 .timely
 
 -- where both places are written
 abbrev start : tie.After-wake-of → tie.Start

@@ -12,7 +12,7 @@ shared-slice-read-start-of : tie.Need-shared-slice-read-start-of
 shared-slice-read-start-of c = search needs
 
 start-of-requires : tie.Need-start-of-requires
-start-of-requires c κs = search needs
+start-of-requires c κs = c .before .before .before .pre .soon _ (c .before .if1 .taken)
 
 returns : tie.Need-returns
 returns c = c .start-of .ensures ∙ sym (wake-in _ _ _ (c .before .before .if1 .taken))

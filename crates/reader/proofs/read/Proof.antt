@@ -64,7 +64,7 @@ enum-told-2 : tie.Need-enum-told-2
 enum-told-2 c = search needs
 
 mul-put-columns : tie.Need-mul-put-columns
-mul-put-columns c = omega (arith, scanned (passed (c .before)) .scan .ensures .within)
+mul-put-columns c = omega (arith, scanned (passed (c .before)) .scan .ensures .few-tasks)
 
 put-columns-requires : tie.Need-put-columns-requires
 put-columns-requires c κs =
@@ -75,7 +75,7 @@ put-columns-requires c κs =
     let t = long .task-long in
     let k = long .tick-long in
     let c = long .cost-long in
-    (omega (arith, s .scan .ensures .within), omega (arith, t, k, c), omega (arith, t, k, c), omega (arith, t, k, c))
+    (s .scan .ensures .inside, s .scan .ensures .stand, omega (arith, t, k, c), omega (arith, t, k, c), omega (arith, t, k, c))
 
 same-length-4 : tie.Need-same-length-4
 same-length-4 c = search needs

@@ -1,7 +1,7 @@
 use Prim.Native.Nat.{_-_}
 use mathlib.Core.Path.{_≡_, refl, sym, ap, _∙_}
 use Rattle.taskset.specs.TaskSet.{refusalIn}
-use Rattle.fileformat.specs.Records.{recordOf}
+use Rattle.fileformat.specs.Records.{short, long, recordOf}
 use Rattle.reader.specs.declared.Found.{Found}
 use Rattle.reader.specs.Reader.{recordIn}
 use native.Mathlib.Omega.{arith}
@@ -33,13 +33,20 @@ next-task c =
     scan-task-next _ _ _ _ _ (r .before .loop .inv) _ (there r _ (c .before .before .before .before .r2 .given .1))
     (sym (ap refusalIn (c .enum-told .given .1)) ∙ c .before .before .check-task .ensures)
 
--- and so is a release record
+-- and so is a release record, short or long
 next-job : tie.Need-loop-again-2 Inv-loop μ-loop
 next-job c =
     let j = c .before .before .before .before .before .before .before .before in
     let r = j .before .before in
-    scan-job-next _ _ _ _ _ (r .before .loop .inv) _ (there r _ (j .r3 .given .1))
+    scan-job-next _ _ _ _ _ (r .before .loop .inv) short _ (there r _ (j .r3 .given .1))
     (sym (ap refusalIn (c .enum-told2 .given .1)) ∙ c .before .before .check-job .ensures _ (omega arith) refl)
+
+next-long : tie.Need-loop-again-3 Inv-loop μ-loop
+next-long c =
+    let j = c .before .before .before .before .before .before .before .before in
+    let r = j .before .before in
+    scan-job-next _ _ _ _ _ (r .before .loop .inv) long _ (there r _ (j .r4 .given .1))
+    (sym (ap refusalIn (c .enum-told3 .given .1)) ∙ c .before .before .check-job2 .ensures _ (omega arith) refl)
 
 no-tasks-requires : tie.Need-no-tasks-requires Inv-loop μ-loop
 no-tasks-requires c κs = search needs
@@ -112,7 +119,7 @@ returns-3 c =
     let j = c .before .before .before in
     let r = j .before .before in
     scan-refuses _ _ _ _ (c .refused3 .ensures)
-    (scan-job-stops _ _ _ _ _ (r .before .loop .inv) _ _ (there r _ (j .r3 .given .1)) (faulty _ 5 _ (list-early _ _ _ _ (omega arith))))
+    (scan-job-stops _ _ _ _ _ (r .before .loop .inv) short _ _ (there r _ (j .r3 .given .1)) (faulty _ 5 _ (list-early _ _ _ _ _ (omega arith))))
 
 cast-i : tie.Need-cast-i Inv-loop μ-loop
 cast-i c = omega arith
@@ -125,8 +132,8 @@ returns-4 c =
     let j = c .before .before .before .before .before in
     let r = j .before .before in
     scan-refuses _ _ _ _ (c .refused4 .ensures)
-    (scan-job-stops _ _ _ _ _ (r .before .loop .inv) _ _ (there r _ (j .r3 .given .1))
-    (faulty _ 7 _ (list-fault _ _ _ _ 7 (omega arith) (fault-task _ _ _ (omega arith)))))
+    (scan-job-stops _ _ _ _ _ (r .before .loop .inv) short _ _ (there r _ (j .r3 .given .1))
+    (faulty _ 7 _ (list-fault _ _ _ _ _ 7 (omega arith) (fault-task _ _ _ _ (omega arith)))))
 
 mul-own : tie.Need-mul-own Inv-loop μ-loop
 mul-own c = search needs
@@ -148,14 +155,14 @@ returns-5 c =
     let j = c .before .before .before .before .before .before .before .before .before .before in
     let r = j .before .before in
     scan-refuses _ _ _ _ (c .refused5 .ensures)
-    (scan-job-stops _ _ _ _ _ (r .before .loop .inv) _ _ (there r _ (j .r3 .given .1))
+    (scan-job-stops _ _ _ _ _ (r .before .loop .inv) short _ _ (there r _ (j .r3 .given .1))
     (sym (ap refusalIn (c .before .before .k2 .given .1)) ∙ c .before .before .before .before .check-job .ensures _ (omega arith) refl))
 
 enum-told-2 : tie.Need-enum-told-2 Inv-loop μ-loop
 enum-told-2 c = search needs
 
 add-releases : tie.Need-add-releases Inv-loop μ-loop
-add-releases c = omega (arith, next-job c .offset, next-job c .within)
+add-releases c = omega (arith, next-job c .far, next-job c .within)
 
 add-at-2 : tie.Need-add-at-2 Inv-loop μ-loop
 add-at-2 c = omega (arith, next-job c .within)
@@ -166,36 +173,101 @@ loop-less-2 c = omega (arith, next-job c .within)
 loop-again-2 : tie.Need-loop-again-2 Inv-loop μ-loop
 loop-again-2 c = next-job c
 
-enum-told-3 : tie.Need-enum-told-3 Inv-loop μ-loop
-enum-told-3 c = search needs
+enum-known-r-4 : tie.Need-enum-known-r-4 Inv-loop μ-loop
+enum-known-r-4 c = search needs
 
 refused-requires-6 : tie.Need-refused-requires-6 Inv-loop μ-loop
 refused-requires-6 c κs = search needs
 
 returns-6 : tie.Need-returns-6 Inv-loop μ-loop
 returns-6 c =
-    let r = c .before .before .before .before in
-    scan-refuses _ _ _ _ (c .refused6 .ensures) (scan-end-stops _ _ _ _ _ (r .before .loop .inv) (there r _ (c .before .before .enum-told3 .given .1)) (omega arith))
+    let j = c .before .before .before in
+    let r = j .before .before in
+    scan-refuses _ _ _ _ (c .refused6 .ensures)
+    (scan-job-stops _ _ _ _ _ (r .before .loop .inv) long _ _ (there r _ (j .r4 .given .1)) (faulty _ 5 _ (list-early _ _ _ _ _ (omega arith))))
 
-add-if4 : tie.Need-add-if4 Inv-loop μ-loop
-add-if4 c = omega (arith, c .before .before .before .before .loop .inv .within)
-
-add-refused : tie.Need-add-refused Inv-loop μ-loop
-add-refused c = omega arith
+cast-whose : tie.Need-cast-whose Inv-loop μ-loop
+cast-whose c = omega arith
 
 refused-requires-7 : tie.Need-refused-requires-7 Inv-loop μ-loop
 refused-requires-7 c κs = search needs
 
 returns-7 : tie.Need-returns-7 Inv-loop μ-loop
 returns-7 c =
-    let r = c .before .before .before .before .before in
+    let j = c .before .before .before .before .before in
+    let r = j .before .before in
     scan-refuses _ _ _ _ (c .refused7 .ensures)
-    (scan-end-more _ _ _ _ _ (r .before .loop .inv) (there r _ (c .before .before .before .enum-told3 .given .1)) (omega arith) (omega arith))
+    (scan-job-stops _ _ _ _ _ (r .before .loop .inv) long _ _ (there r _ (j .r4 .given .1))
+    (faulty _ 7 _ (list-fault _ _ _ _ _ 7 (omega arith) (fault-task _ _ _ _ (omega arith)))))
+
+mul-own-2 : tie.Need-mul-own-2 Inv-loop μ-loop
+mul-own-2 c = search needs
+
+element-copy-out-own-2 : tie.Need-element-copy-out-own-2 Inv-loop μ-loop
+element-copy-out-own-2 c = search needs
+
+check-job-requires-2 : tie.Need-check-job-requires-2 Inv-loop μ-loop
+check-job-requires-2 c κs = search needs
+
+enum-known-k-3 : tie.Need-enum-known-k-3 Inv-loop μ-loop
+enum-known-k-3 c = search needs
+
+refused-requires-8 : tie.Need-refused-requires-8 Inv-loop μ-loop
+refused-requires-8 c κs = search needs
 
 returns-8 : tie.Need-returns-8 Inv-loop μ-loop
 returns-8 c =
+    let j = c .before .before .before .before .before .before .before .before .before .before in
+    let r = j .before .before in
+    scan-refuses _ _ _ _ (c .refused8 .ensures)
+    (scan-job-stops _ _ _ _ _ (r .before .loop .inv) long _ _ (there r _ (j .r4 .given .1))
+    (sym (ap refusalIn (c .before .before .k3 .given .1)) ∙ c .before .before .before .before .check-job2 .ensures _ (omega arith) refl))
+
+enum-told-3 : tie.Need-enum-told-3 Inv-loop μ-loop
+enum-told-3 c = search needs
+
+add-releases-2 : tie.Need-add-releases-2 Inv-loop μ-loop
+add-releases-2 c = omega (arith, next-long c .far, next-long c .within)
+
+add-at-3 : tie.Need-add-at-3 Inv-loop μ-loop
+add-at-3 c = omega (arith, next-long c .within)
+
+loop-less-3 : tie.Need-loop-less-3 Inv-loop μ-loop
+loop-less-3 c = omega (arith, next-long c .within)
+
+loop-again-3 : tie.Need-loop-again-3 Inv-loop μ-loop
+loop-again-3 c = next-long c
+
+enum-told-4 : tie.Need-enum-told-4 Inv-loop μ-loop
+enum-told-4 c = search needs
+
+refused-requires-9 : tie.Need-refused-requires-9 Inv-loop μ-loop
+refused-requires-9 c κs = search needs
+
+returns-9 : tie.Need-returns-9 Inv-loop μ-loop
+returns-9 c =
     let r = c .before .before .before .before in
-    scan-says _ _ _ _ _ (r .before .loop .inv) _ refl (there r _ (c .before .before .enum-told3 .given .1)) (omega arith) (omega arith)
+    scan-refuses _ _ _ _ (c .refused9 .ensures) (scan-end-stops _ _ _ _ _ (r .before .loop .inv) (there r _ (c .before .before .enum-told4 .given .1)) (omega arith))
+
+add-if6 : tie.Need-add-if6 Inv-loop μ-loop
+add-if6 c = omega (arith, c .before .before .before .before .loop .inv .within)
+
+add-refused : tie.Need-add-refused Inv-loop μ-loop
+add-refused c = omega arith
+
+refused-requires-10 : tie.Need-refused-requires-10 Inv-loop μ-loop
+refused-requires-10 c κs = search needs
+
+returns-10 : tie.Need-returns-10 Inv-loop μ-loop
+returns-10 c =
+    let r = c .before .before .before .before .before in
+    scan-refuses _ _ _ _ (c .refused10 .ensures)
+    (scan-end-more _ _ _ _ _ (r .before .loop .inv) (there r _ (c .before .before .before .enum-told4 .given .1)) (omega arith) (omega arith))
+
+returns-11 : tie.Need-returns-11 Inv-loop μ-loop
+returns-11 c =
+    let r = c .before .before .before .before in
+    scan-says _ _ _ _ _ (r .before .loop .inv) _ refl (there r _ (c .before .before .enum-told4 .given .1)) (omega arith) (omega arith)
 
 pub scan-spec : {M : Type 1} → statement M
 scan-spec =
@@ -238,11 +310,28 @@ scan-spec =
     add-at-2
     loop-less-2
     loop-again-2
-    enum-told-3
+    enum-known-r-4
     refused-requires-6
     returns-6
-    add-if4
-    add-refused
+    cast-whose
     refused-requires-7
     returns-7
-    returns-8)
+    mul-own-2
+    element-copy-out-own-2
+    check-job-requires-2
+    enum-known-k-3
+    refused-requires-8
+    returns-8
+    enum-told-3
+    add-releases-2
+    add-at-3
+    loop-less-3
+    loop-again-3
+    enum-told-4
+    refused-requires-9
+    returns-9
+    add-if6
+    add-refused
+    refused-requires-10
+    returns-10
+    returns-11)

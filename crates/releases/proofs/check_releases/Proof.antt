@@ -36,7 +36,7 @@ cast-at c = omega (arith, c .shared-slice-known5 .given (c .before .before .befo
 returns : tie.Need-returns Inv-loop μ-loop
 returns c =
     checking-fault _ _ _ _ _ _ _ _ (c .before .before .before .before .loop .inv) (c .before .before .before .loop-test .taken)
-    (faulty _ 7 _ (fault-task _ _ _ (omega arith)))
+    (faulty _ 7 _ (fault-task _ _ _ _ (omega arith)))
 
 mul-t : tie.Need-mul-t Inv-loop μ-loop
 mul-t c = search needs

@@ -10,17 +10,17 @@ put-field-requires c κs = omega arith
 put-field-requires-2 : tie.Need-put-field-requires-2
 put-field-requires-2 c κs = omega arith
 
-put-field-requires-3 : tie.Need-put-field-requires-3
-put-field-requires-3 c κs = omega arith
+put-wide-field-requires : tie.Need-put-wide-field-requires
+put-wide-field-requires c κs = omega arith
 
-put-field-requires-4 : tie.Need-put-field-requires-4
-put-field-requires-4 c κs = omega arith
+put-wide-field-requires-2 : tie.Need-put-wide-field-requires-2
+put-wide-field-requires-2 c κs = omega arith
 
-put-field-requires-5 : tie.Need-put-field-requires-5
-put-field-requires-5 c κs = omega arith
+put-wide-field-requires-3 : tie.Need-put-wide-field-requires-3
+put-wide-field-requires-3 c κs = omega arith
 
-put-field-requires-6 : tie.Need-put-field-requires-6
-put-field-requires-6 c κs = omega arith
+put-wide-field-requires-4 : tie.Need-put-wide-field-requires-4
+put-wide-field-requires-4 c κs = omega arith
 
 same-length : tie.Need-same-length
 same-length c = search needs
@@ -32,10 +32,10 @@ returns c =
     .before .before .put-field .ensures)
     (c .before .before .before .before .before .before .before .before .before .before .before .before .before .before .before .before .before .before .put-field2
     .ensures)
-    (c .before .before .before .before .before .before .before .before .before .before .before .before .before .before .put-field3 .ensures)
-    (c .before .before .before .before .before .before .before .before .before .before .put-field4 .ensures)
-    (c .before .before .before .before .before .before .put-field5 .ensures)
-    (c .before .before .put-field6 .ensures)
+    (c .before .before .before .before .before .before .before .before .before .before .before .before .before .before .put-wide-field .ensures)
+    (c .before .before .before .before .before .before .before .before .before .before .put-wide-field2 .ensures)
+    (c .before .before .before .before .before .before .put-wide-field3 .ensures)
+    (c .before .before .put-wide-field4 .ensures)
 
 pub put-job-spec : {M : Type 1} → statement M
 put-job-spec =
@@ -43,9 +43,9 @@ put-job-spec =
     (tie.spec
     put-field-requires
     put-field-requires-2
-    put-field-requires-3
-    put-field-requires-4
-    put-field-requires-5
-    put-field-requires-6
+    put-wide-field-requires
+    put-wide-field-requires-2
+    put-wide-field-requires-3
+    put-wide-field-requires-4
     same-length
     returns)

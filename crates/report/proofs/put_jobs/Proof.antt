@@ -11,7 +11,7 @@ use Rattle.report.proofs.put_jobs.Tie as tie
 
 abbrev Inv-loop : tie.InvT-loop
 Inv-loop out₀ from n task tick ready finish at₀ p₀ out at p =
-    (p ≤ n) × (from + 67584 ≤ length out₀) × PutLines (runLine task tick ready finish) 66 p out₀ from out at
+    (p ≤ n) × (from + 108544 ≤ length out₀) × PutLines (runLine task tick ready finish) 106 p out₀ from out at
 
 abbrev μ-loop : tie.MeasureT-loop
 μ-loop out₀ from n task tick ready finish at₀ p₀ out at p = n - p

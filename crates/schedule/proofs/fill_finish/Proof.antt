@@ -4,6 +4,7 @@ use mathlib.Core.Path.{refl, sym, _∙_}
 use native.Mathlib.Omega.{arith}
 use denote.Ref.{now}
 use Rattle.queues.specs.Queues.{jobsOf, maxFinish}
+use Rattle.queues.proofs.ColumnLaws.{timely}
 use Rattle.schedule.proofs.FinishFillLaws.{Filling, Top, fill-start, fill-sleep, fill-idle, fill-top, fill-run, fill-done, fill-end}
 use Rattle.schedule.proofs.fill_finish.Statement.{statement}
 use Rattle.schedule.proofs.fill_finish.Tie as tie
@@ -34,10 +35,10 @@ loop-less : tie.Need-loop-less Inv-loop μ-loop
 loop-less c = omega (arith, loop-again c .state .time)
 
 top-ready-requires : tie.Need-top-ready-requires Inv-loop μ-loop
-top-ready-requires c κs = omega arith
+top-ready-requires c κs = let r = c .before .before .loop .inv .can in (r .few-tasks, timely _ _ _ _ _ _ r)
 
 wake-all-requires : tie.Need-wake-all-requires Inv-loop μ-loop
-wake-all-requires c κs = omega arith
+wake-all-requires c κs = let r = c .before .before .before .before .before .loop .inv .can in (r .few-tasks, timely _ _ _ _ _ _ r)
 
 same-length : tie.Need-same-length Inv-loop μ-loop
 same-length c = c .before .before .before .before .before .before .before .loop .inv .state .written .long
@@ -113,9 +114,6 @@ mul-p c = omega (arith, top (c .before))
 
 array-read-p : tie.Need-array-read-p Inv-loop μ-loop
 array-read-p c = omega (arith, top (c .before))
-
-cast-finish : tie.Need-cast-finish Inv-loop μ-loop
-cast-finish c = omega (arith, top (c .before))
 
 mul-finish : tie.Need-mul-finish Inv-loop μ-loop
 mul-finish c = omega (arith, top (c .before))
@@ -193,7 +191,6 @@ fill-finish-spec =
     loop-again-3
     mul-p
     array-read-p
-    cast-finish
     mul-finish
     slice-write-finish
     cast-next-of

@@ -1,28 +1,18 @@
+-- A number of 32 bits is below 10^10.
 use native.Mathlib.Omega.{arith}
-use Rattle.text.proofs.TextLaws.{decimal-length, put-ended, field-put}
+use Rattle.text.proofs.TextLaws.{field-room, field-put}
 use borrow.Author.Needs.{needs}
 use Rattle.text.proofs.put_field.Statement.{statement}
 use Rattle.text.proofs.put_field.Tie as tie
 
-put-decimal-requires : tie.Need-put-decimal-requires
-put-decimal-requires c κs = omega (arith, decimal-length (c .before .before .args .n) (c .before .before .fits .n .fits))
-
-put-byte-requires : tie.Need-put-byte-requires
-put-byte-requires c κs =
-    omega (
-      arith,
-      decimal-length (c .before .before .before .before .before .before .args .n) (c .before .before .before .before .before .before .fits .n .fits),
-      c .before .before .before .put-decimal .ensures .next,
-      c .before .before .before .put-decimal .kept .0,
-    )
+put-ended-requires : tie.Need-put-ended-requires
+put-ended-requires c κs = field-room _ _ _ 9 _ (omega arith) (omega arith)
 
 same-length : tie.Need-same-length
 same-length c = search needs
 
 returns : tie.Need-returns
-returns c =
-    field-put _ _ _ _ _ _ (c .before .before .before .before .before .before .before .before .before .fits .n .fits)
-    (put-ended _ _ _ _ _ _ _ _ (c .before .before .before .before .before .before .put-decimal .ensures) (c .before .before .put-byte .ensures))
+returns c = field-put _ _ _ _ 9 _ _ (omega arith) (c .before .before .put-ended .ensures)
 
 pub put-field-spec : {M : Type 1} → statement M
-put-field-spec = tie.close (tie.spec put-decimal-requires put-byte-requires same-length returns)
+put-field-spec = tie.close (tie.spec put-ended-requires same-length returns)

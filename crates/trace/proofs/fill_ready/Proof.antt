@@ -3,14 +3,13 @@ use Prim.Native.Nat.{_-_, _<_}
 use mathlib.Core.List.{[]}
 use lib.ListN.{getD}
 use native.Mathlib.Omega.{arith}
-use borrow.Author.Needs.{needs}
 use Rattle.model.specs.Limits.{maxTasks}
 use Rattle.model.specs.Tasks.{Tasks}
 use Rattle.model.specs.Choice.{column}
 use Rattle.taskset.specs.TaskSet.{viewOf}
 use Rattle.trace.specs.Standing.{Standing}
 use Rattle.trace.specs.TraceCalls.{Shapable}
-use Rattle.trace.proofs.CloseWalkLaws.{walk-small, walk-fits, Step}
+use Rattle.trace.proofs.CloseWalkLaws.{walk-small, Step}
 use Rattle.trace.proofs.ReadyFillLaws.{Filling, filling-none, filling-next, filling-all}
 use Rattle.trace.proofs.fill_ready.Statement.{statement}
 use Rattle.trace.proofs.fill_ready.Tie as tie
@@ -42,9 +41,9 @@ placed c = omega (arith, start (c .before) .pre .0 .known _ (c .loop-test .taken
 -- the release at p has gone through its shaper
 stepped
     : (c : tie.After-shape Inv-loop μ-loop)
-    → Step (start (c .before .before .before .before .before .before) .args .task .now) (start (c .before .before .before .before .before .before) .args .tick .now)
-    (c .before .before .before .before .before .before .loop .all .of) (c .before .before .before .before .before .before .loop .p) (c .shape .result)
-stepped c = record { none = _; release = _; is-tick = c .before .wide .ensures; shapes = c .shape .ensures }
+    → Step (start (c .before .before .before .before .before) .args .task .now) (start (c .before .before .before .before .before) .args .tick .now)
+    (c .before .before .before .before .before .loop .all .of) (c .before .before .before .before .before .loop .p) (c .shape .result)
+stepped c = record { none = _; shapes = c .shape .ensures }
 
 kept-shapers-requires : tie.Need-kept-shapers-requires Inv-loop μ-loop
 kept-shapers-requires c κs = (c .before .before .before .before .pre .0 .few-tasks, c .before .before .before .before .pre .1)
@@ -67,37 +66,28 @@ mul-state c = omega (arith, placed (c .before))
 element-copy-out-state : tie.Need-element-copy-out-state Inv-loop μ-loop
 element-copy-out-state c = omega (arith, placed (c .before))
 
-mul-wide : tie.Need-mul-wide Inv-loop μ-loop
-mul-wide c = omega arith
+mul-shape : tie.Need-mul-shape Inv-loop μ-loop
+mul-shape c = omega arith
 
-shared-slice-read-wide : tie.Need-shared-slice-read-wide Inv-loop μ-loop
-shared-slice-read-wide c = omega arith
-
-wide-requires : tie.Need-wide-requires Inv-loop μ-loop
-wide-requires c κs = search needs
+shared-slice-read-shape : tie.Need-shared-slice-read-shape Inv-loop μ-loop
+shared-slice-read-shape c = omega arith
 
 shape-requires : tie.Need-shape-requires Inv-loop μ-loop
 shape-requires c κs =
-    walk-small _ _ _ _ _ (start (c .before .before .before .before .before) .pre .0) _ _ (filled (c .before .before .before .before .before) .walking)
-    (c .before .before .before .before .loop-test .taken) _ _ (c .wide .ensures)
+    walk-small _ _ _ _ _ (start (c .before .before .before .before) .pre .0) _ _ (filled (c .before .before .before .before) .walking)
+    (c .before .before .before .loop-test .taken) _
 
 mul-after : tie.Need-mul-after Inv-loop μ-loop
-mul-after c = omega (arith, placed (c .before .before .before .before .before .before))
+mul-after c = omega (arith, placed (c .before .before .before .before .before))
 
 element-set-from-after : tie.Need-element-set-from-after Inv-loop μ-loop
-element-set-from-after c = omega (arith, placed (c .before .before .before .before .before .before))
-
-cast-ready : tie.Need-cast-ready Inv-loop μ-loop
-cast-ready c =
-    let high = walk-fits _ _ _ _ _ (start (c .before .before .before .before .before .before .before .before) .pre .0) _ _
-    (filled (c .before .before .before .before .before .before .before .before) .walking) (c .before .before .before .before .before .before .before .loop-test .taken) _
-    (stepped (c .before .before)) in omega arith
+element-set-from-after c = omega (arith, placed (c .before .before .before .before .before))
 
 mul-ready : tie.Need-mul-ready Inv-loop μ-loop
 mul-ready c = omega arith
 
 slice-write-ready : tie.Need-slice-write-ready Inv-loop μ-loop
-slice-write-ready c = omega (arith, filled (c .before .before .before .before .before .before .before .before) .long)
+slice-write-ready c = omega (arith, filled (c .before .before .before .before .before .before) .long)
 
 add-p : tie.Need-add-p Inv-loop μ-loop
 add-p c = omega arith
@@ -107,9 +97,8 @@ loop-less c = omega arith
 
 loop-again : tie.Need-loop-again Inv-loop μ-loop
 loop-again c =
-    λ s w st. filling-next s _ _ _ _ _ w (start (c .before .before .before .before .before .before .before .before) .pre .2) _ _ _
-    (c .before .before .before .before .before .before .before .before .loop .inv s w st) (c .before .before .before .before .before .before .before .loop-test .taken) _
-    (stepped (c .before .before))
+    λ s w st. filling-next s _ _ _ _ _ w (start (c .before .before .before .before .before .before) .pre .2) _ _ _
+    (c .before .before .before .before .before .before .loop .inv s w st) (c .before .before .before .before .before .loop-test .taken) _ (stepped (c .before))
 
 same-length : tie.Need-same-length Inv-loop μ-loop
 same-length c = omega (arith, filled (c .before) .long)
@@ -130,13 +119,11 @@ fill-ready-spec =
     cast-i
     mul-state
     element-copy-out-state
-    mul-wide
-    shared-slice-read-wide
-    wide-requires
+    mul-shape
+    shared-slice-read-shape
     shape-requires
     mul-after
     element-set-from-after
-    cast-ready
     mul-ready
     slice-write-ready
     add-p

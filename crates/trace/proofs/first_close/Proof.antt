@@ -3,7 +3,6 @@ use Prim.Native.Nat.{_-_, _<_}
 use mathlib.Core.List.{[]}
 use lib.ListN.{getD}
 use native.Mathlib.Omega.{arith}
-use borrow.Author.Needs.{needs}
 use Rattle.model.specs.Limits.{maxTasks}
 use Rattle.model.specs.Tasks.{Tasks}
 use Rattle.taskset.specs.TaskSet.{viewOf}
@@ -39,9 +38,9 @@ placed c = omega (arith, start (c .before) .pre .known _ (c .loop-test .taken), 
 -- the release at p has gone through its shaper
 stepped
     : (c : tie.After-shape Inv-loop μ-loop)
-    → Step (start (c .before .before .before .before .before .before) .args .task .now) (start (c .before .before .before .before .before .before) .args .tick .now)
-    (c .before .before .before .before .before .before .loop .all .of) (c .before .before .before .before .before .before .loop .p) (c .shape .result)
-stepped c = record { none = _; release = _; is-tick = c .before .before .wide .ensures; shapes = c .shape .ensures }
+    → Step (start (c .before .before .before .before .before) .args .task .now) (start (c .before .before .before .before .before) .args .tick .now)
+    (c .before .before .before .before .before .loop .all .of) (c .before .before .before .before .before .loop .p) (c .shape .result)
+stepped c = record { none = _; shapes = c .shape .ensures }
 
 full-shapers-requires : tie.Need-full-shapers-requires Inv-loop μ-loop
 full-shapers-requires c κs = c .before .before .pre .few-tasks
@@ -58,37 +57,34 @@ shared-slice-read-i c = omega arith
 cast-i : tie.Need-cast-i Inv-loop μ-loop
 cast-i c = omega (arith, c .shared-slice-known3 .given (c .before .before .loop .p))
 
-mul-wide : tie.Need-mul-wide Inv-loop μ-loop
-mul-wide c = omega arith
+mul-at : tie.Need-mul-at Inv-loop μ-loop
+mul-at c = omega arith
 
-shared-slice-read-wide : tie.Need-shared-slice-read-wide Inv-loop μ-loop
-shared-slice-read-wide c = omega arith
-
-wide-requires : tie.Need-wide-requires Inv-loop μ-loop
-wide-requires c κs = search needs
+shared-slice-read-at : tie.Need-shared-slice-read-at Inv-loop μ-loop
+shared-slice-read-at c = omega arith
 
 mul-state : tie.Need-mul-state Inv-loop μ-loop
-mul-state c = omega (arith, placed (c .before .before .before))
+mul-state c = omega (arith, placed (c .before .before))
 
 element-copy-out-state : tie.Need-element-copy-out-state Inv-loop μ-loop
-element-copy-out-state c = omega (arith, placed (c .before .before .before))
+element-copy-out-state c = omega (arith, placed (c .before .before))
 
 shape-requires : tie.Need-shape-requires Inv-loop μ-loop
 shape-requires c κs =
-    walk-small _ _ _ _ _ (start (c .before .before .before .before .before) .pre) _ _ (traced (c .before .before .before .before .before) .walking)
-    (c .before .before .before .before .loop-test .taken) _ _ (c .before .wide .ensures)
+    walk-small _ _ _ _ _ (start (c .before .before .before .before) .pre) _ _ (traced (c .before .before .before .before) .walking)
+    (c .before .before .before .loop-test .taken) _
 
 returns : tie.Need-returns Inv-loop μ-loop
 returns c =
-    tracing-close _ _ _ _ (start (c .before .before .before .before .before .before .before .before) .pre) _ _
-    (traced (c .before .before .before .before .before .before .before .before)) (c .before .before .before .before .before .before .before .loop-test .taken) _
-    (stepped (c .before .before)) (omega (arith, c .if1 .taken, c .before .before .before .before .wide .ensures))
+    tracing-close _ _ _ _ (start (c .before .before .before .before .before .before .before) .pre) _ _
+    (traced (c .before .before .before .before .before .before .before)) (c .before .before .before .before .before .before .loop-test .taken) _
+    (stepped (c .before .before)) (c .if1 .taken)
 
 mul-advanced : tie.Need-mul-advanced Inv-loop μ-loop
-mul-advanced c = omega (arith, placed (c .before .before .before .before .before .before .before .before))
+mul-advanced c = omega (arith, placed (c .before .before .before .before .before .before .before))
 
 element-set-from-advanced : tie.Need-element-set-from-advanced Inv-loop μ-loop
-element-set-from-advanced c = omega (arith, placed (c .before .before .before .before .before .before .before .before))
+element-set-from-advanced c = omega (arith, placed (c .before .before .before .before .before .before .before))
 
 add-p : tie.Need-add-p Inv-loop μ-loop
 add-p c = omega arith
@@ -98,9 +94,9 @@ loop-less c = omega arith
 
 loop-again : tie.Need-loop-again Inv-loop μ-loop
 loop-again c =
-    λ s w st. tracing-next s _ _ _ w _ _ (c .before .before .before .before .before .before .before .before .before .loop .inv s w st)
-    (c .before .before .before .before .before .before .before .before .loop-test .taken) _ (stepped (c .before .before .before))
-    (omega (arith, c .before .if1 .left, c .before .before .before .before .before .wide .ensures))
+    λ s w st. tracing-next s _ _ _ w _ _ (c .before .before .before .before .before .before .before .before .loop .inv s w st)
+    (c .before .before .before .before .before .before .before .loop-test .taken) _ (stepped (c .before .before .before))
+    (c .before .if1 .left)
 
 returns-2 : tie.Need-returns-2 Inv-loop μ-loop
 returns-2 c = tracing-all _ _ _ _ _ _ (traced (c .before)) (c .loop-test .left)
@@ -116,9 +112,8 @@ first-close-spec =
     mul-i
     shared-slice-read-i
     cast-i
-    mul-wide
-    shared-slice-read-wide
-    wide-requires
+    mul-at
+    shared-slice-read-at
     mul-state
     element-copy-out-state
     shape-requires

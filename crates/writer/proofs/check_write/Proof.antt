@@ -5,13 +5,16 @@ use mathlib.Core.Option.{some, none}
 use mathlib.Core.List.{List, [], _∷_}
 use native.Mathlib.Omega.{arith}
 use borrow.Author.Needs.{needs}
+use Rattle.model.specs.Tasks.{Release}
 use Rattle.model.specs.Checks.{Lent, checkTasks, checkCount, checkSlots}
-use Rattle.model.specs.Calls.{lends}
+use Rattle.model.specs.Calls.{lends, releasesOf}
 use Rattle.model.proofs.CheckLaws.{valid-of, count-of, slots-first, slots-rest}
 use Rattle.model.proofs.OrderLaws.{no-single, no-kept, no-unfit, refused-tasks, refused-count, refused-slots, releases-decide}
 use Rattle.taskset.specs.TaskSet.{viewOf, refusalIn}
-use Rattle.releases.proofs.ReleaseLaws.{Columns, columns-of}
-use Rattle.writer.proofs.WriteLaws.{bytesLent, bytes-short, bytes-long}
+use Rattle.releases.proofs.ReleaseLaws.{Columns, columns-of, length-releases}
+use Rattle.fileformat.specs.FileCalls.{listBytes}
+use Rattle.fileformat.proofs.WidthLaws.{list-high}
+use Rattle.writer.proofs.WriteLaws.{rising-of, bytesLent, bytes-short, bytes-long}
 use Rattle.writer.proofs.check_write.Statement.{statement}
 use Rattle.writer.proofs.check_write.Tie as tie
 
@@ -19,7 +22,7 @@ abbrev columnsAt : tie.Start → List Lent
 columnsAt c = lends (c .args .count) (c .args .task .now) ∷ lends (c .args .count) (c .args .tick .now) ∷ lends (c .args .count) (c .args .cost .now) ∷ []
 
 abbrev bytesAt : tie.Start → List Lent
-bytesAt c = bytesLent (c .args .s .count) (c .args .count) (c .args .room) ∷ []
+bytesAt c = bytesLent (c .args .s .count) (releasesOf (c .args .count) (c .args .task .now) (c .args .tick .now) (c .args .cost .now)) (c .args .room) ∷ []
 
 -- the checks that passed
 sheet-fine : (c : tie.After-enum-told) → none ≡ checkTasks (viewOf (c .before .before .before .before .before .before .args .s))
@@ -32,20 +35,17 @@ columns-fine
     : (c : tie.After-enum-told5) → none ≡ checkSlots (columnsAt (c .before .before .before .before .before .before .before .before .before .before .before .before))
 columns-fine c = sym (ap refusalIn (c .enum-told5 .given .1)) ∙ c .before .before .check-columns .ensures
 
-few-tasks : (c : tie.After-struct-known) → c .before .before .before .before .before .before .before .before .before .before .before .before .before .args .s .count ≤ 32
-few-tasks c = valid-of _ (sym (sheet-fine (c .before .before .before .before .before .before .before))) .few-tasks
+abbrev start : tie.After-enum-told5 → tie.Start
+start c = c .before .before .before .before .before .before .before .before .before .before .before .before
 
-few-releases
-    : (c : tie.After-struct-known) → c .before .before .before .before .before .before .before .before .before .before .before .before .before .args .count ≤ 1024
-few-releases c = count-of _ (count-fine (c .before .before .before .before))
+few-tasks : (c : tie.After-enum-told5) → start c .args .s .count ≤ 32
+few-tasks c = valid-of _ (sym (sheet-fine (c .before .before .before .before .before .before))) .few-tasks
 
-columns-long
-    : (c : tie.After-struct-known)
-    → Columns (c .before .before .before .before .before .before .before .before .before .before .before .before .before .args .count)
-    (c .before .before .before .before .before .before .before .before .before .before .before .before .before .args .task .now)
-    (c .before .before .before .before .before .before .before .before .before .before .before .before .before .args .tick .now)
-    (c .before .before .before .before .before .before .before .before .before .before .before .before .before .args .cost .now)
-columns-long c = columns-of _ _ _ _ (columns-fine (c .before))
+few-releases : (c : tie.After-enum-told5) → start c .args .count ≤ 1024
+few-releases c = count-of _ (count-fine (c .before .before .before))
+
+columns-long : (c : tie.After-enum-told5) → let a = start c .args in Columns (a .count) (a .task .now) (a .tick .now) (a .cost .now)
+columns-long c = columns-of _ _ _ _ (columns-fine c)
 
 check-requires : tie.Need-check-requires
 check-requires c κs = search needs
@@ -89,42 +89,62 @@ returns-3 c =
     rw (c .enum-told6 .given .1) (refused-slots _ _ (sheet-fine (p .before .before .before)) (no-single _) (count-fine p)
     (slots-first (columnsAt start) (bytesAt start) _ (sym (ap refusalIn (c .enum-told6 .given .1)) ∙ c .before .before .check-columns .ensures)))
 
-mul-end : tie.Need-mul-end
-mul-end c = omega (arith, few-tasks c, few-releases c)
+check-releases-requires : tie.Need-check-releases-requires
+check-releases-requires c κs = (few-tasks c, columns-long c .task-long, columns-long c .tick-long, columns-long c .cost-long)
 
-mul-end-2 : tie.Need-mul-end-2
-mul-end-2 c = omega (arith, few-tasks c, few-releases c)
+mul-end : tie.Need-mul-end
+mul-end c = omega (arith, few-tasks (c .before .before))
+
+is-fine-requires : tie.Need-is-fine-requires
+is-fine-requires c κs = search needs
+
+list-size-requires : tie.Need-list-size-requires
+list-size-requires c κs =
+    let k = c .before .before .before in
+    let a = start k .args in (
+      few-releases k,
+      columns-long k .tick-long,
+      λ e. rising-of (viewOf (a .s)) (a .count) (a .task .now) (a .tick .now) (a .cost .now)
+          (sym (c .is-fine .ensures e) ∙ c .before .before .check-releases .ensures),
+    )
+
+-- the columns passed, the releases are looked at, and their bytes are known
+abbrev passed : tie.After-list-size → tie.After-enum-told5
+passed c = c .before .before .before .before
+
+abbrev list : tie.After-list-size → List Release
+list c = let a = start (passed c) .args in releasesOf (a .count) (a .task .now) (a .tick .now) (a .cost .now)
+
+size-is : (c : tie.After-list-size) → c .list-size .result ≡ listBytes (list c)
+size-is c = c .list-size .ensures (start (passed c) .args .task .now) (start (passed c) .args .cost .now)
+
+size-small : (c : tie.After-list-size) → c .list-size .result ≤ 14336
+size-small c =
+    let a = start (passed c) .args in
+    omega (arith, size-is c, list-high (list c), length-releases (a .count) (a .task .now) (a .tick .now) (a .cost .now), few-releases (passed c))
 
 add-end : tie.Need-add-end
-add-end c = omega (arith, few-tasks c, few-releases c)
+add-end c = omega (arith, few-tasks (passed c), size-small c)
 
-add-t14 : tie.Need-add-t14
-add-t14 c = omega (arith, few-tasks (c .before), few-releases (c .before))
+add-t15 : tie.Need-add-t15
+add-t15 c = omega (arith, few-tasks (passed (c .before)), size-small (c .before))
 
 returns-4 : tie.Need-returns-4
 returns-4 c =
-    refused-slots _ _ (sheet-fine (c .before .before .before .before .before .before .before .before)) (no-single _)
-    (count-fine (c .before .before .before .before .before))
-    (bytes-short (c .before .before .before .before .before .before .before .before .before .before .before .before .before .before .args .s .count)
-    (c .before .before .before .before .before .before .before .before .before .before .before .before .before .before .args .count)
-    (c .before .before .before .before .before .before .before .before .before .before .before .before .before .before .args .room) (omega arith)
-    ∙ sym (slots-rest (columnsAt (c .before .before .before .before .before .before .before .before .before .before .before .before .before .before))
-    (bytesAt (c .before .before .before .before .before .before .before .before .before .before .before .before .before .before)) (columns-fine (c .before .before))))
-
-check-releases-requires : tie.Need-check-releases-requires
-check-releases-requires c κs = (few-tasks (c .before), columns-long (c .before) .task-long, columns-long (c .before) .tick-long, columns-long (c .before) .cost-long)
+    let l = c .before in
+    let k = passed l in
+    let a = start k in
+    refused-slots _ _ (sheet-fine (k .before .before .before .before .before .before)) (no-single _) (count-fine (k .before .before .before))
+    (bytes-short (a .args .s .count) (l .list-size .result) (list l) (a .args .room) (size-is l) (omega arith) ∙ sym (slots-rest (columnsAt a) (bytesAt a) (columns-fine k)))
 
 returns-5 : tie.Need-returns-5
 returns-5 c =
-    c .check-releases .ensures
-    ∙ releases-decide _ (sheet-fine (c .before .before .before .before .before .before .before .before .before)) (no-single _)
-    (count-fine (c .before .before .before .before .before .before))
-    (bytes-long (c .before .before .before .before .before .before .before .before .before .before .before .before .before .before .before .args .s .count)
-    (c .before .before .before .before .before .before .before .before .before .before .before .before .before .before .before .args .count)
-    (c .before .before .before .before .before .before .before .before .before .before .before .before .before .before .before .args .room) (omega arith)
-    ∙ sym (slots-rest (columnsAt (c .before .before .before .before .before .before .before .before .before .before .before .before .before .before .before))
-    (bytesAt (c .before .before .before .before .before .before .before .before .before .before .before .before .before .before .before))
-    (columns-fine (c .before .before .before))))
+    let l = c .before in
+    let k = passed l in
+    let a = start k in
+    l .before .before .before .check-releases .ensures
+    ∙ releases-decide _ (sheet-fine (k .before .before .before .before .before .before)) (no-single _) (count-fine (k .before .before .before))
+    (bytes-long (a .args .s .count) (l .list-size .result) (list l) (a .args .room) (size-is l) (omega arith) ∙ sym (slots-rest (columnsAt a) (bytesAt a) (columns-fine k)))
     (no-kept _) no-unfit
 
 pub check-write-spec : {M : Type 1} → statement M
@@ -143,10 +163,11 @@ check-write-spec =
     enum-told-5
     enum-told-6
     returns-3
-    mul-end
-    mul-end-2
-    add-end
-    add-t14
-    returns-4
     check-releases-requires
+    mul-end
+    is-fine-requires
+    list-size-requires
+    add-end
+    add-t15
+    returns-4
     returns-5)

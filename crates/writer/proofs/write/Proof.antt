@@ -1,130 +1,144 @@
 -- A write that is not refused has room for the tasks, the releases and the end record, one after the other.
-use Prim.Native.Nat.{_+_, _*_, _≤_}
+use Prim.Native.Nat.{_+_, _*_, _≤_, _<_}
 use mathlib.Core.Path.{_≡_, sym, ap, _∙_}
 use mathlib.Core.Option.{none}
 use native.Mathlib.Omega.{arith}
 use borrow.Author.Needs.{needs}
 use lib.ListN.{length, length-set, length-map}
 use Rattle.model.specs.Checks.{refusalOf}
+use Rattle.model.specs.Calls.{releasesOf}
 use Rattle.taskset.specs.TaskSet.{viewOf, refusalIn}
-use Rattle.fileformat.specs.FileCalls.{writeInputs}
+use Rattle.fileformat.specs.FileCalls.{listBytes, writeInputs}
+use Rattle.releases.proofs.ReleaseLaws.{length-releases}
+use Rattle.fileformat.proofs.WidthLaws.{list-high}
+use Rattle.writer.specs.Writer.{part}
 use Rattle.writer.proofs.StoreLaws.{stored-long}
-use Rattle.writer.proofs.WriteLaws.{WriteFits, write-fits, write-refused, write-done}
+use Rattle.writer.proofs.PartLaws.{bytes-split, shorts-alike, longs-alike}
+use Rattle.writer.proofs.WriteLaws.{WriteFits, write-fits, stored-both, write-refused, write-done}
 use Rattle.writer.proofs.write.Statement.{statement}
 use Rattle.writer.proofs.write.Tie as tie
 
--- the check that passed
-accepted
-    : (c : tie.After-struct-known)
-    → none ≡ refusalOf (writeInputs (viewOf (c .before .before .before .before .before .before .before .before .args .s))
-    (c .before .before .before .before .before .before .before .before .args .count) (c .before .before .before .before .before .before .before .before .args .task .now)
-    (c .before .before .before .before .before .before .before .before .args .tick .now)
-    (c .before .before .before .before .before .before .before .before .args .cost .now)
-    (length (c .before .before .before .before .before .before .before .before .args .out .now)))
-accepted c = sym (ap refusalIn (c .before .enum-told .given .1)) ∙ c .before .before .before .check-write .ensures
+abbrev start : tie.After-enum-told → tie.Start
+start c = c .before .before .before .before .before .before .before
 
-fits
-    : (c : tie.After-struct-known)
-    → WriteFits (c .before .before .before .before .before .before .before .before .args .s)
-    (c .before .before .before .before .before .before .before .before .args .count) (c .before .before .before .before .before .before .before .before .args .task .now)
-    (c .before .before .before .before .before .before .before .before .args .tick .now)
-    (c .before .before .before .before .before .before .before .before .args .cost .now)
-    (length (c .before .before .before .before .before .before .before .before .args .out .now))
+-- the check that passed
+accepted : (c : tie.After-enum-told) → let a =
+    start c .args in none ≡ refusalOf (writeInputs (viewOf (a .s)) (a .count) (a .task .now) (a .tick .now) (a .cost .now) (length (a .out .now)))
+accepted c = sym (ap refusalIn (c .enum-told .given .1)) ∙ c .before .before .check-write .ensures
+
+fits : (c : tie.After-enum-told) → let a = start c .args in WriteFits (a .s) (a .count) (a .task .now) (a .tick .now) (a .cost .now) (length (a .out .now))
 fits c = write-fits _ _ _ _ _ _ (accepted c)
 
-in-array
-    : (c : tie.After-struct-known)
-    → c .before .before .before .before .before .before .before .before .args .s .count ≤ length
-    (c .before .before .before .before .before .before .before .before .args .s .tasks)
+in-array : (c : tie.After-enum-told) → start c .args .s .count ≤ length (start c .args .s .tasks)
 in-array c =
-    let e : length (c .before .before .before .before .before .before .before .before .args .s .tasks) ≡ 32 = simp length-map at
-    (c .before .before .before .before .before .before .before .before .good .0 .1 .1 .0 .1 .0 .1) in
+    let e : length (start c .args .s .tasks) ≡ 32 = simp length-map at (start c .good .0 .1 .1 .0 .1 .0 .1) in
     omega (arith, fits c .few-tasks)
 
+-- the tasks are written, and it is known where the long records begin
+abbrev tasked : tie.After-short-count → tie.After-put-tasks
+tasked c = c .before .before .before
+
+abbrev told : tie.After-short-count → tie.After-enum-told
+told c = tasked c .before .before
+
+-- the short records are written, and the long ones
+abbrev cut : tie.After-struct-known → tie.After-short-count
+cut c = c .before .before
+
+abbrev shorts : tie.After-put-part-arg2 → tie.After-put-part
+shorts c = c .before .before .before
+
+abbrev longs : tie.After-slice-known4 → tie.After-put-part2
+longs c = c .before .before
+
+abbrev known : tie.After-slice-known4 → tie.After-short-count
+known c = cut (shorts (longs c .before) .before)
+
+-- the bytes of both parts
+split : (c : tie.After-short-count) → let a = start (told c) .args in listBytes (part 0 (c .short-count .result) (a .task .now) (a .tick .now) (a .cost .now)) + listBytes
+    (part (c .short-count .result) (a .count) (a .task .now) (a .tick .now) (a .cost .now)) ≡ listBytes (releasesOf (a .count) (a .task .now) (a .tick .now) (a .cost .now))
+split c = let a = start (told c) .args in bytes-split (a .task .now) (a .tick .now) (a .cost .now) (c .short-count .result) (a .count) (c .short-count .ensures .within)
+
+-- where the file ends
+end-is
+    : (c : tie.After-slice-known4) → let a = start (told (known c)) .args in longs c .put-part2 .result ≡ 17 * a .s .count + listBytes
+    (releasesOf (a .count) (a .task .now) (a .tick .now) (a .cost .now))
+end-is c = omega (arith, longs c .put-part2 .ensures .1, shorts (longs c .before) .put-part .ensures .1, split (known c))
+
+-- the lent bytes are as many as before
+long-one : (c : tie.After-put-part-arg2) → length (shorts c .put-part .last .0) ≡ length (start (told (cut (shorts c .before))) .args .out .now)
+long-one c = stored-long _ _ _ _ (shorts c .put-part .ensures .0) ∙ stored-long _ _ _ _ (tasked (cut (shorts c .before)) .put-tasks .ensures)
+
+long : (c : tie.After-slice-known4) → length (longs c .put-part2 .last .0) ≡ length (start (told (known c)) .args .out .now)
+long c = stored-long _ _ _ _ (longs c .put-part2 .ensures .0) ∙ long-one (longs c .before)
+
 check-write-requires : tie.Need-check-write-requires
-check-write-requires c κs =
-    search needs
+check-write-requires c κs = search needs
 
 enum-known-k : tie.Need-enum-known-k
-enum-known-k c =
-    search needs
+enum-known-k c = search needs
 
 returns : tie.Need-returns
 returns c =
     write-refused _ _ _ _ _ _ _ _ (sym (ap refusalIn (c .before .k .given .1)) ∙ c .before .before .before .check-write .ensures)
 
 enum-told : tie.Need-enum-told
-enum-told c =
-    search needs
-
-mul-from : tie.Need-mul-from
-mul-from c =
-    omega (arith, fits c .few-tasks, fits c .few-releases)
-
-mul-end : tie.Need-mul-end
-mul-end c =
-    omega (arith, fits c .few-tasks, fits c .few-releases)
-
-add-end : tie.Need-add-end
-add-end c =
-    omega (arith, fits c .few-tasks, fits c .few-releases)
+enum-told c = search needs
 
 put-tasks-requires : tie.Need-put-tasks-requires
-put-tasks-requires c κs =
-    (fits (c .before) .few-tasks, omega (arith, fits (c .before) .bytes), in-array (c .before))
+put-tasks-requires c κs = (fits (c .before) .few-tasks, omega (arith, fits (c .before) .bytes), in-array (c .before))
 
-put-releases-requires : tie.Need-put-releases-requires
-put-releases-requires c κs = (
-  omega (arith, fits (c .before .before .before .before .before) .bytes, stored-long _ _ _ _ (c .before .before .before .put-tasks .ensures)),
-  fits
-      (c .before .before .before .before .before) .columns .task-long,
-  fits (c .before .before .before .before .before) .columns .tick-long,
-  fits
-      (c .before .before .before .before .before) .columns .cost-long,
-)
+short-count-requires : tie.Need-short-count-requires
+short-count-requires c κs = fits (c .before .before .before .before) .columns .tick-long
+
+mul-put-part : tie.Need-mul-put-part
+mul-put-part c = omega (arith, fits (told (cut c)) .few-tasks)
+
+put-part-requires : tie.Need-put-part-requires
+put-part-requires c κs =
+    let k = cut c in
+    let f = fits (told k) in
+    let w = k .short-count .ensures .within in (
+      omega (arith, f .bytes, split k, stored-long _ _ _ _ (tasked k .put-tasks .ensures)),
+      omega arith,
+      omega (arith, w, f .columns .task-long),
+      omega (arith, w, f .columns .tick-long),
+      omega (arith, w, f .columns .cost-long),
+      shorts-alike _ _ _ (f .rising) (k .short-count .ensures),
+    )
+
+put-part-requires-2 : tie.Need-put-part-requires-2
+put-part-requires-2 c κs =
+    let k = cut (shorts c .before) in
+    let f = fits (told k) in (
+      omega (arith, f .bytes, split k, shorts c .put-part .ensures .1, long-one c),
+      k .short-count .ensures .within,
+      f .columns .task-long,
+      f .columns .tick-long,
+      f .columns .cost-long,
+      longs-alike _ _ _ (k .short-count .ensures),
+    )
 
 slice-write-out : tie.Need-slice-write-out
-slice-write-out c =
-    omega (
-      arith,
-      fits (c .before .before .before .before .before .before .before .before) .bytes,
-      stored-long _ _ _ _
-          (c .before .before .put-releases .ensures),
-      stored-long _ _ _ _ (c .before .before .before .before .before .before .put-tasks .ensures),
-    )
+slice-write-out c = omega (arith, end-is c, fits (told (known c)) .bytes, long c)
 
-add-t12 : tie.Need-add-t12
-add-t12 c =
-    omega (
-      arith,
-      fits (c .before .before .before .before .before .before .before .before) .few-tasks,
-      fits
-          (c .before .before .before .before .before .before .before .before) .few-releases,
-    )
+add-t13 : tie.Need-add-t13
+add-t13 c =
+    let f = fits (told (known c)) in
+    let a = start (told (known c)) .args in
+    let l = releasesOf (a .count) (a .task .now) (a .tick .now) (a .cost .now) in
+    omega (arith, end-is c, f .few-tasks, f .few-releases, list-high l, length-releases (a .count) (a .task .now) (a .tick .now) (a .cost .now))
 
 same-length : tie.Need-same-length
-same-length c =
-    omega (
-      arith,
-      length-set (c .before .before .put-releases .last .0)
-          (17 * c .before .before .before .before .before .before .before .before .before .before .before .before .before .before .before .before .args .s .count + 10 *
-          c .before .before .before .before .before .before .before .before .before .before .before .before .before .before .before .before .args .count) 3,
-      stored-long _ _ _ _
-          (c .before .before .put-releases .ensures),
-      stored-long _ _ _ _ (c .before .before .before .before .before .before .put-tasks .ensures),
-    )
+same-length c = omega (arith, length-set (longs c .put-part2 .last .0) (longs c .put-part2 .result) 3, long c)
 
 returns-2 : tie.Need-returns-2
 returns-2 c =
-    write-done (c .before .before .before .before .before .before .before .before .before .before .before .before .before .before .before .before .args .s)
-    (c .before .before .before .before .before .before .before .before .before .before .before .before .before .before .before .before .args .count)
-    (c .before .before .before .before .before .before .before .before .before .before .before .before .before .before .before .before .args .task .now)
-    (c .before .before .before .before .before .before .before .before .before .before .before .before .before .before .before .before .args .tick .now)
-    (c .before .before .before .before .before .before .before .before .before .before .before .before .before .before .before .before .args .cost .now)
-    (c .before .before .before .before .before .before .before .before .before .before .before .before .before .before .before .before .args .out .now)
-    (in-array (c .before .before .before .before .before .before .before .before)) _ _ (accepted (c .before .before .before .before .before .before .before .before))
-    (c .before .before .before .before .before .before .put-tasks .ensures) (c .before .before .put-releases .ensures)
-    (fits (c .before .before .before .before .before .before .before .before) .bytes)
+    let k = known c in
+    let t = told k in
+    let p = shorts (longs c .before) .put-part .ensures in
+    write-done _ _ _ _ _ _ (in-array t) _ _ _ (accepted t) (tasked k .put-tasks .ensures)
+    (stored-both _ _ _ _ _ _ _ _ _ _ (k .short-count .ensures .within) (p .0) (p .1) (longs c .put-part2 .ensures .0)) (end-is c) (fits t .bytes)
 
 pub write-spec : {M : Type 1} → statement M
 write-spec =
@@ -134,12 +148,12 @@ write-spec =
     enum-known-k
     returns
     enum-told
-    mul-from
-    mul-end
-    add-end
     put-tasks-requires
-    put-releases-requires
+    short-count-requires
+    mul-put-part
+    put-part-requires
+    put-part-requires-2
     slice-write-out
-    add-t12
+    add-t13
     same-length
     returns-2)
