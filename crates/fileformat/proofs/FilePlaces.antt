@@ -79,7 +79,9 @@ list-number s releases before w r n e = go (eqb (s .count) 0) (releaseFault s (l
     go
         : (a : Bool) (o : Option ℕ) (b : Bool) → eqb (s .count) 0 ≡ a → releaseFault s (lowTick w before) (highTick w) r ≡ o → leb maxReleases releases ≡ b → Number n
     go true o b p q t = is-number 5 n (omega arith) (omega arith) (rw (listFault, p) at e)
-    go false (some m) b p q t = let k = fault-number s (lowTick w before) (highTick w) r m q in is-number m n (omega (arith, k .0)) (omega (arith, k .1)) (rw (listFault, p, q) at e)
+    go false (some m) b p q t =
+        let k = fault-number s (lowTick w before) (highTick w) r m q in
+        is-number m n (omega (arith, k .0)) (omega (arith, k .1)) (rw (listFault, p, q) at e)
     go false none true p q t = is-number 10 n (omega arith) (omega arith) (rw (listFault, p, q, t) at e)
     go false none false p q t = not-number n (rw (listFault, p, q, t) at e)
 

@@ -125,7 +125,8 @@ written-step n s at f x r t d a (takes-task t′ z l g) b e ih =
     follows s (withTask s t′) f r x (part-task s t′ z) (bytes-read f r (rw d at (shape f)) b (λ k i. let w : _≡_ {A = ℕ} 0 1 = cc in omega arith))
     (ih _ (sym (read-next n s at f r d _ a) ∙ e))
 written-step n s at f x r t d a (takes-release w r′ l g m) b e ih =
-    follows s (withRelease s r′) f r x (part-release s w r′ (kind-written (sheetOf (s .tasks)) (s .before) r′ w g)) (bytes-read f r (rw d at (shape f)) b (λ k i. let w : _≡_ {A = ℕ} 0 1 = cc in omega arith))
+    follows s (withRelease s r′) f r x (part-release s w r′ (kind-written (sheetOf (s .tasks)) (s .before) r′ w g))
+    (bytes-read f r (rw d at (shape f)) b (λ k i. let w : _≡_ {A = ℕ} 0 1 = cc in omega arith))
     (ih _ (sym (read-next n s at f r d _ a) ∙ e))
 written-step n s at f x r t d a (ends l) b e ih =
     let g = after-end s _ _ x (sym (read-last n s at f r d a) ∙ e) in

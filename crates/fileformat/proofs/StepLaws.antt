@@ -93,7 +93,9 @@ module _ (s : State) where
   unfolding advance unless
   release-stops w r n e = rw (unless, e)
 
-  pub release-taken : (w : Width) (r : Release) → listFault (sheetOf (s .tasks)) (length (s .releases)) (s .before) w r ≡ none → advance s (releaseRecord w r) ≡ next (withRelease s r)
+  pub release-taken
+      : (w : Width) (r : Release) → listFault (sheetOf (s .tasks)) (length (s .releases)) (s .before) w r ≡ none
+      → advance s (releaseRecord w r) ≡ next (withRelease s r)
   unfolding advance unless
   release-taken w r e = rw (unless, e)
 
@@ -140,7 +142,9 @@ release-moves s w r = early (ltb 0 (length (s .tasks))) refl
     over l f true e = rw (release-stops s w r 10 (list-over (sheetOf (s .tasks)) _ _ w r l f (leb-true _ _ e))) (stops _ 10)
     over l f false e = rw (release-taken s w r (list-fine (sheetOf (s .tasks)) _ _ w r l f (leb-false _ _ e))) (takes-release w r l f (leb-false _ _ e))
 
-    fault : 1 ≤ length (s .tasks) → (o : Option ℕ) → releaseFault (sheetOf (s .tasks)) (lowTick w (s .before)) (highTick w) r ≡ o → Moves s (releaseRecord w r) (advance s (releaseRecord w r))
+    fault
+        : 1 ≤ length (s .tasks) → (o : Option ℕ) → releaseFault (sheetOf (s .tasks)) (lowTick w (s .before)) (highTick w) r ≡ o
+        → Moves s (releaseRecord w r) (advance s (releaseRecord w r))
     fault l none e = over l e (leb maxReleases (length (s .releases))) refl
     fault l (some n) e = rw (release-stops s w r n (list-fault (sheetOf (s .tasks)) _ _ w r n l e)) (stops _ n)
 
