@@ -91,6 +91,16 @@ fn full_sheet(n: u32) -> Sheet {
     Sheet::of(&tasks)
 }
 
+/// The charge of the rows that have one.
+const CHARGE: u8 = 5;
+
+/// The charge taken off each cost: the sheet has the same load with it, so that a row with a charge has the walk, the run and the size
+/// of the row without it.
+fn charged(sheet: &Sheet) -> Sheet {
+    let tasks: Vec<Task> = sheet.tasks.iter().map(|t| Task { e: t.e - CHARGE as u32, ..*t }).collect();
+    Sheet::of(&tasks).charged(CHARGE)
+}
+
 /// A sheet of 32 tasks of which the lowest walks over many q.
 fn long_walk() -> (Sheet, Vec<u32>) {
     let mut tasks: Vec<Task> = (0..31).map(|_| Task { p: 32, j: 31, e: 1, d: 1_000_000 }).collect();
@@ -163,6 +173,12 @@ fn long_list_of(n: usize) -> List {
     list
 }
 
+/// A list with the charge taken off each cost, down to 1: its jobs take the ticks that they took, and those of a small cost up to 5 more.
+fn charged_list(list: List) -> List {
+    let cost = list.cost.iter().map(|c| c.saturating_sub(CHARGE as u32).max(1)).collect();
+    List { sheet: charged(&list.sheet), cost, ..list }
+}
+
 /// One release at the largest tick of kind 2: later ones take a ticking run minutes and days.
 fn late_list() -> List {
     let mut list = list_of(1);
@@ -197,16 +213,16 @@ fn time_verdict(sheet: &Sheet, kept: &[u32], task: usize) -> Vec<f64> {
     let numbers = numbers_of(sheet);
     let count = sheet.count as u32;
     let mut answer = [0u64; 3];
-    assert_eq!(library::verdict(&numbers, count, task as u32, kept, &mut answer), 0);
-    assert_eq!(same_method::verdict(&sheet.tasks, task, kept).unwrap(), answer);
+    assert_eq!(library::verdict(&numbers, count, sheet.charge, task as u32, kept, &mut answer), 0);
+    assert_eq!(same_method::verdict(&sheet.tasks, sheet.charge, task, kept).unwrap(), answer);
     medians(&mut [
         &mut || {
             let mut a = [0u64; 3];
-            black_box(library::verdict(black_box(&numbers), count, task as u32, black_box(kept), &mut a));
+            black_box(library::verdict(black_box(&numbers), count, sheet.charge, task as u32, black_box(kept), &mut a));
             black_box(a);
         },
         &mut || {
-            black_box(same_method::verdict(black_box(&sheet.tasks), task, black_box(kept)).is_ok());
+            black_box(same_method::verdict(black_box(&sheet.tasks), sheet.charge, task, black_box(kept)).is_ok());
         },
         &mut || {
             black_box(reference::verdict(black_box(sheet), task, black_box(kept), &mut Budget::of(u64::MAX)).is_ok());
@@ -219,15 +235,15 @@ fn time_choice(sheet: &Sheet) -> Vec<f64> {
     let count = sheet.count as u32;
     let (mut k, mut w) = ([0u32; 32], [0u32; 32]);
     let (mut k2, mut w2) = ([0u32; 32], [0u32; 32]);
-    assert_eq!(library::choice(&numbers, count, &mut k, &mut w), 0);
-    assert!(same_method::choice(&sheet.tasks, &mut k2, &mut w2).is_ok());
+    assert_eq!(library::choice(&numbers, count, sheet.charge, &mut k, &mut w), 0);
+    assert!(same_method::choice(&sheet.tasks, sheet.charge, &mut k2, &mut w2).is_ok());
     assert_eq!((k, w), (k2, w2));
     medians(&mut [
         &mut || {
-            black_box(library::choice(black_box(&numbers), count, black_box(&mut k), black_box(&mut w)));
+            black_box(library::choice(black_box(&numbers), count, sheet.charge, black_box(&mut k), black_box(&mut w)));
         },
         &mut || {
-            black_box(same_method::choice(black_box(&sheet.tasks), black_box(&mut k2), black_box(&mut w2)).is_ok());
+            black_box(same_method::choice(black_box(&sheet.tasks), sheet.charge, black_box(&mut k2), black_box(&mut w2)).is_ok());
         },
         &mut || {
             black_box(reference::choice(black_box(sheet), 32, 32, &mut Budget::of(u64::MAX)).is_ok());
@@ -238,15 +254,15 @@ fn time_choice(sheet: &Sheet) -> Vec<f64> {
 fn time_trace(l: &List) -> Vec<f64> {
     let numbers = numbers_of(&l.sheet);
     let mut answer = [0u64; 2];
-    assert_eq!(library::trace_check(&numbers, 32, l.n(), l.library(), &mut answer), 0);
+    assert_eq!(library::trace_check(&numbers, 32, l.sheet.charge, l.n(), l.library(), &mut answer), 0);
     assert_eq!(answer, [0, 0]);
-    assert_eq!(same_method::trace_check(&l.sheet.tasks, l.n() as usize, l.same()).unwrap(), None);
+    assert_eq!(same_method::trace_check(&l.sheet.tasks, l.sheet.charge, l.n() as usize, l.same()).unwrap(), None);
     medians(&mut [
         &mut || {
-            black_box(library::trace_check(black_box(&numbers), 32, l.n(), l.library(), black_box(&mut answer)));
+            black_box(library::trace_check(black_box(&numbers), 32, l.sheet.charge, l.n(), l.library(), black_box(&mut answer)));
         },
         &mut || {
-            black_box(same_method::trace_check(black_box(&l.sheet.tasks), l.n() as usize, l.same()).is_ok());
+            black_box(same_method::trace_check(black_box(&l.sheet.tasks), l.sheet.charge, l.n() as usize, l.same()).is_ok());
         },
         &mut || {
             black_box(reference::trace_check(black_box(&l.sheet), l.n() as usize, &l.reference()).is_ok());
@@ -257,15 +273,16 @@ fn time_trace(l: &List) -> Vec<f64> {
 fn time_ready(l: &List) -> Vec<f64> {
     let numbers = numbers_of(&l.sheet);
     let (mut a, mut b) = (vec![0u64; 1024], vec![0u64; 1024]);
-    assert_eq!(library::ready(&numbers, 32, &l.kept, l.n(), l.library(), &mut a), 0);
-    assert!(same_method::ready(&l.sheet.tasks, &l.kept, l.n() as usize, l.same(), &mut b).is_ok());
+    assert_eq!(library::ready(&numbers, 32, l.sheet.charge, &l.kept, l.n(), l.library(), &mut a), 0);
+    assert!(same_method::ready(&l.sheet.tasks, l.sheet.charge, &l.kept, l.n() as usize, l.same(), &mut b).is_ok());
     assert_eq!(a, b);
     medians(&mut [
         &mut || {
-            black_box(library::ready(black_box(&numbers), 32, &l.kept, l.n(), l.library(), black_box(&mut a)));
+            black_box(library::ready(black_box(&numbers), 32, l.sheet.charge, &l.kept, l.n(), l.library(), black_box(&mut a)));
         },
         &mut || {
-            black_box(same_method::ready(black_box(&l.sheet.tasks), &l.kept, l.n() as usize, l.same(), black_box(&mut b)).is_ok());
+            let (n, lent) = (l.n() as usize, black_box(&mut b));
+            black_box(same_method::ready(black_box(&l.sheet.tasks), l.sheet.charge, &l.kept, n, l.same(), lent).is_ok());
         },
         &mut || {
             black_box(reference::ready(black_box(&l.sheet), &l.kept, l.n() as usize, &l.reference(), 1024).is_ok());
@@ -276,16 +293,17 @@ fn time_ready(l: &List) -> Vec<f64> {
 fn time_run(l: &List) -> Vec<f64> {
     let numbers = numbers_of(&l.sheet);
     let (mut a, mut b, mut c, mut d) = (vec![0u64; 1024], vec![0u64; 1024], vec![0u64; 1024], vec![0u64; 1024]);
-    assert_eq!(library::run(&numbers, 32, &l.kept, l.n(), l.library(), &mut a, &mut b), 0);
-    assert!(same_method::run(&l.sheet.tasks, &l.kept, l.n() as usize, l.same(), &mut c, &mut d).is_ok());
+    assert_eq!(library::run(&numbers, 32, l.sheet.charge, &l.kept, l.n(), l.library(), &mut a, &mut b), 0);
+    assert!(same_method::run(&l.sheet.tasks, l.sheet.charge, &l.kept, l.n() as usize, l.same(), &mut c, &mut d).is_ok());
     assert_eq!((&a, &b), (&c, &d));
     medians(&mut [
         &mut || {
-            black_box(library::run(black_box(&numbers), 32, &l.kept, l.n(), l.library(), black_box(&mut a), black_box(&mut b)));
+            let lent = (black_box(&mut a), black_box(&mut b));
+            black_box(library::run(black_box(&numbers), 32, l.sheet.charge, &l.kept, l.n(), l.library(), lent.0, lent.1));
         },
         &mut || {
-            let n = l.n() as usize;
-            black_box(same_method::run(black_box(&l.sheet.tasks), &l.kept, n, l.same(), black_box(&mut c), black_box(&mut d)).is_ok());
+            let (n, lent) = (l.n() as usize, (black_box(&mut c), black_box(&mut d)));
+            black_box(same_method::run(black_box(&l.sheet.tasks), l.sheet.charge, &l.kept, n, l.same(), lent.0, lent.1).is_ok());
         },
         &mut || {
             black_box(reference::run(black_box(&l.sheet), &l.kept, l.n() as usize, &l.reference(), 1024, 1024).is_ok());
@@ -297,17 +315,17 @@ fn time_jump(l: &List) -> Vec<f64> {
     let numbers = numbers_of(&l.sheet);
     let (mut a, mut b, mut c, mut d) = (vec![0u64; 1024], vec![0u64; 1024], vec![0u64; 1024], vec![0u64; 1024]);
     let mut answer = [0u64; 1];
-    assert_eq!(library::jump(&numbers, 32, &l.kept, l.n(), l.library(), &mut a, &mut b, &mut answer), 0);
-    assert_eq!(same_method::jump(&l.sheet.tasks, &l.kept, l.n() as usize, l.same(), &mut c, &mut d).unwrap(), answer[0]);
+    assert_eq!(library::jump(&numbers, 32, l.sheet.charge, &l.kept, l.n(), l.library(), &mut a, &mut b, &mut answer), 0);
+    assert_eq!(same_method::jump(&l.sheet.tasks, l.sheet.charge, &l.kept, l.n() as usize, l.same(), &mut c, &mut d).unwrap(), answer[0]);
     assert_eq!((&a, &b), (&c, &d));
     medians(&mut [
         &mut || {
             let lent = (black_box(&mut a), black_box(&mut b), black_box(&mut answer));
-            black_box(library::jump(black_box(&numbers), 32, &l.kept, l.n(), l.library(), lent.0, lent.1, lent.2));
+            black_box(library::jump(black_box(&numbers), 32, l.sheet.charge, &l.kept, l.n(), l.library(), lent.0, lent.1, lent.2));
         },
         &mut || {
             let (n, lent) = (l.n() as usize, (black_box(&mut c), black_box(&mut d)));
-            black_box(same_method::jump(black_box(&l.sheet.tasks), &l.kept, n, l.same(), lent.0, lent.1).is_ok());
+            black_box(same_method::jump(black_box(&l.sheet.tasks), l.sheet.charge, &l.kept, n, l.same(), lent.0, lent.1).is_ok());
         },
         &mut || {
             black_box(reference::jump(black_box(&l.sheet), &l.kept, l.n() as usize, &l.reference(), 1024, 1024).is_ok());
@@ -317,13 +335,13 @@ fn time_jump(l: &List) -> Vec<f64> {
 
 fn time_read(l: &List) -> Vec<f64> {
     let file = reference::write(&l.sheet, l.n() as usize, &l.reference(), 1 << 20).unwrap();
-    let (mut sheet, mut answer) = ([0u32; 128], [0u64; 2]);
+    let (mut sheet, mut answer) = ([0u32; 128], [0u64; 3]);
     let (mut a, mut b, mut c) = (vec![0u32; 1024], vec![0u64; 1024], vec![0u32; 1024]);
     let (mut d, mut e, mut f) = (vec![0u32; 1024], vec![0u64; 1024], vec![0u32; 1024]);
     let mut tasks = [Task { p: 0, j: 0, e: 0, d: 0 }; 32];
     assert_eq!(library::read(&file, &mut sheet, &mut a, &mut b, &mut c, &mut answer), 0);
-    assert_eq!(same_method::read(&file, &mut tasks, &mut d, &mut e, &mut f).unwrap(), (32, l.task.len()));
-    assert_eq!((&a, &b, &c), (&d, &e, &f));
+    assert_eq!(same_method::read(&file, &mut tasks, &mut d, &mut e, &mut f).unwrap(), (32, l.task.len(), l.sheet.charge));
+    assert_eq!((&a, &b, &c, answer[2]), (&d, &e, &f, l.sheet.charge as u64));
     medians(&mut [
         &mut || {
             black_box(library::read(black_box(&file), black_box(&mut sheet), &mut a, &mut b, &mut c, &mut answer));
@@ -339,17 +357,17 @@ fn time_read(l: &List) -> Vec<f64> {
 
 fn time_write(l: &List) -> Vec<f64> {
     let numbers = numbers_of(&l.sheet);
-    let size = reference::bytes_needed(32, &l.tick);
+    let size = reference::bytes_needed(l.sheet.charge, 32, &l.tick);
     let (mut a, mut b, mut answer) = (vec![0u8; size], vec![0u8; size], [0u64; 1]);
-    assert_eq!(library::write(&numbers, 32, l.n(), l.library(), &mut a, &mut answer), 0);
-    assert!(same_method::write(&l.sheet.tasks, l.n() as usize, l.same(), &mut b).is_ok());
+    assert_eq!(library::write(&numbers, 32, l.sheet.charge, l.n(), l.library(), &mut a, &mut answer), 0);
+    assert!(same_method::write(&l.sheet.tasks, l.sheet.charge, l.n() as usize, l.same(), &mut b).is_ok());
     assert_eq!(a, b);
     medians(&mut [
         &mut || {
-            black_box(library::write(black_box(&numbers), 32, l.n(), l.library(), black_box(&mut a), &mut answer));
+            black_box(library::write(black_box(&numbers), 32, l.sheet.charge, l.n(), l.library(), black_box(&mut a), &mut answer));
         },
         &mut || {
-            black_box(same_method::write(black_box(&l.sheet.tasks), l.n() as usize, l.same(), black_box(&mut b)).is_ok());
+            black_box(same_method::write(black_box(&l.sheet.tasks), l.sheet.charge, l.n() as usize, l.same(), black_box(&mut b)).is_ok());
         },
         &mut || {
             black_box(reference::write(black_box(&l.sheet), l.n() as usize, &l.reference(), size).is_ok());
@@ -402,16 +420,22 @@ fn head(first: &str) {
 fn full_size() {
     head("Call");
     let full = full_sheet(32);
-    let kept: Vec<u32> = full.tasks.iter().map(|t| t.j / 4).collect();
-    line("verdict of task 31 of 32", &time_verdict(&full, &kept, 31));
+    let full_kept: Vec<u32> = full.tasks.iter().map(|t| t.j / 4).collect();
+    line("verdict of task 31 of 32", &time_verdict(&full, &full_kept, 31));
     let (sheet, kept) = long_walk();
     line("verdict of task 31 of 32, many q", &time_verdict(&sheet, &kept, 31));
     line("choice of 32 tasks", &time_choice(&full));
+    let with_charge = charged(&full);
+    line("verdict of task 31 of 32, with a charge", &time_verdict(&with_charge, &full_kept, 31));
+    line("choice of 32 tasks, with a charge", &time_choice(&with_charge));
     line("trace check of 1,024 releases", &time_trace(&legal_list_of(1024)));
     let list = list_of(1024);
     line("ready ticks of 1,024 releases", &time_ready(&list));
     line("run of 1,024 releases", &time_run(&list));
     line("jumping run of 1,024 releases", &time_jump(&list));
+    let with_charge = charged_list(list_of(1024));
+    line("run of 1,024 releases, with a charge", &time_run(&with_charge));
+    line("jumping run of 1,024 releases, with a charge", &time_jump(&with_charge));
     let dense = dense_list_of(1024);
     line("run of 1,024 releases, a stop in every tick", &time_run(&dense));
     line("jumping run of 1,024 releases, a stop in every tick", &time_jump(&dense));
@@ -423,6 +447,9 @@ fn full_size() {
     let long = long_list_of(1024);
     line("read of 14,881 bytes", &time_read(&long));
     line("write of 14,881 bytes", &time_write(&long));
+    let with_charge = charged_list(long);
+    line("read of 14,883 bytes, with a charge", &time_read(&with_charge));
+    line("write of 14,883 bytes, with a charge", &time_write(&with_charge));
     line("load of a text of 1,024 bytes", &time_load(&longest_text()));
     line("load of one line of 1,000,000 digits", &time_load(&long_number()));
 }

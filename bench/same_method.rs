@@ -18,17 +18,29 @@ fn in_range(t: &Task) -> bool {
     t.p >= 1 && t.p <= MAX_TIME && t.j <= MAX_TIME && t.e >= 1 && t.e <= t.p && t.e <= t.d && t.d <= MAX_TIME
 }
 
-fn check_sheet(tasks: &[Task]) -> Checked {
+/// What is wrong with a task: 6, or 17 where its cost and the charge are over P or D.
+#[inline(always)]
+fn task_fault(t: &Task, charge: u8) -> Option<u32> {
+    if !in_range(t) {
+        return Some(6);
+    }
+    let work = t.e + charge as u32;
+    if work > t.p || work > t.d { Some(17) } else { None }
+}
+
+fn check_sheet(tasks: &[Task], charge: u8) -> Checked {
     if tasks.is_empty() {
         return refuse(5, 0);
     }
     if tasks.len() > MAX_TASKS {
         return refuse(4, MAX_TASKS);
     }
-    match tasks.iter().position(|t| !in_range(t)) {
-        Some(i) => refuse(6, i),
-        None => Ok(()),
+    for (i, t) in tasks.iter().enumerate() {
+        if let Some(number) = task_fault(t, charge) {
+            return refuse(number, i);
+        }
     }
+    Ok(())
 }
 
 fn check_slots(slots: usize, needed: usize) -> Checked {
@@ -82,16 +94,16 @@ fn check_list(tasks: &[Task], n: usize, list: Columns) -> Checked {
 
 // ---- Verdict and choice ------------------------------------------------------------------------------------------------
 
-/// Loads and periods of the tasks above, in flat columns.
+/// Loads, which are costs and the charge, and periods of the tasks above, in flat columns.
 struct Flat {
     loads: [u32; 32],
     periods: [u32; 32],
 }
 
-fn flat(tasks: &[Task]) -> Flat {
+fn flat(tasks: &[Task], charge: u8) -> Flat {
     let mut f = Flat { loads: [0; 32], periods: [0; 32] };
     for (i, t) in tasks.iter().enumerate() {
-        f.loads[i] = t.e;
+        f.loads[i] = t.e + charge as u32;
         f.periods[i] = t.p;
     }
     f
@@ -122,21 +134,21 @@ fn window(f: &Flat, kept: &[u32], n: usize, own: u64, from: u64) -> Option<u64> 
 }
 
 /// Kind, q and R, as the archive answers.
-pub fn verdict(tasks: &[Task], task: usize, kept: &[u32]) -> Result<[u64; 3], Refusal> {
-    check_sheet(tasks)?;
+pub fn verdict(tasks: &[Task], charge: u8, task: usize, kept: &[u32]) -> Result<[u64; 3], Refusal> {
+    check_sheet(tasks, charge)?;
     if task >= tasks.len() {
         return refuse(14, task);
     }
     check_slots(kept.len(), tasks.len())?;
     check_kept(tasks, kept)?;
-    let f = flat(tasks);
+    let f = flat(tasks, charge);
     let t = tasks[task];
     let (p, j, d, k) = (t.p as i64, t.j as i64, t.d as i64, kept[task] as i64);
     let once: u64 = f.loads[..task].iter().map(|&e| e as u64).sum();
     let (mut worst, mut first) = (0i64, 0i64);
     let mut q = 0i64;
     loop {
-        let own = (q as u64 + 1) * t.e as u64;
+        let own = (q as u64 + 1) * f.loads[task] as u64;
         let Some(w) = window(&f, kept, task, own, own + once) else {
             return Ok([0, q as u64, 0]);
         };
@@ -160,7 +172,7 @@ fn least_keep(f: &Flat, kept: &[u32], i: usize, t: &Task) -> Option<(u32, u32)> 
     let (p, j, d) = (t.p as u64, t.j as u64, t.d as u64);
     let (mut q, mut high, mut from) = (0u64, 0u64, 1u64);
     loop {
-        let w = window(f, kept, i, (q + 1) * t.e as u64, from)?;
+        let w = window(f, kept, i, (q + 1) * f.loads[i] as u64, from)?;
         let picked = w + PICKUP;
         let base = q * p;
         if d + base.saturating_sub(j) < picked {
@@ -176,11 +188,11 @@ fn least_keep(f: &Flat, kept: &[u32], i: usize, t: &Task) -> Option<(u32, u32)> 
     }
 }
 
-pub fn choice(tasks: &[Task], kept: &mut [u32], worst: &mut [u32]) -> Checked {
-    check_sheet(tasks)?;
+pub fn choice(tasks: &[Task], charge: u8, kept: &mut [u32], worst: &mut [u32]) -> Checked {
+    check_sheet(tasks, charge)?;
     check_slots(kept.len(), tasks.len())?;
     check_slots(worst.len(), tasks.len())?;
-    let f = flat(tasks);
+    let f = flat(tasks, charge);
     let (mut keeps, mut worsts) = ([0u32; 32], [0u32; 32]);
     for (i, t) in tasks.iter().enumerate() {
         match least_keep(&f, &keeps, i, t) {
@@ -198,8 +210,8 @@ pub fn choice(tasks: &[Task], kept: &mut [u32], worst: &mut [u32]) -> Checked {
 
 // ---- Ready ticks and run -----------------------------------------------------------------------------------------------
 
-fn check_call(tasks: &[Task], kept: &[u32], n: usize, list: Columns, slots: usize) -> Checked {
-    check_sheet(tasks)?;
+fn check_call(tasks: &[Task], charge: u8, kept: &[u32], n: usize, list: Columns, slots: usize) -> Checked {
+    check_sheet(tasks, charge)?;
     if n > MAX_RELEASES {
         return refuse(10, MAX_RELEASES);
     }
@@ -221,15 +233,15 @@ fn fill_ready(tasks: &[Task], kept: &[u32], n: usize, list: Columns, ready: &mut
     }
 }
 
-pub fn ready(tasks: &[Task], kept: &[u32], n: usize, list: Columns, ready: &mut [u64]) -> Checked {
-    check_call(tasks, kept, n, list, ready.len())?;
+pub fn ready(tasks: &[Task], charge: u8, kept: &[u32], n: usize, list: Columns, ready: &mut [u64]) -> Checked {
+    check_call(tasks, charge, kept, n, list, ready.len())?;
     fill_ready(tasks, kept, n, list, ready);
     Ok(())
 }
 
 /// The first release that the shapers with the full jitters would move, if any.
-pub fn trace_check(tasks: &[Task], n: usize, list: Columns) -> Result<Option<usize>, Refusal> {
-    check_sheet(tasks)?;
+pub fn trace_check(tasks: &[Task], charge: u8, n: usize, list: Columns) -> Result<Option<usize>, Refusal> {
+    check_sheet(tasks, charge)?;
     if n > MAX_RELEASES {
         return refuse(10, MAX_RELEASES);
     }
@@ -252,10 +264,12 @@ fn next_of(task: &[u32], n: usize, i: u32, from: usize) -> usize {
     (from..n).find(|&p| task[p] == i).unwrap_or(n)
 }
 
-pub fn run(tasks: &[Task], kept: &[u32], n: usize, list: Columns, ready: &mut [u64], finish: &mut [u64]) -> Checked {
-    check_call(tasks, kept, n, list, ready.len().min(finish.len()))?;
+pub fn run(
+    tasks: &[Task], charge: u8, kept: &[u32], n: usize, list: Columns, ready: &mut [u64], finish: &mut [u64],
+) -> Checked {
+    check_call(tasks, charge, kept, n, list, ready.len().min(finish.len()))?;
     fill_ready(tasks, kept, n, list, ready);
-    let work_of = |p: usize| if p < n { list.cost[p] } else { 0 };
+    let work_of = |p: usize| if p < n { list.cost[p] + charge as u32 } else { 0 };
     let (mut head, mut left) = ([n; 32], [0u32; 32]);
     for i in 0..tasks.len() {
         head[i] = next_of(list.task, n, i as u32, 0);
@@ -292,11 +306,13 @@ const NEVER: u64 = u64::MAX;
 
 /// The run that jumps; returns its stops. Of each task: the oldest unfinished job with its start and the work that is left of it, and
 /// the first job whose start is to come with that start. `wake` is the least of the starts to come.
-pub fn jump(tasks: &[Task], kept: &[u32], n: usize, list: Columns, ready: &mut [u64], finish: &mut [u64]) -> Result<u64, Refusal> {
-    check_call(tasks, kept, n, list, ready.len().min(finish.len()))?;
+pub fn jump(
+    tasks: &[Task], charge: u8, kept: &[u32], n: usize, list: Columns, ready: &mut [u64], finish: &mut [u64],
+) -> Result<u64, Refusal> {
+    check_call(tasks, charge, kept, n, list, ready.len().min(finish.len()))?;
     fill_ready(tasks, kept, n, list, ready);
     let start_of = |p: usize, ready: &[u64]| if p < n { ready[p] + PICKUP } else { NEVER };
-    let work_of = |p: usize| if p < n { list.cost[p] } else { 0 };
+    let work_of = |p: usize| if p < n { list.cost[p] + charge as u32 } else { 0 };
     let (mut head, mut since, mut left) = ([n; 32], [NEVER; 32], [0u32; 32]);
     for i in 0..tasks.len() {
         head[i] = next_of(list.task, n, i as u32, 0);
@@ -346,20 +362,25 @@ pub fn jump(tasks: &[Task], kept: &[u32], n: usize, list: Columns, ready: &mut [
 
 // ---- Files -------------------------------------------------------------------------------------------------------------
 
-/// Bytes of a release of kind 2 and of kind 4.
+/// Bytes of a charge, and of a release of kind 2 and of kind 4.
+const CHARGE: usize = 2;
 const SHORT: usize = 10;
 const LONG: usize = 14;
 
-pub fn write(tasks: &[Task], n: usize, list: Columns, out: &mut [u8]) -> Result<usize, Refusal> {
-    check_sheet(tasks)?;
+pub fn write(tasks: &[Task], charge: u8, n: usize, list: Columns, out: &mut [u8]) -> Result<usize, Refusal> {
+    check_sheet(tasks, charge)?;
     if n > MAX_RELEASES {
         return refuse(10, MAX_RELEASES);
     }
     check_columns(n, list)?;
-    let size = 17 * tasks.len() + list.tick[..n].iter().map(|&t| if t <= MAX_SHORT_TICK { SHORT } else { LONG }).sum::<usize>() + 1;
+    let mut at = if charge > 0 { CHARGE } else { 0 };
+    let list_size = list.tick[..n].iter().map(|&t| if t <= MAX_SHORT_TICK { SHORT } else { LONG }).sum::<usize>();
+    let size = at + 17 * tasks.len() + list_size + 1;
     check_slots(out.len(), size)?;
     check_list(tasks, n, list)?;
-    let mut at = 0;
+    if charge > 0 {
+        (out[0], out[1]) = (5, charge);
+    }
     for t in tasks {
         out[at] = 1;
         for (k, x) in [t.p, t.j, t.e, t.d].iter().enumerate() {
@@ -386,8 +407,9 @@ pub fn write(tasks: &[Task], n: usize, list: Columns, out: &mut [u8]) -> Result<
     Ok(size)
 }
 
-/// What a first pass over a file finds: its tasks, how many they are, and the number of its releases.
+/// What a first pass over a file finds: its charge, its tasks, how many they are, and the number of its releases.
 struct Scanned {
+    charge: u8,
     tasks: [Task; 32],
     count: usize,
     releases: usize,
@@ -412,6 +434,7 @@ fn record_at(file: &[u8], at: usize) -> Result<(u8, usize), Refusal> {
         2 => SHORT,
         3 => 1,
         4 => LONG,
+        5 => CHARGE,
         _ => return refuse(1, at),
     };
     if file.len() - at < size {
@@ -437,7 +460,7 @@ fn long_at(file: &[u8], at: usize) -> (u32, u64, u32) {
 /// Checks a whole file, record by record.
 fn scan(file: &[u8]) -> Result<Scanned, Refusal> {
     let mut tasks = [Task { p: 0, j: 0, e: 0, d: 0 }; 32];
-    let (mut count, mut releases, mut at, mut before) = (0, 0, 0, 0);
+    let (mut charge, mut count, mut releases, mut at, mut before) = (0, 0, 0, 0, 0);
     loop {
         let (kind, size) = record_at(file, at)?;
         match kind {
@@ -449,8 +472,8 @@ fn scan(file: &[u8]) -> Result<Scanned, Refusal> {
                 if count == MAX_TASKS {
                     return refuse(4, at);
                 }
-                if !in_range(&t) {
-                    return refuse(6, at);
+                if let Some(number) = task_fault(&t, charge) {
+                    return refuse(number, at);
                 }
                 tasks[count] = t;
                 count += 1;
@@ -471,6 +494,15 @@ fn scan(file: &[u8]) -> Result<Scanned, Refusal> {
                 before = tick;
                 releases += 1;
             }
+            5 => {
+                if charge > 0 || count > 0 {
+                    return refuse(3, at);
+                }
+                charge = file[at + 1];
+                if charge == 0 {
+                    return refuse(6, at);
+                }
+            }
             _ => {
                 if count == 0 {
                     return refuse(5, at);
@@ -478,18 +510,18 @@ fn scan(file: &[u8]) -> Result<Scanned, Refusal> {
                 if file.len() > at + 1 {
                     return refuse(11, at + 1);
                 }
-                return Ok(Scanned { tasks, count, releases });
+                return Ok(Scanned { charge, tasks, count, releases });
             }
         }
         at += size;
     }
 }
 
-/// Reads a file: the sheet and three columns; the counts of tasks and releases. A second pass decodes the releases, whose kinds give
-/// the offset of the next.
+/// Reads a file: the sheet and three columns; the counts of tasks and releases, and the charge. A second pass decodes the releases,
+/// whose kinds give the offset of the next.
 pub fn read(
     file: &[u8], sheet: &mut [Task; 32], task: &mut [u32], tick: &mut [u64], cost: &mut [u32],
-) -> Result<(usize, usize), Refusal> {
+) -> Result<(usize, usize, u8), Refusal> {
     let s = scan(file)?;
     let n = s.releases;
     for slots in [task.len(), tick.len(), cost.len()] {
@@ -497,7 +529,7 @@ pub fn read(
     }
     *sheet = s.tasks;
     let (task, tick, cost) = (&mut task[..n], &mut tick[..n], &mut cost[..n]);
-    let mut at = 17 * s.count;
+    let mut at = if s.charge > 0 { CHARGE } else { 0 } + 17 * s.count;
     for p in 0..n {
         if file[at] == 2 {
             (task[p], tick[p], cost[p]) = short_at(file, at);
@@ -507,7 +539,7 @@ pub fn read(
             at += LONG;
         }
     }
-    Ok((s.count, n))
+    Ok((s.count, n, s.charge))
 }
 
 // ---- Texts -------------------------------------------------------------------------------------------------------------

@@ -23,40 +23,49 @@
  *   priority. sheet_length is the number of uint32_t, normally 4 * count. Numbers past the end count as 0, and nothing past
  *   task 31 is read. count: how many tasks the sheet has, 1 to 32.
  *   P (period) and D (deadline) are 1 to 1000000, J (jitter) is 0 to 1000000, E (cost) is 1 to the smaller of P and D.
+ *   charge: the ticks S, 0 to 255, that each job takes besides its cost, for the switch to it; 0 for none. E + S is at most the
+ *   smaller of P and D of each task. Verdicts and choices use E + S in place of E, and in a run each job takes its cost plus S.
+ *   A charge over 255 is not refused: charge is a uint8_t, and C cuts a larger number to its low byte, 256 to 0. A caller whose
+ *   charge may be larger must check it before the call.
  *
  * KEPT JITTERS
  *   kept, kept_length: one K for each task of the sheet, 0 <= K <= J; a call looks at all of them.
  *
  * RELEASES
  *   n releases, at most 1024, in three arrays of at least n slots each, each with its own length: task (its number), tick
- *   (0 to 1000000000000000, never falling along the list) and cost (1 to the task's E). Release, ready and finish ticks have 64
- *   bits, the other numbers of a list 32.
+ *   (0 to 1000000000000000, never falling along the list) and cost (1 to the task's E, without the charge). Release, ready and
+ *   finish ticks have 64 bits, the other numbers of a list 32.
  *
  * FILE
- *   Records, numbers little-endian: tasks first, then releases with ticks that never fall, then one end record, then nothing.
- *   Kind 1, task: P, J, E, D, four bytes each (17 bytes with the kind). Kind 2, release with a tick up to 1000000000: task number,
- *   one byte; tick, four; cost, four (10 bytes). Kind 4, release with a later tick: task number, one byte; tick, eight; cost, four
- *   (14 bytes). Kind 3, end: no body.
+ *   Records, numbers little-endian: a charge first, where there is one, then tasks, then releases with ticks that never fall, then
+ *   one end record, then nothing.
+ *   Kind 5, charge: S, 1 to 255, one byte (2 bytes with the kind). A file without this record has the charge 0. Kind 1, task: P, J,
+ *   E, D, four bytes each (17 bytes). Kind 2, release with a tick up to 1000000000: task number, one byte; tick, four; cost, four
+ *   (10 bytes). Kind 4, release with a later tick: task number, one byte; tick, eight; cost, four (14 bytes). Kind 3, end: no body.
  *
  * PROCESSOR
  *   In each tick the highest-priority task's oldest job runs, of the jobs that were ready before that tick and are unfinished: the
- *   kernel looks at the ready list at tick ends only, so a job may run from the tick after its ready tick (NOLKRADA_PICKUP).
- *   Verdicts, choices and runs are about that processor. R(q) = W(q) + 1 + max(x - K, min(0, x)) with x = J - q * P.
+ *   kernel looks at the ready list at tick ends only, so a job may run from the tick after its ready tick (NOLKRADA_PICKUP). A job is
+ *   finished when it has run for its cost plus the charge; the charge is taken once for each job, however often it is interrupted.
+ *   Verdicts, choices and runs are about that processor. W(q) is the least t >= 1 with (q + 1) * (E + S) + (the sum over the tasks
+ *   above of (E + S) * arrival count in t ticks) <= t, and R(q) = W(q) + 1 + max(x - K, min(0, x)) with x = J - q * P.
  *
  * TEXT
  *   A sheet as text: a line P,J,E,D for each task, task 0 first, in decimal digits without signs, blanks or leading zeros (0 itself
- *   is allowed), each line, the last one too, ended by a line feed (byte 10; a carriage return before it is not allowed).
+ *   is allowed), each line, the last one too, ended by a line feed (byte 10; a carriage return before it is not allowed). A text has
+ *   no charge.
  *
  * EVERY LENGTH counts elements, not bytes. An array of length 0 may be any non-null, aligned pointer. Arrays that a call
  * writes must not overlap each other or an array that it reads.
  *
  * REFUSALS (number: condition, place)
- *    1  read: kind byte not 1, 2, 3 or 4; offset of the kind byte
+ *    1  read: kind byte not 1, 2, 3, 4 or 5; offset of the kind byte
  *    2  read: the file ends inside a record, or where a kind is due; offset of that kind
- *    3  read: task after a release; offset of the record
+ *    3  read: task after a release; a second charge, or one after a task or a release; offset of the record
  *    4  over 32 tasks; 32 (read: offset; load: the line)
  *    5  no task: count 0; 0 (read: release or end before any task; offset. load: an empty text; 0)
- *    6  P, J, E or D outside its range; the task (read: offset; load: the line, however long a number is)
+ *    6  P, J, E or D outside its range; the task (read: offset; also a charge of 0 in kind 5. load: the line, however long a number
+ *       is)
  *    7  release of a task that is not in the sheet; the release (read: offset)
  *    8  tick below the one before, or over 1000000000000000; the release (read: offset; also a tick over 1000000000 in kind 2, and
  *       one up to 1000000000 in kind 4)
@@ -68,11 +77,12 @@
  *   14  there is no such task; the number given
  *   15  choice: no K fits; the first such task
  *   16  load: a line that is not P,J,E,D and a line feed; the line
+ *   17  E + S is over P or over D; the task (read: offset of the task's record)
  * A line is its number in the text, from 0.
- * A call checks, in this order: the sheet (5, 4, then 6 by task), 14, 10, 13 (arrays by task, then by release, then bytes, then
- * `answer`), 12, the releases in order (7, 8, 9), 15. A read checks the whole file, record by record and the lower number first,
- * and then 13 (`sheet`, then task, tick and cost, then `answer`). A load checks the whole text, line by line: 16, then 4, then 6
- * on a line, 5 where there is none; and then 13 (`sheet`, then `answer`).
+ * A call checks, in this order: the sheet (5, 4, then 6 and 17 of task 0, 6 and 17 of task 1, and so on), 14, 10, 13 (arrays by
+ * task, then by release, then bytes, then `answer`), 12, the releases in order (7, 8, 9), 15. A read checks the whole file, record
+ * by record and the lower number first, and then 13 (`sheet`, then task, tick and cost, then `answer`). A load checks the whole text,
+ * line by line: 16, then 4, then 6 on a line, 5 where there is none; and then 13 (`sheet`, then `answer`).
  */
 #ifndef NOLKRADA_H
 #define NOLKRADA_H
@@ -86,35 +96,37 @@ extern "C" {
 
 /* The version of this interface. The archive has no symbol for it: take header and archive of one build. */
 #define NOLKRADA_VERSION_MAJOR 0
-#define NOLKRADA_VERSION_MINOR 5
+#define NOLKRADA_VERSION_MINOR 6
 #define NOLKRADA_VERSION_PATCH 0
-#define NOLKRADA_VERSION "0.5.0"
+#define NOLKRADA_VERSION "0.6.0"
 
 /* Tasks of a sheet, numbers of a sheet that is read or loaded (P, J, E, D of 32 tasks), releases of a list. */
 #define NOLKRADA_MAX_TASKS 32
 #define NOLKRADA_SHEET_NUMBERS 128
 #define NOLKRADA_MAX_RELEASES 1024
+/* The largest charge. */
+#define NOLKRADA_MAX_CHARGE 255
 /* The last tick of a release, and the last of one that is written as kind 2; later ones are written as kind 4. */
 #define NOLKRADA_MAX_TICK UINT64_C(1000000000000000)
 #define NOLKRADA_MAX_SHORT_TICK UINT64_C(1000000000)
-/* The largest finish: 1024 jobs of cost 1000000 released at the last tick. */
+/* The largest finish: 1024 jobs, whose cost and charge are 1000000 together, released at the last tick. */
 #define NOLKRADA_MAX_FINISH UINT64_C(1000001024000001)
 /* Ticks from a job's ready tick to the first in which it may run. */
 #define NOLKRADA_PICKUP 1
 /* The most stops of a run that jumps: a ready tick plus 1 and a finish for each release. */
 #define NOLKRADA_MAX_STOPS 2048
-/* Bytes of the largest file: 17 for each task, 14 for each release with a tick over NOLKRADA_MAX_SHORT_TICK, 1 for the end.
- * nolkrada_write writes no more. */
-#define NOLKRADA_MAX_FILE 14881
+/* Bytes of the largest file: 2 for a charge, 17 for each task, 14 for each release with a tick over NOLKRADA_MAX_SHORT_TICK, 1 for
+ * the end. nolkrada_write writes no more. */
+#define NOLKRADA_MAX_FILE 14883
 /* Bytes that decide a read: none past these changes what it answers. Make a buffer that is filled from an input this long: one of
  * NOLKRADA_MAX_FILE bytes may hold a whole file and miss the byte that follows it, which is refusal 11. */
-#define NOLKRADA_READ_BYTES 14897
+#define NOLKRADA_READ_BYTES 14899
 /* Bytes of the longest text that is accepted: 32 lines of four numbers of 7 digits, three commas and a line feed. A longer text is
  * refused; what its refusal is may depend on every byte. Make a buffer that is filled from an input one byte longer: the first
  * NOLKRADA_MAX_TEXT bytes of a longer text may be accepted, the first NOLKRADA_MAX_TEXT + 1 never are. */
 #define NOLKRADA_MAX_TEXT 1024
 
-/* The numbers of the refusals. */
+/* The numbers of the refusals. NOLKRADA_REFUSED_TASK_AFTER_RELEASE is also that of a charge that is not the first record. */
 enum {
     NOLKRADA_REFUSED_KIND = 1,
     NOLKRADA_REFUSED_CUT = 2,
@@ -131,16 +143,17 @@ enum {
     NOLKRADA_REFUSED_SHORT_ARRAY = 13,
     NOLKRADA_REFUSED_NO_SUCH_TASK = 14,
     NOLKRADA_REFUSED_UNFIT = 15,
-    NOLKRADA_REFUSED_LINE = 16
+    NOLKRADA_REFUSED_LINE = 16,
+    NOLKRADA_REFUSED_CHARGE = 17
 };
 
 /* The number and the place of a refusal. */
 static inline uint32_t nolkrada_number(uint64_t code) { return (uint32_t)(code >> 32); }
 static inline uint32_t nolkrada_place(uint64_t code) { return (uint32_t)code; }
 
-/* Arrival count of a task in t ticks: 0 for t = 0, else ceil((t + K) / P).
- * answer: 1 slot, the count.                                                                         Refuses 5 4 6 14 13 12. */
-uint64_t nolkrada_arrival_count(const uint32_t *sheet, size_t sheet_length, uint32_t count, uint32_t task,
+/* Arrival count of a task in t ticks: 0 for t = 0, else ceil((t + K) / P). The charge is checked and changes no count.
+ * answer: 1 slot, the count.                                                                      Refuses 5 4 6 17 14 13 12. */
+uint64_t nolkrada_arrival_count(const uint32_t *sheet, size_t sheet_length, uint32_t count, uint8_t charge, uint32_t task,
                                 const uint32_t *kept, size_t kept_length, uint32_t t, uint64_t *answer, size_t answer_length);
 
 enum { NOLKRADA_HORIZON = 0, NOLKRADA_LATE = 1, NOLKRADA_FITS = 2 };
@@ -149,62 +162,65 @@ enum { NOLKRADA_HORIZON = 0, NOLKRADA_LATE = 1, NOLKRADA_FITS = 2 };
  * answer: 3 slots. NOLKRADA_HORIZON, q, 0: no W(q) up to 10000000 ticks, and nothing is claimed. NOLKRADA_LATE, q, R(q): some legal
  * list of releases makes a job of the task late. NOLKRADA_FITS, q, R: no job of the task is late in any list in which its own
  * releases keep its jitter, whatever the other tasks release; R is the largest response bound met and q the first that had it.
- *                                                                                                   Refuses 5 4 6 14 13 12. */
-uint64_t nolkrada_verdict(const uint32_t *sheet, size_t sheet_length, uint32_t count, uint32_t task, const uint32_t *kept,
-                          size_t kept_length, uint64_t *answer, size_t answer_length);
+ *                                                                                                Refuses 5 4 6 17 14 13 12. */
+uint64_t nolkrada_verdict(const uint32_t *sheet, size_t sheet_length, uint32_t count, uint8_t charge, uint32_t task,
+                          const uint32_t *kept, size_t kept_length, uint64_t *answer, size_t answer_length);
 
 /* Choice: from task 0 down the least K at which the verdict is "fits", given the choices above.
- * kept, worst: `count` slots each, written: the kept jitters and the largest response bounds.             Refuses 5 4 6 13 15. */
-uint64_t nolkrada_choice(const uint32_t *sheet, size_t sheet_length, uint32_t count, uint32_t *kept, size_t kept_length,
-                         uint32_t *worst, size_t worst_length);
+ * kept, worst: `count` slots each, written: the kept jitters and the largest response bounds.          Refuses 5 4 6 17 13 15. */
+uint64_t nolkrada_choice(const uint32_t *sheet, size_t sheet_length, uint32_t count, uint8_t charge, uint32_t *kept,
+                         size_t kept_length, uint32_t *worst, size_t worst_length);
 
-/* Trace check: whether the releases keep the jitters of their tasks.
+/* Trace check: whether the releases keep the jitters of their tasks. The charge is checked and changes no answer.
  * answer: 2 slots. 0, 0: they do. 1, p: release p is the first that is too close to an earlier one of its task.
- *                                                                                             Refuses 5 4 6 10 13 7 8 9. */
-uint64_t nolkrada_trace_check(const uint32_t *sheet, size_t sheet_length, uint32_t count, uint32_t n, const uint32_t *task,
-                              size_t task_length, const uint64_t *tick, size_t tick_length, const uint32_t *cost,
-                              size_t cost_length, uint64_t *answer, size_t answer_length);
+ *                                                                                          Refuses 5 4 6 17 10 13 7 8 9. */
+uint64_t nolkrada_trace_check(const uint32_t *sheet, size_t sheet_length, uint32_t count, uint8_t charge, uint32_t n,
+                              const uint32_t *task, size_t task_length, const uint64_t *tick, size_t tick_length,
+                              const uint32_t *cost, size_t cost_length, uint64_t *answer, size_t answer_length);
 
-/* Ready ticks: when the shapers let each job through.
- * ready: n slots, written.                                                                Refuses 5 4 6 10 13 12 7 8 9. */
-uint64_t nolkrada_ready(const uint32_t *sheet, size_t sheet_length, uint32_t count, const uint32_t *kept, size_t kept_length,
-                        uint32_t n, const uint32_t *task, size_t task_length, const uint64_t *tick, size_t tick_length,
-                        const uint32_t *cost, size_t cost_length, uint64_t *ready, size_t ready_length);
+/* Ready ticks: when the shapers let each job through. The charge is checked and changes no ready tick.
+ * ready: n slots, written.                                                             Refuses 5 4 6 17 10 13 12 7 8 9. */
+uint64_t nolkrada_ready(const uint32_t *sheet, size_t sheet_length, uint32_t count, uint8_t charge, const uint32_t *kept,
+                        size_t kept_length, uint32_t n, const uint32_t *task, size_t task_length, const uint64_t *tick,
+                        size_t tick_length, const uint32_t *cost, size_t cost_length, uint64_t *ready, size_t ready_length);
 
-/* Run: ready and finish tick of each job, from tick 0 with no earlier job. Finish is the last tick in which the job ran, plus 1;
- * response is finish - tick. No finish is over NOLKRADA_MAX_FINISH. The time grows with the last finish: see above.
- * ready, finish: n slots each, written.                                                   Refuses 5 4 6 10 13 12 7 8 9. */
-uint64_t nolkrada_run(const uint32_t *sheet, size_t sheet_length, uint32_t count, const uint32_t *kept, size_t kept_length,
-                      uint32_t n, const uint32_t *task, size_t task_length, const uint64_t *tick, size_t tick_length,
-                      const uint32_t *cost, size_t cost_length, uint64_t *ready, size_t ready_length, uint64_t *finish,
-                      size_t finish_length);
+/* Run: ready and finish tick of each job, from tick 0 with no earlier job. A job takes its cost plus the charge. Finish is the last
+ * tick in which the job ran, plus 1; response is finish - tick. No finish is over NOLKRADA_MAX_FINISH. The time grows with the last
+ * finish: see above.
+ * ready, finish: n slots each, written.                                                Refuses 5 4 6 17 10 13 12 7 8 9. */
+uint64_t nolkrada_run(const uint32_t *sheet, size_t sheet_length, uint32_t count, uint8_t charge, const uint32_t *kept,
+                      size_t kept_length, uint32_t n, const uint32_t *task, size_t task_length, const uint64_t *tick,
+                      size_t tick_length, const uint32_t *cost, size_t cost_length, uint64_t *ready, size_t ready_length,
+                      uint64_t *finish, size_t finish_length);
 
 /* Run that jumps: the ready and finish ticks of nolkrada_run for every sheet and list and, where answer has its slot, its refusals.
  * It goes from one tick that is a ready tick plus 1 or a finish to the next, so its time grows with releases and tasks and not with
  * the ticks.
  * ready, finish: n slots each, written. answer: 1 slot, the stops: how many different ticks are a ready tick plus 1 or a finish,
- * 0 without a release, at most NOLKRADA_MAX_STOPS.                                        Refuses 5 4 6 10 13 12 7 8 9. */
-uint64_t nolkrada_jump(const uint32_t *sheet, size_t sheet_length, uint32_t count, const uint32_t *kept, size_t kept_length,
-                       uint32_t n, const uint32_t *task, size_t task_length, const uint64_t *tick, size_t tick_length,
-                       const uint32_t *cost, size_t cost_length, uint64_t *ready, size_t ready_length, uint64_t *finish,
-                       size_t finish_length, uint64_t *answer, size_t answer_length);
+ * 0 without a release, at most NOLKRADA_MAX_STOPS.                                     Refuses 5 4 6 17 10 13 12 7 8 9. */
+uint64_t nolkrada_jump(const uint32_t *sheet, size_t sheet_length, uint32_t count, uint8_t charge, const uint32_t *kept,
+                       size_t kept_length, uint32_t n, const uint32_t *task, size_t task_length, const uint64_t *tick,
+                       size_t tick_length, const uint32_t *cost, size_t cost_length, uint64_t *ready, size_t ready_length,
+                       uint64_t *finish, size_t finish_length, uint64_t *answer, size_t answer_length);
 
 /* Read a file. Lend it whole, or its first NOLKRADA_READ_BYTES bytes.
  * sheet: NOLKRADA_SHEET_NUMBERS slots, all written; entries past the count are 0. task, tick, cost: a slot for each release,
  * written: NOLKRADA_MAX_RELEASES slots take any file.
- * answer: 2 slots, the tasks and the releases of the file.                                           Refuses 1 to 11, 13. */
+ * answer: 3 slots, the tasks, the releases and the charge of the file; the charge is 0 where the file has none.
+ *                                                                                                 Refuses 1 to 11, 13, 17. */
 uint64_t nolkrada_read(const uint8_t *file, size_t file_length, uint32_t *sheet, size_t sheet_length, uint32_t *task,
                        size_t task_length, uint64_t *tick, size_t tick_length, uint32_t *cost, size_t cost_length,
                        uint64_t *answer, size_t answer_length);
 
-/* Write a file: 17 bytes for each task, 10 for each release with a tick up to NOLKRADA_MAX_SHORT_TICK and 14 for each other, 1 for
- * the end. 13 comes before 7, 8 and 9 and counts the bytes by the ticks as they are given, 14 for one over the limit too.
- * out: the bytes, written. answer: 1 slot, how many.                                             Refuses 5 4 6 10 13 7 8 9. */
-uint64_t nolkrada_write(const uint32_t *sheet, size_t sheet_length, uint32_t count, uint32_t n, const uint32_t *task,
-                        size_t task_length, const uint64_t *tick, size_t tick_length, const uint32_t *cost, size_t cost_length,
-                        uint8_t *out, size_t out_length, uint64_t *answer, size_t answer_length);
+/* Write a file: 2 bytes for a charge that is not 0, 17 for each task, 10 for each release with a tick up to NOLKRADA_MAX_SHORT_TICK
+ * and 14 for each other, 1 for the end. The charge is the first record. 13 comes before 7, 8 and 9 and counts the bytes by the ticks
+ * as they are given, 14 for one over the limit too.
+ * out: the bytes, written. answer: 1 slot, how many.                                          Refuses 5 4 6 17 10 13 7 8 9. */
+uint64_t nolkrada_write(const uint32_t *sheet, size_t sheet_length, uint32_t count, uint8_t charge, uint32_t n,
+                        const uint32_t *task, size_t task_length, const uint64_t *tick, size_t tick_length, const uint32_t *cost,
+                        size_t cost_length, uint8_t *out, size_t out_length, uint64_t *answer, size_t answer_length);
 
-/* Load a text. Lend it whole.
+/* Load a text, which has no charge. Lend it whole.
  * sheet: NOLKRADA_SHEET_NUMBERS slots, all written; entries past the count are 0.
  * answer: 1 slot, the tasks of the text.                                                                Refuses 16 4 6 5 13. */
 uint64_t nolkrada_load(const uint8_t *text, size_t text_length, uint32_t *sheet, size_t sheet_length, uint64_t *answer,

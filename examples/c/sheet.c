@@ -1,5 +1,6 @@
 /*
- * The sheet of examples/folder.sheet from C: choice, verdicts, arrival count, trace check, ready ticks, both runs, write, read and load.
+ * The sheet of examples/folder.sheet from C: choice, verdicts, arrival count, trace check, ready ticks, both runs, a charge, write,
+ * read and load.
  * Build, after ./install:
  *   cc -O2 examples/c/sheet.c -lnolkrada -o sheet
  * or, without installing, after `rt staticlib nolkrada`:
@@ -17,6 +18,9 @@
 static const uint32_t sheet[] = {6, 5, 2, 6, 8, 7, 2, 8, 10, 0, 2, 11};
 #define TASKS 3
 
+/* The charge: ticks that each job takes besides its cost, for the switch to it. */
+#define NO_CHARGE 0
+
 /* Three releases: task 0 at tick 0, task 2 at tick 0, task 0 at tick 1, all of cost 2. */
 static const uint32_t task[] = {0, 2, 0};
 static const uint64_t tick[] = {0, 0, 1};
@@ -30,7 +34,7 @@ static int refused(const char *call, uint64_t code) {
 
 static int print_choice(uint32_t *kept) {
     uint32_t worst[TASKS];
-    if (refused("choice", nolkrada_choice(sheet, LENGTH(sheet), TASKS, kept, TASKS, worst, TASKS))) return 1;
+    if (refused("choice", nolkrada_choice(sheet, LENGTH(sheet), TASKS, NO_CHARGE, kept, TASKS, worst, TASKS))) return 1;
     printf("task keep worst\n");
     for (int i = 0; i < TASKS; i++) printf("%d %u %u\n", i, kept[i], worst[i]);
     return 0;
@@ -39,7 +43,7 @@ static int print_choice(uint32_t *kept) {
 static uint64_t print_verdict(const uint32_t *kept, uint32_t i) {
     static const char *const kinds[] = {[NOLKRADA_HORIZON] = "horizon", [NOLKRADA_LATE] = "late", [NOLKRADA_FITS] = "fits"};
     uint64_t answer[3];
-    const uint64_t code = nolkrada_verdict(sheet, LENGTH(sheet), TASKS, i, kept, TASKS, answer, 3);
+    const uint64_t code = nolkrada_verdict(sheet, LENGTH(sheet), TASKS, NO_CHARGE, i, kept, TASKS, answer, 3);
     if (!refused("verdict", code))
         printf("task %u with kept jitter %u: %s, q %" PRIu64 ", R %" PRIu64 "\n", i, kept[i], kinds[answer[0]], answer[1], answer[2]);
     return code;
@@ -48,15 +52,15 @@ static uint64_t print_verdict(const uint32_t *kept, uint32_t i) {
 static int print_run(const uint32_t *kept) {
     uint64_t ready[RELEASES], finish[RELEASES];
     uint64_t close[2];
-    if (refused("trace check", nolkrada_trace_check(sheet, LENGTH(sheet), TASKS, RELEASES, task, RELEASES, tick, RELEASES, cost,
-                                                    RELEASES, close, 2)))
+    if (refused("trace check", nolkrada_trace_check(sheet, LENGTH(sheet), TASKS, NO_CHARGE, RELEASES, task, RELEASES, tick, RELEASES,
+                                                    cost, RELEASES, close, 2)))
         return 1;
     printf("the releases are %s\n", close[0] == 0 ? "legal" : "too close");
-    if (refused("ready", nolkrada_ready(sheet, LENGTH(sheet), TASKS, kept, TASKS, RELEASES, task, RELEASES, tick, RELEASES, cost,
-                                        RELEASES, ready, RELEASES)))
+    if (refused("ready", nolkrada_ready(sheet, LENGTH(sheet), TASKS, NO_CHARGE, kept, TASKS, RELEASES, task, RELEASES, tick,
+                                        RELEASES, cost, RELEASES, ready, RELEASES)))
         return 1;
-    if (refused("run", nolkrada_run(sheet, LENGTH(sheet), TASKS, kept, TASKS, RELEASES, task, RELEASES, tick, RELEASES, cost,
-                                    RELEASES, ready, RELEASES, finish, RELEASES)))
+    if (refused("run", nolkrada_run(sheet, LENGTH(sheet), TASKS, NO_CHARGE, kept, TASKS, RELEASES, task, RELEASES, tick, RELEASES,
+                                    cost, RELEASES, ready, RELEASES, finish, RELEASES)))
         return 1;
     printf("job task release ready finish response\n");
     for (int p = 0; p < RELEASES; p++)
@@ -69,8 +73,8 @@ static int print_run(const uint32_t *kept) {
 static int print_jump(const uint32_t *kept) {
     uint64_t ready[RELEASES], finish[RELEASES];
     uint64_t stops[1];
-    if (refused("jump", nolkrada_jump(sheet, LENGTH(sheet), TASKS, kept, TASKS, RELEASES, task, RELEASES, tick, RELEASES, cost,
-                                      RELEASES, ready, RELEASES, finish, RELEASES, stops, 1)))
+    if (refused("jump", nolkrada_jump(sheet, LENGTH(sheet), TASKS, NO_CHARGE, kept, TASKS, RELEASES, task, RELEASES, tick, RELEASES,
+                                      cost, RELEASES, ready, RELEASES, finish, RELEASES, stops, 1)))
         return 1;
     printf("the last job finishes at %" PRIu64 "; the run that jumps made %" PRIu64 " stops\n", finish[RELEASES - 1], stops[0]);
     return 0;
@@ -81,28 +85,42 @@ static int print_months(const uint32_t *kept) {
     static const uint64_t later[] = {0, 0, UINT64_C(7776000000000)};
     uint64_t ready[RELEASES], finish[RELEASES];
     uint64_t stops[1];
-    if (refused("jump", nolkrada_jump(sheet, LENGTH(sheet), TASKS, kept, TASKS, RELEASES, task, RELEASES, later, RELEASES, cost,
-                                      RELEASES, ready, RELEASES, finish, RELEASES, stops, 1)))
+    if (refused("jump", nolkrada_jump(sheet, LENGTH(sheet), TASKS, NO_CHARGE, kept, TASKS, RELEASES, task, RELEASES, later, RELEASES,
+                                      cost, RELEASES, ready, RELEASES, finish, RELEASES, stops, 1)))
         return 1;
     printf("released at %" PRIu64 " it finishes at %" PRIu64 "\n", later[RELEASES - 1], finish[RELEASES - 1]);
     return 0;
 }
 
-static int print_file(void) {
+/* The same sheet and releases where each job takes one tick more for the switch to it: no kept jitter makes task 1 fit any more. */
+static int print_charge(const uint32_t *kept) {
+    uint32_t keep[TASKS], worst[TASKS];
+    uint64_t ready[RELEASES], finish[RELEASES];
+    uint64_t stops[1];
+    const uint64_t code = nolkrada_choice(sheet, LENGTH(sheet), TASKS, 1, keep, TASKS, worst, TASKS);
+    printf("with a charge of 1 the choice is refused %u at %u\n", nolkrada_number(code), nolkrada_place(code));
+    if (refused("jump", nolkrada_jump(sheet, LENGTH(sheet), TASKS, 1, kept, TASKS, RELEASES, task, RELEASES, tick, RELEASES, cost,
+                                      RELEASES, ready, RELEASES, finish, RELEASES, stops, 1)))
+        return 1;
+    printf("with a charge of 1 the jobs finish at %" PRIu64 ", %" PRIu64 " and %" PRIu64 "\n", finish[0], finish[1], finish[2]);
+    return nolkrada_number(code) != NOLKRADA_REFUSED_UNFIT;
+}
+
+static int print_file(uint8_t charge) {
     /* Buffers that hold whatever a file may hold. */
     static uint8_t file[NOLKRADA_READ_BYTES];
     static uint32_t again[NOLKRADA_SHEET_NUMBERS];
     static uint32_t tasks[NOLKRADA_MAX_RELEASES], costs[NOLKRADA_MAX_RELEASES];
     static uint64_t ticks[NOLKRADA_MAX_RELEASES];
-    uint64_t bytes[1], counts[2];
-    if (refused("write", nolkrada_write(sheet, LENGTH(sheet), TASKS, RELEASES, task, RELEASES, tick, RELEASES, cost, RELEASES,
+    uint64_t bytes[1], counts[3];
+    if (refused("write", nolkrada_write(sheet, LENGTH(sheet), TASKS, charge, RELEASES, task, RELEASES, tick, RELEASES, cost, RELEASES,
                                         file, sizeof file, bytes, 1)))
         return 1;
     if (refused("read", nolkrada_read(file, bytes[0], again, LENGTH(again), tasks, LENGTH(tasks), ticks, LENGTH(ticks), costs,
-                                      LENGTH(costs), counts, 2)))
+                                      LENGTH(costs), counts, 3)))
         return 1;
-    printf("%" PRIu64 " bytes, %" PRIu64 " tasks, %" PRIu64 " releases, %s\n", bytes[0], counts[0], counts[1],
-           memcmp(again, sheet, sizeof sheet) == 0 ? "the same sheet" : "another sheet");
+    printf("%" PRIu64 " bytes, %" PRIu64 " tasks, %" PRIu64 " releases, charge %" PRIu64 ", %s\n", bytes[0], counts[0], counts[1],
+           counts[2], memcmp(again, sheet, sizeof sheet) == 0 ? "the same sheet" : "another sheet");
     return 0;
 }
 
@@ -121,12 +139,15 @@ int main(void) {
     uint64_t arrivals[1];
     if (print_choice(kept)) return 1;
     if (print_verdict(kept, 1)) return 1;
-    if (refused("arrival count", nolkrada_arrival_count(sheet, LENGTH(sheet), TASKS, 0, kept, TASKS, 8, arrivals, 1))) return 1;
+    if (refused("arrival count", nolkrada_arrival_count(sheet, LENGTH(sheet), TASKS, NO_CHARGE, 0, kept, TASKS, 8, arrivals, 1)))
+        return 1;
     printf("task 0 arrives at most %" PRIu64 " times in 8 ticks\n", arrivals[0]);
     if (print_run(kept)) return 1;
     if (print_jump(kept)) return 1;
     if (print_months(kept)) return 1;
-    if (print_file()) return 1;
+    if (print_charge(kept)) return 1;
+    if (print_file(NO_CHARGE)) return 1;
+    if (print_file(1)) return 1;
     if (print_text()) return 1;
     /* One less than the choice. */
     kept[1] = 3;

@@ -8,6 +8,7 @@ mod reference;
 mod sums;
 
 use generator::*;
+use std::collections::BTreeSet;
 use reference::{add_release, Budget, Refusal, Release, Sheet, Task, Verdict};
 use reference::{MAX_RELEASES, MAX_SHORT_TICK, MAX_TICK, MAX_TIME};
 
@@ -67,6 +68,7 @@ fn around(r: &mut Random, needed: usize) -> usize {
 struct Case {
     numbers: Vec<u32>,
     count: u32,
+    charge: u8,
     kept: Vec<u32>,
     n: u32,
     task: Vec<u32>,
@@ -79,6 +81,7 @@ impl Case {
         Case {
             numbers: numbers_of(sheet),
             count: sheet.count as u32,
+            charge: sheet.charge,
             kept: kept_for(r, sheet),
             n: list.len() as u32,
             task: list.iter().map(|x| x.task).collect(),
@@ -89,7 +92,7 @@ impl Case {
 
     /// One thing about the case changed.
     fn damage(&mut self, r: &mut Random) {
-        match r.within(0, 12) {
+        match r.within(0, 13) {
             0 => self.count = r.of(&[0, 1, 31, 32, 33, 34, 64, u32::MAX]),
             1 => self.numbers.truncate(r.within(0, self.numbers.len() as u32) as usize),
             2 => {
@@ -107,6 +110,7 @@ impl Case {
             9 => self.tick.truncate(self.tick.len().saturating_sub(1)),
             10 => self.cost.truncate(self.cost.len().saturating_sub(1)),
             11 => self.numbers.push(r.bits() as u32),
+            12 => self.charge = if r.once_in(2) { r.of(&EDGE_CHARGES) } else { r.bits() as u8 },
             _ => {
                 self.task.push(r.bits() as u32);
                 self.tick.push(r.bits());
@@ -116,7 +120,7 @@ impl Case {
     }
 
     fn sheet(&self) -> Sheet {
-        sheet_of(&self.numbers, self.count)
+        sheet_of(&self.numbers, self.count, self.charge)
     }
     fn reference_list(&self) -> reference::Columns<'_> {
         reference::Columns { task: &self.task, tick: &self.tick, cost: &self.cost }
@@ -132,13 +136,13 @@ impl Case {
             return true;
         };
         let period = self.sheet().tasks.iter().map(|t| t.p as u64).max().unwrap_or(0);
-        let work: u64 = list.iter().map(|x| x.cost as u64).sum();
+        let work: u64 = list.iter().map(|x| x.cost as u64 + self.charge as u64).sum();
         list.last().map_or(0, |x| x.tick) + list.len() as u64 * period + 1 + work <= ticks
     }
     fn show(&self) -> String {
         format!(
-            "sheet {:?} count {} kept {:?} n {} task {:?} tick {:?} cost {:?}",
-            self.numbers, self.count, self.kept, self.n, self.task, self.tick, self.cost
+            "sheet {:?} count {} charge {} kept {:?} n {} task {:?} tick {:?} cost {:?}",
+            self.numbers, self.count, self.charge, self.kept, self.n, self.task, self.tick, self.cost
         )
     }
 }
@@ -146,7 +150,10 @@ impl Case {
 #[derive(Default)]
 struct Tally {
     calls: [u64; 10],
-    refusals: [u64; 17],
+    refusals: [u64; 18],
+    /// How many of the calls were answered with a charge, and the charges.
+    charged: [u64; 10],
+    charges: BTreeSet<u8>,
     verdicts: [u64; 3],
     too_close: u64,
     /// Of the runs that jump: the most stops, and how many have fewer than two for each release.
@@ -168,6 +175,13 @@ impl Tally {
     /// A ticking run that is not refused where it should be may go on for days: with such ticks none is made once something differed.
     fn may_tick(&self, case: &Case) -> bool {
         self.differences == 0 || case.tick.iter().all(|&tick| tick <= LATE)
+    }
+    /// Notes a call that is answered with this charge.
+    fn answered(&mut self, call: usize, charge: u8) {
+        if charge > 0 {
+            self.charged[call] += 1;
+            self.charges.insert(charge);
+        }
     }
     fn note(&mut self, call: usize, expected: Option<Refusal>, got: u64, slots: bool, show: impl Fn() -> String) {
         self.calls[call] += 1;
@@ -204,7 +218,7 @@ fn read_into(file: &[u8], sheet: usize, slots: [usize; 3], answer: usize) -> Res
     reference::decode(file)?;
     short(sheet, 128)?;
     let given = reference::read(file, slots)?;
-    short(answer, 2)?;
+    short(answer, 3)?;
     Ok(given)
 }
 
@@ -220,7 +234,10 @@ fn compare_arrival_count(r: &mut Random, tally: &mut Tally, case: &Case, task: u
     let slots = around(r, 1);
     let mut answer = words(r, slots);
     let expected = in_words(slots, 1, reference::arrival_count(&case.sheet(), task as usize, &case.kept, t));
-    let got = library::arrival_count(&case.numbers, case.count, task, &case.kept, t, &mut answer.now);
+    let got = library::arrival_count(&case.numbers, case.count, case.charge, task, &case.kept, t, &mut answer.now);
+    if expected.is_ok() {
+        tally.answered(0, case.charge);
+    }
     let same = answer.holds(expected.ok().map(|n| [n]).as_ref().map(|a| &a[..]));
     tally.note(0, expected.err(), got, same, || format!("task {} t {} answer {:?} {}", task, t, answer.now, case.show()));
 }
@@ -239,8 +256,9 @@ fn compare_verdict(r: &mut Random, tally: &mut Tally, case: &Case, task: u32, bu
     });
     if let Ok(a) = expected {
         tally.verdicts[a[0] as usize] += 1;
+        tally.answered(1, case.charge);
     }
-    let got = library::verdict(&case.numbers, case.count, task, &case.kept, &mut answer.now);
+    let got = library::verdict(&case.numbers, case.count, case.charge, task, &case.kept, &mut answer.now);
     let same = answer.holds(expected.as_ref().ok().map(|a| &a[..]));
     tally.note(1, expected.err(), got, same, || format!("task {} answer {:?} {}", task, answer.now, case.show()));
 }
@@ -253,7 +271,10 @@ fn compare_choice(r: &mut Random, tally: &mut Tally, case: &Case, budget: u64) {
         tally.passed_over += 1;
         return;
     };
-    let got = library::choice(&case.numbers, case.count, &mut kept.now, &mut worst.now);
+    let got = library::choice(&case.numbers, case.count, case.charge, &mut kept.now, &mut worst.now);
+    if expected.is_ok() {
+        tally.answered(2, case.charge);
+    }
     let columns = expected.as_ref().ok();
     let same = kept.holds(columns.map(|c| &c.0[..])) && worst.holds(columns.map(|c| &c.1[..]));
     tally.note(2, expected.as_ref().err().copied(), got, same, || {
@@ -265,13 +286,14 @@ fn compare_trace_check(r: &mut Random, tally: &mut Tally, case: &Case) {
     let slots = around(r, 2);
     let mut answer = words(r, slots);
     let expected = in_words(slots, 2, reference::trace_check(&case.sheet(), case.n as usize, &case.reference_list()));
-    let got = library::trace_check(&case.numbers, case.count, case.n, case.library_list(), &mut answer.now);
+    let got = library::trace_check(&case.numbers, case.count, case.charge, case.n, case.library_list(), &mut answer.now);
     let numbers = expected.ok().map(|close| match close {
         None => [0, 0],
         Some(p) => [1, p as u64],
     });
-    if let Some([1, _]) = numbers {
-        tally.too_close += 1;
+    if let Some([close, _]) = numbers {
+        tally.too_close += close;
+        tally.answered(3, case.charge);
     }
     let same = answer.holds(numbers.as_ref().map(|a| &a[..]));
     tally.note(3, expected.err(), got, same, || format!("answer {:?} {}", answer.now, case.show()));
@@ -281,7 +303,10 @@ fn compare_ready(r: &mut Random, tally: &mut Tally, case: &Case) {
     let slots = around(r, case.n.min(1030) as usize);
     let mut ready = words(r, slots);
     let expected = reference::ready(&case.sheet(), &case.kept, case.n as usize, &case.reference_list(), slots);
-    let got = library::ready(&case.numbers, case.count, &case.kept, case.n, case.library_list(), &mut ready.now);
+    let got = library::ready(&case.numbers, case.count, case.charge, &case.kept, case.n, case.library_list(), &mut ready.now);
+    if expected.is_ok() {
+        tally.answered(4, case.charge);
+    }
     let same = ready.holds(expected.as_ref().ok().map(|c| &c[..]));
     tally.note(4, expected.as_ref().err().copied(), got, same, || {
         format!("ready {:?} expected {:?} {}", ready.now, expected, case.show())
@@ -299,9 +324,12 @@ fn compare_run(r: &mut Random, tally: &mut Tally, case: &Case, ticks: u64) {
     let (mut ready, mut finish) = (words(r, a), words(r, b));
     let expected = reference::run(&case.sheet(), &case.kept, case.n as usize, &case.reference_list(), a, b);
     let got = library::run(
-        &case.numbers, case.count, &case.kept, case.n, case.library_list(), &mut ready.now, &mut finish.now,
+        &case.numbers, case.count, case.charge, &case.kept, case.n, case.library_list(), &mut ready.now, &mut finish.now,
     );
     let columns = expected.as_ref().ok();
+    if columns.is_some() {
+        tally.answered(5, case.charge);
+    }
     let same = ready.holds(columns.map(|c| &c.0[..])) && finish.holds(columns.map(|c| &c.1[..]));
     tally.note(5, expected.as_ref().err().copied(), got, same, || {
         format!("ready {:?} finish {:?} expected {:?} {}", ready.now, finish.now, expected, case.show())
@@ -316,7 +344,7 @@ fn compare_jump(r: &mut Random, tally: &mut Tally, case: &Case) {
     let given = reference::jump(&case.sheet(), &case.kept, case.n as usize, &case.reference_list(), a, b);
     let expected = in_words(w, 1, given);
     let got = library::jump(
-        &case.numbers, case.count, &case.kept, case.n, case.library_list(), &mut ready.now, &mut finish.now, &mut answer.now,
+        &case.numbers, case.count, case.charge, &case.kept, case.n, case.library_list(), &mut ready.now, &mut finish.now, &mut answer.now,
     );
     let jumped = expected.as_ref().ok();
     let stops = jumped.map(|j| [j.stops]);
@@ -325,6 +353,7 @@ fn compare_jump(r: &mut Random, tally: &mut Tally, case: &Case) {
         && answer.holds(stops.as_ref().map(|s| &s[..]));
     if let Some(j) = jumped {
         let largest = |ticks: &[u64], before: u64| ticks.iter().copied().fold(before, u64::max);
+        tally.answered(9, case.charge);
         tally.most_stops = tally.most_stops.max(j.stops);
         tally.shared_stops += (j.stops < 2 * case.n as u64) as u64;
         (tally.last_ready, tally.last_finish) = (largest(&j.ready, tally.last_ready), largest(&j.finish, tally.last_finish));
@@ -347,10 +376,10 @@ fn compare_jump_with_run(r: &mut Random, tally: &mut Tally, case: &Case, ticks: 
     let (mut ready, mut finish, mut answer) = (words(r, a), words(r, b), words(r, 1));
     let (mut ticked_ready, mut ticked_finish) = (ready.held.clone(), finish.held.clone());
     let got = library::jump(
-        &case.numbers, case.count, &case.kept, case.n, case.library_list(), &mut ready.now, &mut finish.now, &mut answer.now,
+        &case.numbers, case.count, case.charge, &case.kept, case.n, case.library_list(), &mut ready.now, &mut finish.now, &mut answer.now,
     );
     let ticked = library::run(
-        &case.numbers, case.count, &case.kept, case.n, case.library_list(), &mut ticked_ready, &mut ticked_finish,
+        &case.numbers, case.count, case.charge, &case.kept, case.n, case.library_list(), &mut ticked_ready, &mut ticked_finish,
     );
     let same = got == ticked
         && (&ready.now, &finish.now) == (&ticked_ready, &ticked_finish)
@@ -364,7 +393,7 @@ fn compare_jump_with_run(r: &mut Random, tally: &mut Tally, case: &Case, ticks: 
 fn compare_read(r: &mut Random, tally: &mut Tally, file: &[u8]) {
     let releases = reference::decode(file).map_or(0, |(_, list)| list.len());
     let slots = [around(r, releases), around(r, releases), around(r, releases)];
-    let (a, s) = (around(r, 2), around(r, 128));
+    let (a, s) = (around(r, 3), around(r, 128));
     let (mut answer, mut sheet) = (words(r, a), numbers(r, s));
     let (mut task, mut tick, mut cost) = (numbers(r, slots[0]), words(r, slots[1]), numbers(r, slots[2]));
     let expected = read_into(file, s, slots, a);
@@ -377,7 +406,8 @@ fn compare_read(r: &mut Random, tally: &mut Tally, file: &[u8]) {
             let mut whole = numbers_of(s);
             whole.resize(128, 0);
             let column = |f: fn(&Release) -> u32| list.iter().map(f).collect::<Vec<u32>>();
-            answer.holds(Some(&[s.count as u64, list.len() as u64]))
+            tally.answered(6, s.charge);
+            answer.holds(Some(&[s.count as u64, list.len() as u64, s.charge as u64]))
                 && sheet.holds(Some(&whole))
                 && task.holds(Some(&column(|x| x.task)))
                 && tick.holds(Some(&list.iter().map(|x| x.tick).collect::<Vec<u64>>()))
@@ -392,21 +422,22 @@ fn compare_read(r: &mut Random, tally: &mut Tally, file: &[u8]) {
 
 /// A file that is accepted, read and written again by the archive: the same bytes.
 fn compare_again(tally: &mut Tally, file: &[u8]) {
-    let (mut sheet, mut counts, mut length) = ([0; 128], [0; 2], [0; 1]);
+    let (mut sheet, mut counts, mut length) = ([0; 128], [0; 3], [0; 1]);
     let (mut task, mut tick, mut cost) = ([0; MAX_RELEASES], [0; MAX_RELEASES], [0; MAX_RELEASES]);
     let mut out = vec![0; file.len()];
     let got = library::read(file, &mut sheet, &mut task, &mut tick, &mut cost, &mut counts);
-    let [tasks, releases] = counts.map(|n| n as u32);
+    let [tasks, releases, charge] = counts.map(|n| n as u32);
     let list = library::Columns { task: &task, tick: &tick, cost: &cost };
-    let and = library::write(&sheet, tasks, releases, list, &mut out, &mut length);
+    let and = library::write(&sheet, tasks, charge as u8, releases, list, &mut out, &mut length);
     let same = out == file && length[0] == file.len() as u64;
+    tally.answered(7, charge as u8);
     tally.note(7, None, if got == 0 { and } else { got }, same, || format!("read and written again: {:?}", file));
 }
 
 /// The bytes that a write of a case needs, more or less where its columns are short.
 fn bytes_of(case: &Case) -> usize {
     let ticks = &case.tick[..case.tick.len().min(case.n.min(1030) as usize)];
-    reference::bytes_needed(case.count.min(40) as usize, ticks)
+    reference::bytes_needed(case.charge, case.count.min(40) as usize, ticks)
 }
 
 /// A write, and a read of what was written.
@@ -420,16 +451,17 @@ fn compare_write_to(r: &mut Random, tally: &mut Tally, case: &Case, slots: usize
     let a = around(r, 1);
     let (mut answer, mut out) = (words(r, a), bytes(r, slots));
     let expected = in_words(a, 1, reference::write(&case.sheet(), case.n as usize, &case.reference_list(), slots));
-    let got = library::write(&case.numbers, case.count, case.n, case.library_list(), &mut out.now, &mut answer.now);
+    let got = library::write(&case.numbers, case.count, case.charge, case.n, case.library_list(), &mut out.now, &mut answer.now);
     let length = expected.as_ref().ok().map(|f| [f.len() as u64]);
     let same = answer.holds(length.as_ref().map(|l| &l[..])) && out.holds(expected.as_ref().ok().map(|f| &f[..]));
     tally.note(7, expected.as_ref().err().copied(), got, same, || case.show());
     if let Ok(file) = expected {
+        tally.answered(7, case.charge);
         compare_read(r, tally, &file);
     }
 }
 
-/// A load; and where the text is accepted, that the same tasks as records are read to the same sheet.
+/// A load; and where the text is accepted, that the same tasks as records are read to the same sheet, without a charge.
 fn compare_load(r: &mut Random, tally: &mut Tally, text: &[u8]) {
     let (a, s) = (around(r, 1), around(r, 128));
     let (mut answer, mut sheet) = (words(r, a), numbers(r, s));
@@ -451,12 +483,12 @@ fn compare_load(r: &mut Random, tally: &mut Tally, text: &[u8]) {
 }
 
 fn compare_load_with_read(r: &mut Random, tally: &mut Tally, text: &[u8], given: &Sheet) {
-    let file = reference::encode(&given.tasks, &[]);
+    let file = reference::encode(given, &[]);
     let (mut loaded, mut read) = (numbers(r, 128), numbers(r, 128));
-    let (mut count, mut counts) = ([u64::MAX; 1], [u64::MAX; 2]);
+    let (mut count, mut counts) = ([u64::MAX; 1], [u64::MAX; 3]);
     let got = library::load(text, &mut loaded.now, &mut count);
     let and = library::read(&file, &mut read.now, &mut [], &mut [], &mut [], &mut counts);
-    let same = loaded.now == read.now && [count[0], 0] == counts;
+    let same = loaded.now == read.now && [count[0], 0, 0] == counts;
     tally.note(8, None, if got == 0 { and } else { got }, same, || format!("loaded and read: {}", text.escape_ascii()));
 }
 
@@ -481,6 +513,7 @@ fn compare_sheet_calls(r: &mut Random, tally: &mut Tally, case: &Case, budget: u
 fn small(r: &mut Random, tally: &mut Tally, cases: u32) {
     for _ in 0..cases {
         let sheet = small_sheet(r);
+        let sheet = if r.once_in(2) { with_charge(r, sheet) } else { with_part_charged(r, sheet) };
         let n = r.within(0, 12) as usize;
         let step = r.of(&[1, 4, 12, 40]);
         let mut list = if r.once_in(3) { legal_list_for(r, &sheet, n) } else { list_for(r, &sheet, n, step) };
@@ -501,6 +534,7 @@ fn small(r: &mut Random, tally: &mut Tally, cases: u32) {
 fn check_reference_windows(r: &mut Random, cases: u32) {
     for _ in 0..cases {
         let sheet = small_sheet(r);
+        let sheet = with_fitting_charge(r, sheet);
         let kept = kept_for(r, &sheet);
         let i = sheet.count - 1;
         let mut budget = Budget::of(u64::MAX);
@@ -509,9 +543,9 @@ fn check_reference_windows(r: &mut Random, cases: u32) {
             let demand = |t: i64| -> i64 {
                 let above = (0..i).map(|j| {
                     let x = sheet.task(j);
-                    x.e as i64 * reference::sigma(x.p as i64, kept[j] as i64, t)
+                    (x.e as i64 + sheet.charge as i64) * reference::sigma(x.p as i64, kept[j] as i64, t)
                 });
-                (q + 1) * sheet.task(i).e as i64 + above.sum::<i64>()
+                (q + 1) * (sheet.task(i).e as i64 + sheet.charge as i64) + above.sum::<i64>()
             };
             match (1..2_000).find(|&t| demand(t) <= t) {
                 None => break,
@@ -522,19 +556,22 @@ fn check_reference_windows(r: &mut Random, cases: u32) {
 }
 
 /// The three ways in which the reference finds the finish ticks agree, and each is one tick later than where a job may run in its
-/// ready tick. Its stops are those that a look at every tick counts, at least one more than there are jobs, since no two finishes
+/// ready tick. They are those of the list in which each cost has the charge in it. Its stops are those that a look at every tick counts, at least one more than there are jobs, since no two finishes
 /// are equal and the first start is before them.
 fn check_reference_run(r: &mut Random, cases: u32) {
     for _ in 0..cases {
         let sheet = small_sheet(r);
+        let sheet = with_fitting_charge(r, sheet);
         let n = r.within(0, 12) as usize;
         let list = list_for(r, &sheet, n, 8);
         let kept = kept_for(r, &sheet);
         let ready = reference::ready_ticks(&sheet, &kept, &list);
-        let finish = reference::finish_ticks(&list, &ready);
-        assert_eq!(finish, reference::finish_ticks_by_tick(&list, &ready));
-        assert_eq!(finish, reference::finish_ticks_by_job(&list, &ready));
-        assert_eq!(finish, reference::finish_from(&list, &ready).iter().map(|t| t + 1).collect::<Vec<i64>>());
+        let finish = reference::finish_ticks(sheet.charge, &list, &ready);
+        assert_eq!(finish, reference::finish_ticks_by_tick(sheet.charge, &list, &ready));
+        assert_eq!(finish, reference::finish_ticks_by_job(sheet.charge, &list, &ready));
+        let at_once = reference::finish_from(sheet.charge, &list, &ready);
+        assert_eq!(finish, at_once.iter().map(|t| t + 1).collect::<Vec<i64>>());
+        assert_eq!(finish, reference::finish_ticks(0, &with_costs(&list, sheet.charge), &ready));
         let end = finish.iter().max().map_or(0, |&f| f);
         let stops = (0..=end).filter(|t| finish.contains(t) || ready.contains(&(t - 1))).count();
         assert_eq!(stops as u64, reference::stops(&ready, &finish));
@@ -546,23 +583,25 @@ fn check_reference_run(r: &mut Random, cases: u32) {
 fn check_reference_jump(r: &mut Random, cases: u32) {
     for _ in 0..cases {
         for form in FORMS {
-            let n = r.within(1, 40) as usize;
-            let (sheet, list) = form(r, n);
+            let (n, charge) = (r.within(1, 40) as usize, form_charge(r));
+            let (sheet, list) = form(r, n, charge);
             let kept = kept_for(r, &sheet);
             let ready = reference::ready_ticks(&sheet, &kept, &list);
-            let finish = reference::finish_ticks_by_job(&list, &ready);
-            assert_eq!(finish, reference::finish_ticks(&list, &ready));
+            let finish = reference::finish_ticks_by_job(charge, &list, &ready);
+            assert_eq!(finish, reference::finish_ticks(charge, &list, &ready));
             if finish.iter().all(|&f| f < 3_000) {
-                assert_eq!(finish, reference::finish_ticks_by_tick(&list, &ready));
+                assert_eq!(finish, reference::finish_ticks_by_tick(charge, &list, &ready));
             }
         }
         let (tasks, top) = (r.of(&[1, 3, 32]), r.of(&[40, 1_000, 1_000_000]));
         let sheet = loaded_sheet(r, tasks, top);
+        let sheet = with_part_charged(r, sheet);
         let n = r.within(1, 60) as usize;
         let list = gapped_list_for(r, &sheet, n);
         let kept = kept_for(r, &sheet);
         let ready = reference::ready_ticks(&sheet, &kept, &list);
-        assert_eq!(reference::finish_ticks_by_job(&list, &ready), reference::finish_ticks(&list, &ready));
+        let finish = reference::finish_ticks_by_job(sheet.charge, &list, &ready);
+        assert_eq!(finish, reference::finish_ticks(sheet.charge, &list, &ready));
     }
 }
 
@@ -571,6 +610,7 @@ fn loaded(r: &mut Random, tally: &mut Tally, cases: u32, tasks: &[u32]) {
     for _ in 0..cases {
         let (n, top) = (r.of(tasks), r.of(&[40, 200, 1_000, 20_000, 1_000_000]));
         let sheet = loaded_sheet(r, n, top);
+        let sheet = any_charge(r, sheet);
         let case = Case::sound(r, &sheet, &[]);
         for _ in 0..3 {
             compare_sheet_calls(r, tally, &case, 30_000);
@@ -581,6 +621,7 @@ fn loaded(r: &mut Random, tally: &mut Tally, cases: u32, tasks: &[u32]) {
 fn boundary(r: &mut Random, tally: &mut Tally, cases: u32) {
     for _ in 0..cases {
         let sheet = boundary_sheet(r);
+        let sheet = with_charge(r, sheet);
         let mut list = list_for_any(r, &sheet);
         if r.once_in(2) {
             damage_list(r, &sheet, &mut list);
@@ -609,8 +650,9 @@ fn list_for_any(r: &mut Random, sheet: &Sheet) -> Vec<Release> {
 /// Lists at the limit of 1,024 releases.
 fn long_lists(r: &mut Random, tally: &mut Tally, cases: u32) {
     for _ in 0..cases {
-        let (tasks, top) = (r.of(&[1, 3, 32]), r.of(&[40, 300]));
+        let (tasks, top) = (r.of(&[1, 3, 32]), r.of(&[40, 300, 3_000]));
         let sheet = loaded_sheet(r, tasks, top);
+        let sheet = any_charge(r, sheet);
         let n = r.of(&[1023, 1024, 1024, 1025]);
         let step = r.of(&[0, 3, 60]);
         let mut list = if r.once_in(3) { legal_list_for(r, &sheet, n) } else { list_for(r, &sheet, n, step) };
@@ -626,6 +668,7 @@ fn long_lists(r: &mut Random, tally: &mut Tally, cases: u32) {
 fn late_ticks(r: &mut Random, tally: &mut Tally, cases: u32) {
     for _ in 0..cases {
         let sheet = loaded_sheet(r, 3, 1_000);
+        let sheet = any_charge(r, sheet);
         let mut list = list_for(r, &sheet, 8, 50);
         for x in list.iter_mut() {
             x.tick = MAX_SHORT_TICK - 200 + x.tick.min(400);
@@ -641,6 +684,7 @@ fn long_ticks(r: &mut Random, tally: &mut Tally, cases: u32, sizes: &[usize]) {
     for _ in 0..cases {
         let (tasks, top) = (r.of(&[1, 2, 5, 32]), r.of(&[40, 1_000, 1_000_000]));
         let sheet = if r.once_in(3) { loaded_sheet(r, tasks, top) } else { small_sheet(r) };
+        let sheet = any_charge(r, sheet);
         let (n, step) = (r.of(sizes), r.of(&[0, 3, 40, 2_000]));
         let list = if r.once_in(3) { legal_list_for(r, &sheet, n) } else { list_for(r, &sheet, n, step) };
         let (tick, over) = (r.of(&MIDDLE_TICKS), if r.once_in(8) { r.tick(1, 50) } else { 0 });
@@ -660,8 +704,8 @@ fn long_ticks(r: &mut Random, tally: &mut Tally, cases: u32, sizes: &[usize]) {
 fn moved_lists(r: &mut Random, tally: &mut Tally, cases: u32, sizes: &[usize]) {
     for _ in 0..cases {
         for form in FORMS {
-            let n = r.of(sizes);
-            let (sheet, list) = form(r, n);
+            let (n, charge) = (r.of(sizes), form_charge(r));
+            let (sheet, list) = form(r, n, charge);
             let case = Case::sound(r, &sheet, &list);
             let tick = r.of(&MIDDLE_TICKS);
             let by = way_to(r, &list, tick);
@@ -678,9 +722,9 @@ fn compare_moved(tally: &mut Tally, case: &Case, later: &Case, by: u64) {
     let n = case.n as usize;
     let (mut ready, mut finish) = (vec![0; n], vec![0; n]);
     let (mut late_ready, mut late_finish) = (vec![0; n], vec![0; n]);
-    let ticked = library::run(&case.numbers, case.count, &case.kept, case.n, case.library_list(), &mut ready, &mut finish);
+    let ticked = library::run(&case.numbers, case.count, case.charge, &case.kept, case.n, case.library_list(), &mut ready, &mut finish);
     let list = later.library_list();
-    let got = library::jump(&case.numbers, case.count, &case.kept, case.n, list, &mut late_ready, &mut late_finish, &mut [0]);
+    let got = library::jump(&case.numbers, case.count, case.charge, &case.kept, case.n, list, &mut late_ready, &mut late_finish, &mut [0]);
     let moved = |ticks: &[u64]| ticks.iter().map(|t| t + by).collect::<Vec<u64>>();
     let same = ticked == 0 && (moved(&ready), moved(&finish)) == (late_ready, late_finish);
     tally.note(9, None, got, same, || format!("{} ticks later than {}", by, case.show()));
@@ -688,13 +732,17 @@ fn compare_moved(tally: &mut Tally, case: &Case, later: &Case, by: u64) {
 
 /// The largest ready and finish ticks: 1,024 jobs of the largest cost and period, all released at one tick. Each but the last is
 /// finished where the next one starts, hence the stops. At the limit in the jumping run, at the largest tick of kind 2 in both runs.
+/// With the largest charge, which the cost leaves room for, they are the same.
 fn largest_finish(r: &mut Random, tally: &mut Tally) {
-    let sheet = Sheet::of(&[Task { p: MAX_TIME, j: 0, e: MAX_TIME, d: MAX_TIME }]);
-    for (tick, last) in [
-        (MAX_SHORT_TICK, (2_023_000_000, 2_024_000_001)),
-        (MAX_TICK, (1_000_001_023_000_000, 1_000_001_024_000_001)),
+    for (charge, tick, last) in [
+        (0, MAX_SHORT_TICK, (2_023_000_000, 2_024_000_001)),
+        (0, MAX_TICK, (1_000_001_023_000_000, 1_000_001_024_000_001)),
+        (255, MAX_SHORT_TICK, (2_023_000_000, 2_024_000_001)),
+        (255, MAX_TICK, (1_000_001_023_000_000, 1_000_001_024_000_001)),
     ] {
-        let case = Case::sound(r, &sheet, &[Release { task: 0, tick, cost: MAX_TIME }; 1024]);
+        let cost = MAX_TIME - charge as u32;
+        let sheet = Sheet::of(&[Task { p: MAX_TIME, j: 0, e: cost, d: MAX_TIME }]).charged(charge);
+        let case = Case::sound(r, &sheet, &[Release { task: 0, tick, cost }; 1024]);
         let expected = reference::run(&case.sheet(), &case.kept, 1024, &case.reference_list(), 1024, 1024).unwrap();
         assert_eq!((expected.0[1023], expected.1[1023]), last);
         let jumped = reference::jump(&case.sheet(), &case.kept, 1024, &case.reference_list(), 1024, 1024).unwrap();
@@ -702,7 +750,7 @@ fn largest_finish(r: &mut Random, tally: &mut Tally) {
         let (mut ready, mut finish) = (words(r, 1024), words(r, 1024));
         if tick == MAX_SHORT_TICK {
             let got = library::run(
-                &case.numbers, case.count, &case.kept, case.n, case.library_list(), &mut ready.now, &mut finish.now,
+                &case.numbers, case.count, case.charge, &case.kept, case.n, case.library_list(), &mut ready.now, &mut finish.now,
             );
             let same = ready.holds(Some(&expected.0)) && finish.holds(Some(&expected.1));
             tally.note(5, None, got, same, || format!("last ready {} finish {}", ready.now[1023], finish.now[1023]));
@@ -719,8 +767,8 @@ fn largest_finish(r: &mut Random, tally: &mut Tally) {
 fn formed_lists(r: &mut Random, tally: &mut Tally, cases: u32, sizes: &[usize]) {
     for _ in 0..cases {
         for form in FORMS {
-            let n = r.of(sizes);
-            let (sheet, list) = form(r, n);
+            let (n, charge) = (r.of(sizes), form_charge(r));
+            let (sheet, list) = form(r, n, charge);
             let mut case = Case::sound(r, &sheet, &list);
             let full = sheet.tasks.iter().map(|t| t.j).collect();
             for kept in [case.kept.clone(), full, vec![0; sheet.count]] {
@@ -738,6 +786,7 @@ fn long_gaps(r: &mut Random, tally: &mut Tally, cases: u32, sizes: &[usize]) {
     for _ in 0..cases {
         let (tasks, top) = (r.of(&[1, 2, 3, 8, 32]), r.of(&[40, 1_000, 1_000_000]));
         let sheet = loaded_sheet(r, tasks, top);
+        let sheet = any_charge(r, sheet);
         let n = r.of(sizes);
         let mut list = gapped_list_for(r, &sheet, n);
         if r.once_in(10) {
@@ -751,32 +800,32 @@ fn long_gaps(r: &mut Random, tally: &mut Tally, cases: u32, sizes: &[usize]) {
     }
 }
 
-/// Jumping runs of two releases, the first at 0 and the second up to the limit: of one task and of two, in both orders. With the
-/// ticking run too up to 1,000,000, and once at the largest tick of kind 2.
+/// Jumping runs of two releases, the first at 0 and the second up to the limit: of one task and of two, in both orders, with a charge
+/// and without. With the ticking run too up to 1,000,000, and once at the largest tick of kind 2.
 fn two_releases(r: &mut Random, tally: &mut Tally) {
-    let sheet = sums::printed_sheet();
     let short = [0, 1, 2, 3, 4, 5, 6, 1_000, 1_000_000];
     for tick in short.into_iter().chain(EDGE_TICKS) {
         for tasks in [[0, 0], [0, 2], [2, 0]] {
-            for cost in [1, 2] {
+            for (cost, charge) in [(1, 0), (2, 0), (1, 1), (2, 4)] {
+                let sheet = sums::printed_sheet().charged(charge);
                 let list = [(tasks[0], 0), (tasks[1], tick)].map(|(task, tick)| Release { task, tick, cost });
                 let case = Case::sound(r, &sheet, &list);
                 for _ in 0..20 {
                     compare_jump(r, tally, &case);
                 }
-                let ticks = if (tick, tasks, cost) == (MAX_SHORT_TICK, [0, 0], 2) { LATE } else { SOON };
+                let ticks = if (tick, tasks, cost, charge) == (MAX_SHORT_TICK, [0, 0], 2, 0) { LATE } else { SOON };
                 compare_jump_with_run(r, tally, &case, ticks);
             }
         }
     }
 }
 
-/// Sound files of short and of long ticks, cut at every byte and with every byte changed; random records.
+/// Sound files of short and of long ticks, with a charge and without, cut at every byte and with every byte changed; random records.
 fn files(r: &mut Random, tally: &mut Tally, cases: u32) {
     for _ in 0..cases {
         let (tasks, releases) = (r.within(1, 4) as usize, r.within(0, 6) as usize);
-        let tick = r.of(&MIDDLE_TICKS);
-        let file = if r.once_in(2) { file_for(r, tasks, releases) } else { late_file_for(r, tasks, releases, tick) };
+        let (tick, charge) = (r.of(&MIDDLE_TICKS), if r.once_in(2) { r.of(&EDGE_CHARGES) } else { r.bits() as u8 });
+        let file = if r.once_in(2) { file_for(r, charge, tasks, releases) } else { late_file_for(r, charge, tasks, releases, tick) };
         for end in 0..=file.len() {
             compare_read(r, tally, &file[..end]);
         }
@@ -786,20 +835,20 @@ fn files(r: &mut Random, tally: &mut Tally, cases: u32) {
             compare_read(r, tally, &other);
         }
         let mut longer = file.clone();
-        longer.push(r.within(0, 5) as u8);
+        longer.push(r.within(0, 6) as u8);
         compare_read(r, tally, &longer);
         for _ in 0..20 {
             let any = random_file(r);
             compare_read(r, tally, &any);
         }
-        let noise: Vec<u8> = (0..r.within(0, 40)).map(|_| r.within(0, 5) as u8).collect();
+        let noise: Vec<u8> = (0..r.within(0, 40)).map(|_| r.within(0, 6) as u8).collect();
         compare_read(r, tally, &noise);
     }
 }
 
 /// The record of the task (6,5,2,6).
 fn one_task() -> Vec<u8> {
-    let mut file = reference::encode(&[Task { p: 6, j: 5, e: 2, d: 6 }], &[]);
+    let mut file = reference::encode(&Sheet::of(&[Task { p: 6, j: 5, e: 2, d: 6 }]), &[]);
     file.pop();
     file
 }
@@ -824,14 +873,15 @@ fn edge_files(r: &mut Random, tally: &mut Tally) {
     }
 }
 
-/// Up to five records of every kind in every order: whole, cut in the last one, and with a byte after it. Ticks rise in the order of
-/// the kinds, so that a release of kind 2 after one of kind 4 has a tick that falls.
-fn record_orders(r: &mut Random, tally: &mut Tally) {
+/// Up to so many records of every kind in every order: whole, cut in the last one, and with a byte after it. Ticks rise in the order of
+/// the kinds, so that a release of kind 2 after one of kind 4 has a tick that falls. Of the charge the tasks hold at most 4.
+fn record_orders(r: &mut Random, tally: &mut Tally, charge: u8, records: u64) {
     let mut all: Vec<Vec<u8>> = vec![Vec::new()];
-    for turn in 0..5 {
+    for turn in 0..records {
         let record = |kind: u8| match kind {
             1 => one_task(),
             3 => vec![3],
+            5 => vec![5, charge],
             _ => {
                 let mut record = Vec::new();
                 let tick = if kind == 2 { MAX_SHORT_TICK - 5 } else { MAX_SHORT_TICK + 1 } + turn;
@@ -841,12 +891,12 @@ fn record_orders(r: &mut Random, tally: &mut Tally) {
         };
         let mut longer = Vec::new();
         for file in &all {
-            for kind in 1..=4 {
+            for kind in 1..=5 {
                 let whole = [&file[..], &record(kind)].concat();
                 for end in file.len() + 1..=whole.len() {
                     compare_read(r, tally, &whole[..end]);
                 }
-                let after = r.within(0, 5) as u8;
+                let after = r.within(0, 6) as u8;
                 compare_read(r, tally, &[&whole[..], &[after]].concat());
                 longer.push(whole);
             }
@@ -855,7 +905,8 @@ fn record_orders(r: &mut Random, tally: &mut Tally) {
     }
 }
 
-/// Files of the kinds 1, 2 and 3 alone, as there were before the longer ticks: the releases that they had, and the same bytes again.
+/// Files of the kinds 1, 2 and 3 alone, as there were before the longer ticks and the charge: the releases that they had, no charge, and
+/// the same bytes again.
 fn old_files(r: &mut Random, tally: &mut Tally, cases: u32) {
     for _ in 0..cases {
         let (tasks, n) = (r.of(&[1, 3, 32]), r.of(&[1, 2, 7, 30, 1024]));
@@ -863,7 +914,7 @@ fn old_files(r: &mut Random, tally: &mut Tally, cases: u32) {
         let list = list_for(r, &sheet, n, 9);
         let by = if r.once_in(2) { MAX_SHORT_TICK - list[n - 1].tick } else { r.tick(0, MAX_SHORT_TICK / 2) };
         let list = moved(&list, by);
-        let mut file = reference::encode(&sheet.tasks, &[]);
+        let mut file = reference::encode(&sheet, &[]);
         file.pop();
         for &x in &list {
             add_release(&mut file, 2, x);
@@ -874,11 +925,13 @@ fn old_files(r: &mut Random, tally: &mut Tally, cases: u32) {
     }
 }
 
-/// 32 and 33 tasks, 1,024 and 1,025 releases of short, of both and of long ticks, whole and cut at every byte near the end.
-fn full_files(r: &mut Random, tally: &mut Tally) {
+/// 32 and 33 tasks, 1,024 and 1,025 releases of short, of both and of long ticks, whole and cut at every byte near the end; with this
+/// charge.
+fn full_files(r: &mut Random, tally: &mut Tally, charge: u8) {
     for tasks in [32, 33] {
         for (releases, tick) in [0, 1, 1024, 1025].into_iter().flat_map(|n| [(n, 0), (n, MAX_SHORT_TICK), (n, MAX_TICK)]) {
-            let file = if tick == 0 { file_for(r, tasks, releases) } else { late_file_for(r, tasks, releases, tick) };
+            let file =
+                if tick == 0 { file_for(r, charge, tasks, releases) } else { late_file_for(r, charge, tasks, releases, tick) };
             for end in (0..=file.len()).filter(|e| e % 97 == 0 || e + 40 > file.len()) {
                 compare_read(r, tally, &file[..end]);
             }
@@ -895,36 +948,43 @@ fn full_files(r: &mut Random, tally: &mut Tally) {
     }
 }
 
-/// The largest file and what may follow its last release: 14,897 bytes decide a read, and of a task there 14,896 do not.
+/// The largest file, with a charge, and what may follow its last release: 14,899 bytes decide a read, and of a task there 14,898 do not.
+/// Without a charge 14,897 do, and of a task 14,896 do not.
 fn deciding_bytes(r: &mut Random, tally: &mut Tally) {
-    const DECIDE: usize = 17 * 32 + 14 * 1024 + 17;
-    let file = late_file_for(r, 32, 1024, MAX_TICK);
-    assert_eq!((file.len(), DECIDE), (14_881, 14_897));
-    let releases = &file[..file.len() - 1];
-    let mut long = Vec::new();
-    add_release(&mut long, 4, Release { task: 0, tick: MAX_TICK, cost: 1 });
-    let mut short = Vec::new();
-    add_release(&mut short, 2, Release { task: 0, tick: MAX_SHORT_TICK, cost: 1 });
-    for (record, number, place) in
-        [(&one_task()[..], 3, 14_880), (&long, 10, 14_880), (&short, 8, 14_880), (&[3], 11, 14_881), (&[5], 1, 14_880)]
-    {
-        let whole = [releases, record, &[3; 40]].concat();
-        let refused = Err(Refusal { number, place });
-        assert_eq!((reference::decode(&whole), reference::decode(&whole[..DECIDE])), (refused.clone(), refused));
-        for end in file.len() - 1..=whole.len() {
-            compare_read(r, tally, &whole[..end]);
+    for (charge, decide) in [(255, 14_899), (1, 14_899), (0, 14_897)] {
+        let file = late_file_for(r, charge, 32, 1024, MAX_TICK);
+        assert_eq!(file.len(), decide - 16);
+        assert!(reference::decode(&file).is_ok_and(|(sheet, list)| (sheet.charge, sheet.count, list.len()) == (charge, 32, 1024)));
+        let end = file.len() - 1;
+        let releases = &file[..end];
+        let mut long = Vec::new();
+        add_release(&mut long, 4, Release { task: 0, tick: MAX_TICK, cost: 1 });
+        let mut short = Vec::new();
+        add_release(&mut short, 2, Release { task: 0, tick: MAX_SHORT_TICK, cost: 1 });
+        let records: [(&[u8], u32, usize); 8] = [
+            (&one_task(), 3, end), (&long, 10, end), (&short, 8, end), (&[3], 11, end + 1), (&[6], 1, end), (&[0], 1, end),
+            (&[5, 1], 3, end), (&[5, 0], 3, end),
+        ];
+        for (record, number, place) in records {
+            let whole = [releases, record, &[3; 40]].concat();
+            let refused = Err(Refusal { number, place: place as u64 });
+            assert_eq!((reference::decode(&whole), reference::decode(&whole[..decide])), (refused.clone(), refused));
+            for end in end..=whole.len() {
+                compare_read(r, tally, &whole[..end]);
+            }
         }
+        let cut = [releases, &one_task()].concat();
+        assert_eq!(cut.len(), decide);
+        assert_eq!(reference::decode(&cut[..decide - 1]), Err(Refusal { number: 2, place: end as u64 }));
     }
-    let cut = [releases, &one_task()].concat();
-    assert_eq!(cut.len(), DECIDE);
-    assert_eq!(reference::decode(&cut[..DECIDE - 1]), Err(Refusal { number: 2, place: 14_880 }));
 }
 
-/// The bytes that a write needs, with ticks of any size and in any order: 13 with their number where fewer are lent, whatever else is
-/// wrong with the releases.
+/// The bytes that a write needs, with a charge or none and ticks of any size and in any order: 13 with their number where fewer are lent,
+/// whatever else is wrong with the releases.
 fn write_places(r: &mut Random, tally: &mut Tally, cases: u32, sizes: &[usize]) {
     for _ in 0..cases {
         let sheet = small_sheet(r);
+        let sheet = any_charge(r, sheet);
         let n = r.of(sizes);
         let mut list = list_for(r, &sheet, n, 9);
         let any = r.once_in(2);
@@ -1007,19 +1067,276 @@ fn full_texts(r: &mut Random, tally: &mut Tally) {
     }
 }
 
-/// Walks that reach the horizon or take many q, and jitters for which every K in 0..J can only just be tried.
+// ---- Charges -----------------------------------------------------------------------------------------------------------
+
+/// Every call with the case as it is.
+fn compare_all(r: &mut Random, tally: &mut Tally, case: &Case) {
+    compare_sheet_calls(r, tally, case, 40_000);
+    compare_list_calls(r, tally, case, SOON);
+}
+
+/// One task with a charge that leaves its period and its deadline less, exactly and more than what its cost and the charge take: 17
+/// where it leaves one of them less, and 6 in place of it where the cost alone is over them. Two tasks, the other one sound.
+fn charge_edges(r: &mut Random, tally: &mut Tally) {
+    let around = [-2i64, -1, 0, 1, 50];
+    for charge in [0u8, 1, 2, 3, 100, 254, 255] {
+        for e in [1u32, 2, 7, 300, 999_744, 999_745, 999_746, 999_999, 1_000_000] {
+            for (p, d) in around.iter().flat_map(|p| around.map(|d| (*p, d))) {
+                let work = e as i64 + charge as i64;
+                let task = Task { p: (work + p).max(0) as u32, j: r.within(0, 9), e, d: (work + d).max(0) as u32 };
+                let least = task.p.min(task.d);
+                let expected = if least == 0 || task.p.max(task.d) > MAX_TIME || e > least {
+                    Some(6)
+                } else if work > least as i64 {
+                    Some(17)
+                } else {
+                    None
+                };
+                let other = Task { p: MAX_TIME, j: 0, e: 1, d: MAX_TIME };
+                for (place, tasks) in [(0, vec![task]), (0, vec![task, other]), (1, vec![other, task])] {
+                    let sheet = Sheet::of(&tasks).charged(charge);
+                    let refusal = expected.map(|number| Refusal { number, place });
+                    assert_eq!(reference::check_sheet(&sheet).err(), refusal);
+                    let list = list_for_any(r, &sheet);
+                    let mut case = Case::sound(r, &sheet, &list);
+                    compare_all(r, tally, &case);
+                    if r.once_in(4) {
+                        case.damage(r);
+                        compare_all(r, tally, &case);
+                    }
+                    compare_read(r, tally, &reference::encode(&sheet, &list));
+                }
+            }
+        }
+    }
+}
+
+/// Three tasks, each of them sound, out of range, too tight for the charge, or both of these: 6 or 17 of the first that is not sound, in
+/// every call and in a file, where the place is the offset of its record. Then with one thing more to refuse.
+fn charge_orders(r: &mut Random, tally: &mut Tally, charge: u8) {
+    let room = charge as u32;
+    let kinds = [
+        (None, Task { p: 9 + room, j: 3, e: 2, d: 12 + room }),
+        (Some(6), Task { p: 9 + room, j: MAX_TIME + 1, e: 2, d: 12 + room }),
+        (Some(17), Task { p: 1 + room, j: 3, e: 2, d: 12 + room }),
+        (Some(17), Task { p: 9 + room, j: 3, e: 2, d: 1 + room }),
+        (Some(6), Task { p: 1, j: 3, e: 2, d: 12 + room }),
+    ];
+    for choice in 0..125 {
+        let [a, b, c] = [choice / 25, choice / 5 % 5, choice % 5].map(|n| kinds[n]);
+        let sheet = Sheet::of(&[a.1, b.1, c.1]).charged(charge);
+        let first = [a.0, b.0, c.0].iter().position(|n| n.is_some());
+        let expected = first.map(|i| Refusal { number: [a.0, b.0, c.0][i].unwrap(), place: i as u64 });
+        assert_eq!(reference::check_sheet(&sheet).err(), expected);
+        let list = list_for_any(r, &sheet);
+        let mut case = Case::sound(r, &sheet, &list);
+        for task in [0, 2, 3] {
+            compare_arrival_count(r, tally, &case, task, 7);
+            compare_verdict(r, tally, &case, task, 40_000);
+        }
+        compare_all(r, tally, &case);
+        let file = reference::encode(&sheet, &list);
+        let offset = expected.map(|x| Refusal { place: 2 + 17 * x.place, ..x });
+        if let Some(refusal) = offset {
+            assert_eq!(reference::decode(&file), Err(refusal));
+        }
+        for end in (0..=file.len()).filter(|e| choice % 4 == 0 || *e == file.len()) {
+            compare_read(r, tally, &file[..end]);
+        }
+        for _ in 0..6 {
+            case.damage(r);
+            compare_all(r, tally, &case);
+            case = Case::sound(r, &sheet, &list);
+        }
+    }
+}
+
+/// Every charge in a file, before a task that holds it and before one that does not; records of a charge where none may stand, cut ones
+/// and others; what is refused is written out.
+fn charge_files(r: &mut Random, tally: &mut Tally) {
+    let record = |t: Task| {
+        let mut file = reference::encode(&Sheet::of(&[t]), &[]);
+        file.pop();
+        file
+    };
+    let mut check = |file: &[u8], expected: Option<(u32, u64)>| {
+        let refusal = expected.map(|(number, place)| Refusal { number, place });
+        assert_eq!(reference::decode(file).err(), refusal, "{file:?}");
+        for end in 0..=file.len() {
+            compare_read(r, tally, &file[..end]);
+        }
+    };
+    for charge in 0..=255u8 {
+        let least = 2 + charge as u32;
+        for (p, d, number) in [(least, least, None), (least - 1, least, Some(17)), (least, least - 1, Some(17)), (1, least, Some(6))] {
+            let file = [&[5, charge][..], &record(Task { p, j: 0, e: 2, d }), &[3]].concat();
+            let expected = if charge == 0 { Some((6, 0)) } else { number.map(|n| (n, 2)) };
+            check(&file, expected);
+        }
+    }
+    let (task, tight) = (one_task(), record(Task { p: 9, j: 0, e: 8, d: 9 }));
+    let (mut short, mut long) = (Vec::new(), Vec::new());
+    add_release(&mut short, 2, Release { task: 0, tick: 1, cost: 2 });
+    add_release(&mut long, 4, Release { task: 0, tick: MAX_TICK, cost: 2 });
+    let files: [(&[&[u8]], Option<(u32, u64)>); 33] = [
+        (&[&[5]], Some((2, 0))),
+        (&[&[5, 1]], Some((2, 2))),
+        (&[&[5, 0]], Some((6, 0))),
+        (&[&[5, 1], &[3]], Some((5, 2))),
+        (&[&[5, 1], &short, &[3]], Some((5, 2))),
+        (&[&[5, 1], &long, &[3]], Some((5, 2))),
+        (&[&[5, 1], &[0]], Some((1, 2))),
+        (&[&[5, 1], &[6, 1]], Some((1, 2))),
+        (&[&[5, 1], &[5]], Some((2, 2))),
+        (&[&[5, 1], &[5, 1], &task, &[3]], Some((3, 2))),
+        (&[&[5, 1], &[5, 0], &task, &[3]], Some((3, 2))),
+        (&[&[5, 0], &[5, 1], &task, &[3]], Some((6, 0))),
+        (&[&task, &[5]], Some((2, 17))),
+        (&[&task, &[5, 1], &[3]], Some((3, 17))),
+        (&[&task, &[5, 0], &[3]], Some((3, 17))),
+        (&[&task, &[5, 3]], Some((3, 17))),
+        (&[&[5, 1], &task, &[5, 1], &[3]], Some((3, 19))),
+        (&[&[5, 1], &task, &[5, 0], &[3]], Some((3, 19))),
+        (&[&[5, 1], &task, &[5]], Some((2, 19))),
+        (&[&[5, 1], &task, &short, &[5, 1], &[3]], Some((3, 29))),
+        (&[&[5, 1], &task, &short, &[5]], Some((2, 29))),
+        (&[&[5, 1], &task, &long, &[5, 0], &[3]], Some((3, 33))),
+        (&[&[5, 1], &task, &[3], &[5, 1]], Some((11, 20))),
+        (&[&task, &[3], &[5, 1]], Some((11, 18))),
+        (&[&[5, 1], &[3], &[5, 1]], Some((5, 2))),
+        (&[&[5, 4], &task, &short, &long, &[3]], None),
+        (&[&[5, 5], &task, &short, &long, &[3]], Some((17, 2))),
+        (&[&[5, 5], &task[..16]], Some((2, 2))),
+        (&[&[5, 5], &task, &[9]], Some((17, 2))),
+        (&[&[5, 4], &task, &short, &task, &[3]], Some((3, 29))),
+        // 3 before 17, 4 before 17
+        (&[&[5, 4], &task, &short, &tight, &[3]], Some((3, 29))),
+        (&[&[5, 4], &task.repeat(32), &tight, &[3]], Some((4, 546))),
+        (&[&[5, 4], &task.repeat(31), &tight, &[3]], Some((17, 529))),
+    ];
+    for (records, expected) in files {
+        check(&records.concat(), expected);
+    }
+    // costs up to E, whatever the charge is
+    for (cost, expected) in [(0, Some((9, 19))), (1, None), (2, None), (3, Some((9, 19))), (6, Some((9, 19)))] {
+        let mut release = Vec::new();
+        add_release(&mut release, 2, Release { task: 0, tick: 0, cost });
+        check(&[&[5, 4][..], &task, &release, &[3]].concat(), expected);
+    }
+}
+
+/// A sheet with a charge, and the sheet in which each cost has it in it: the archive gives the same verdicts and choices of both, the same
+/// arrival counts, checks and ready ticks, and the same runs of a list and of the list in which each cost has it in it.
+fn charge_law(r: &mut Random, tally: &mut Tally, cases: u32, releases: &[usize]) {
+    for _ in 0..cases {
+        let (tasks, top) = (r.of(&[1, 2, 5, 32]), r.of(&[40, 1_000, 20_000, 1_000_000]));
+        let sheet = if r.once_in(2) { small_sheet(r) } else { loaded_sheet(r, tasks, top) };
+        let sheet = if r.once_in(2) { with_fitting_charge(r, sheet) } else { with_part_charged(r, sheet) };
+        if reference::check_sheet(&sheet).is_err() {
+            continue;
+        }
+        let (n, step) = (r.of(releases), r.of(&[0, 3, 40, 2_000]));
+        let list = if r.once_in(3) { legal_list_for(r, &sheet, n) } else { list_for(r, &sheet, n, step) };
+        let case = Case::sound(r, &sheet, &list);
+        let whole = Case { kept: case.kept.clone(), ..Case::sound(r, &charge_in_costs(&sheet), &with_costs(&list, sheet.charge)) };
+        compare_charged(tally, &case, &whole);
+    }
+}
+
+/// The calls of both cases, the second without a charge: the same codes and slots.
+fn compare_charged(tally: &mut Tally, case: &Case, whole: &Case) {
+    let (tasks, n) = (case.count as usize, case.n as usize);
+    let both = [case, whole];
+    let mut same = |call: usize, [a, b]: [(u64, Vec<Vec<u64>>); 2]| {
+        tally.note(call, None, 0, a == b, || format!("{:?} and with the costs {:?} {}", a, b, case.show()));
+    };
+    let wide = |column: &[u32]| column.iter().map(|&x| x as u64).collect::<Vec<u64>>();
+    for task in [0, case.count - 1] {
+        same(0, both.map(|c| {
+            let mut answer = vec![7; 1];
+            (library::arrival_count(&c.numbers, c.count, c.charge, task, &c.kept, 1_000, &mut answer), vec![answer])
+        }));
+        if reference::verdict(&case.sheet(), task as usize, &case.kept, &mut Budget::of(40_000)).is_ok() {
+            same(1, both.map(|c| {
+                let mut answer = vec![7; 3];
+                (library::verdict(&c.numbers, c.count, c.charge, task, &c.kept, &mut answer), vec![answer])
+            }));
+        }
+    }
+    if reference::choice(&case.sheet(), tasks, tasks, &mut Budget::of(160_000)).is_ok() {
+        same(2, both.map(|c| {
+            let (mut kept, mut worst) = (vec![7; tasks], vec![7; tasks]);
+            let code = library::choice(&c.numbers, c.count, c.charge, &mut kept, &mut worst);
+            (code, vec![wide(&kept), wide(&worst)])
+        }));
+    }
+    same(3, both.map(|c| {
+        let mut answer = vec![7; 2];
+        (library::trace_check(&c.numbers, c.count, c.charge, c.n, c.library_list(), &mut answer), vec![answer])
+    }));
+    same(4, both.map(|c| {
+        let mut ready = vec![7; n];
+        (library::ready(&c.numbers, c.count, c.charge, &c.kept, c.n, c.library_list(), &mut ready), vec![ready])
+    }));
+    if case.ends_by([n, n], SOON) {
+        same(5, both.map(|c| {
+            let (mut ready, mut finish) = (vec![7; n], vec![7; n]);
+            let code = library::run(&c.numbers, c.count, c.charge, &c.kept, c.n, c.library_list(), &mut ready, &mut finish);
+            (code, vec![ready, finish])
+        }));
+    }
+    same(9, both.map(|c| {
+        let (mut ready, mut finish, mut stops) = (vec![7; n], vec![7; n], vec![7; 1]);
+        let lent = (&mut ready[..], &mut finish[..], &mut stops[..]);
+        let code = library::jump(&c.numbers, c.count, c.charge, &c.kept, c.n, c.library_list(), lent.0, lent.1, lent.2);
+        (code, vec![ready, finish, stops])
+    }));
+}
+
+/// The law on the reference: W(q), verdicts, choices and runs of a sheet with a charge are those of the sheet and the list in which each
+/// cost has it in it.
+fn check_reference_charge(r: &mut Random, cases: u32) {
+    for _ in 0..cases {
+        let sheet = small_sheet(r);
+        let sheet = with_fitting_charge(r, sheet);
+        let whole = charge_in_costs(&sheet);
+        let kept = kept_for(r, &sheet);
+        let budget = || Budget::of(40_000);
+        for i in 0..sheet.count {
+            let both = [&sheet, &whole].map(|s| reference::verdict(s, i, &kept, &mut budget()).ok());
+            assert_eq!(both[0], both[1]);
+        }
+        let both = [&sheet, &whole].map(|s| reference::choice(s, 32, 32, &mut budget()).ok());
+        assert_eq!(both[0], both[1]);
+        let list = list_for(r, &sheet, 12, 8);
+        let ready = reference::ready_ticks(&sheet, &kept, &list);
+        let longer = with_costs(&list, sheet.charge);
+        assert_eq!(ready, reference::ready_ticks(&whole, &kept, &longer));
+        assert_eq!(reference::finish_ticks(sheet.charge, &list, &ready), reference::finish_ticks(0, &longer, &ready));
+        let file = reference::encode(&sheet, &list);
+        assert_eq!(reference::decode(&file), Ok((sheet, list)));
+    }
+}
+
+/// Walks that reach the horizon or take many q, and jitters for which every K in 0..J can only just be tried. With a charge too, where
+/// the costs leave a part for it.
 fn long_walks(r: &mut Random, tally: &mut Tally) {
-    let sheets: [&[[u32; 4]]; 6] = [
+    let sheets: [&[[u32; 4]]; 7] = [
         &[[1, 0, 1, 2], [1, 0, 1, 2]],
         &[[2, 0, 1, 2], [2, 1, 1, 1_000_000]],
         &[[3, 2, 1, 9], [3, 2, 1, 90], [3, 1_000_000, 1, 1_000_000]],
         &[[1_000_000, 1_000_000, 1_000_000, 1_000_000], [1_000_000, 0, 1, 1_000_000]],
         &[[10, 9, 3, 30], [1_000_000, 1_000_000, 400_000, 1_000_000], [1_000_000, 999_999, 200_000, 990_000]],
         &[[2, 1, 1, 2], [2, 999_990, 1, 1_000_000]],
+        &[[2_000, 1, 1_000, 1_002], [2_000, 1_500, 1_000, 1_000_000]],
     ];
-    for sheet in sheets {
+    for (sheet, charge) in sheets.into_iter().flat_map(|s| [(s, 0), (s, 200)]) {
         let flat: Vec<u32> = sheet.iter().flatten().copied().collect();
-        let whole = sheet_of(&flat, sheet.len() as u32);
+        let mut whole = sheet_of(&flat, sheet.len() as u32, charge);
+        if whole.tasks.iter().any(|t| t.e <= charge as u32) {
+            continue;
+        }
+        whole.tasks.iter_mut().for_each(|t| t.e -= charge as u32);
         for full in [true, false] {
             let mut case = Case::sound(r, &whole, &[]);
             case.kept = sheet.iter().map(|t| if full { t[1] } else { t[1] / 2 }).collect();
@@ -1037,7 +1354,7 @@ fn long_walks(r: &mut Random, tally: &mut Tally) {
 fn compare_choice_by_verdicts(tally: &mut Tally, case: &Case) {
     let (sheet, n) = (case.sheet(), case.count as usize);
     let (mut kept, mut worst) = (vec![0; n], vec![0; n]);
-    if library::choice(&case.numbers, case.count, &mut kept, &mut worst) != 0 {
+    if library::choice(&case.numbers, case.count, case.charge, &mut kept, &mut worst) != 0 {
         return;
     }
     for i in 0..n {
@@ -1052,9 +1369,11 @@ fn compare_choice_by_verdicts(tally: &mut Tally, case: &Case) {
     }
 }
 
-/// Document 01's printed sheet and releases, and the sheet with the deadline at which it fits.
+/// Document 01's printed sheet and releases, and the sheet with the deadline at which it fits; with every charge that the tasks hold, and
+/// with one more.
 fn printed(r: &mut Random, tally: &mut Tally) {
-    for sheet in [sums::printed_sheet(), sums::folder_sheet()] {
+    for (sheet, charge) in [sums::printed_sheet(), sums::folder_sheet()].iter().flat_map(|s| (0..=5).map(move |c| (s, c))) {
+        let sheet = sheet.charged(charge);
         let case = Case::sound(r, &sheet, &sums::printed_releases());
         for _ in 0..50 {
             compare_sheet_calls(r, tally, &case, 1_000_000);
@@ -1074,7 +1393,7 @@ fn short_answers(r: &mut Random, tally: &mut Tally) {
     let refused = |number: u32, place: u64| Some(Refusal { number, place });
 
     // one task: the change, the task, then what an arrival count with no slot and a verdict with two slots refuse
-    let single: [(fn(&mut Case), u32, [(u32, u64); 2]); 7] = [
+    let single: [(fn(&mut Case), u32, [(u32, u64); 2]); 16] = [
         (|_| (), 1, [(13, 1), (13, 3)]),
         (|c| c.count = 0, 1, [(5, 0), (5, 0)]),
         (|c| c.count = 33, 1, [(4, 32), (4, 32)]),
@@ -1082,18 +1401,28 @@ fn short_answers(r: &mut Random, tally: &mut Tally) {
         (|_| (), 7, [(14, 7), (14, 7)]),
         (|c| c.kept.clear(), 1, [(13, 3), (13, 3)]),
         (|c| c.kept[1] = 8, 1, [(13, 1), (13, 3)]),
+        // a charge: the tasks hold up to 4
+        (|c| c.charge = 4, 1, [(13, 1), (13, 3)]),
+        (|c| c.charge = 5, 1, [(17, 0), (17, 0)]),
+        (|c| (c.charge, c.numbers[10]) = (4, 7), 1, [(17, 2), (17, 2)]),
+        (|c| (c.charge, c.numbers[6]) = (5, 0), 1, [(17, 0), (17, 0)]),
+        (|c| (c.charge, c.numbers[2]) = (5, 7), 1, [(6, 0), (6, 0)]),
+        (|c| (c.charge, c.numbers[6], c.numbers[10]) = (4, 0, 7), 1, [(6, 1), (6, 1)]),
+        (|c| (c.charge, c.count) = (255, 0), 1, [(5, 0), (5, 0)]),
+        (|c| (c.charge, c.count) = (255, 33), 1, [(4, 32), (4, 32)]),
+        (|c| (c.charge, c.kept) = (255, vec![]), 7, [(17, 0), (17, 0)]),
     ];
     for (change, task, [count, verdict]) in single {
         let case = changed(change);
         let mut answer = words(r, 2);
-        let got = library::arrival_count(&case.numbers, case.count, task, &case.kept, 7, &mut answer.now[..0]);
+        let got = library::arrival_count(&case.numbers, case.count, case.charge, task, &case.kept, 7, &mut answer.now[..0]);
         tally.note(0, refused(count.0, count.1), got, answer.holds(None), || format!("no slot, task {} {}", task, case.show()));
-        let got = library::verdict(&case.numbers, case.count, task, &case.kept, &mut answer.now);
+        let got = library::verdict(&case.numbers, case.count, case.charge, task, &case.kept, &mut answer.now);
         tally.note(1, refused(verdict.0, verdict.1), got, answer.holds(None), || format!("two slots, task {} {}", task, case.show()));
     }
 
     // a list of three: what a trace check with one slot and a write with none refuse, and the bytes that the write needs
-    let lists: [(fn(&mut Case), [(u32, u64); 2], usize); 12] = [
+    let lists: [(fn(&mut Case), [(u32, u64); 2], usize); 19] = [
         (|_| (), [(13, 2), (13, 1)], 82),
         (|c| c.count = 0, [(5, 0), (5, 0)], 0),
         (|c| c.numbers[0] = 0, [(6, 0), (6, 0)], 0),
@@ -1106,24 +1435,32 @@ fn short_answers(r: &mut Random, tally: &mut Tally) {
         (|c| c.tick[2] = MAX_TICK + 1, [(13, 2), (13, 1)], 86),
         (|c| c.tick = vec![u64::MAX, 0, 1 << 32], [(13, 2), (13, 1)], 90),
         (|c| c.tick = vec![MAX_TICK; 4], [(13, 2), (13, 1)], 94),
+        // a charge has two bytes
+        (|c| c.charge = 4, [(13, 2), (13, 1)], 84),
+        (|c| (c.charge, c.tick) = (1, vec![MAX_TICK; 4]), [(13, 2), (13, 1)], 96),
+        (|c| (c.charge, c.cost[0]) = (2, 3), [(13, 2), (13, 1)], 84),
+        (|c| c.charge = 5, [(17, 0), (17, 0)], 0),
+        (|c| (c.charge, c.n) = (5, 1025), [(17, 0), (17, 0)], 0),
+        (|c| (c.charge, c.n) = (4, 1025), [(10, 1024), (10, 1024)], 0),
+        (|c| (c.charge, c.tick) = (255, vec![]), [(17, 0), (17, 0)], 0),
     ];
     for (change, [check, write], needed) in lists {
         let case = changed(change);
         let (mut answer, mut out) = (words(r, 1), bytes(r, needed));
-        let got = library::trace_check(&case.numbers, case.count, case.n, case.library_list(), &mut answer.now);
+        let got = library::trace_check(&case.numbers, case.count, case.charge, case.n, case.library_list(), &mut answer.now);
         tally.note(3, refused(check.0, check.1), got, answer.holds(None), || format!("one slot {}", case.show()));
-        let got = library::write(&case.numbers, case.count, case.n, case.library_list(), &mut out.now, &mut answer.now[..0]);
+        let got = library::write(&case.numbers, case.count, case.charge, case.n, case.library_list(), &mut out.now, &mut answer.now[..0]);
         tally.note(7, refused(write.0, write.1), got, out.holds(None), || format!("no slot {}", case.show()));
         if needed > 0 {
             let short = &mut out.now[..needed - 1];
-            let got = library::write(&case.numbers, case.count, 3, case.library_list(), short, &mut answer.now[..0]);
+            let got = library::write(&case.numbers, case.count, case.charge, 3, case.library_list(), short, &mut answer.now[..0]);
             tally.note(7, refused(13, needed as u64), got, out.holds(None), || format!("no slot, a byte too few {}", case.show()));
         }
     }
 
     // a run that jumps of two releases, in columns of three slots: the change, the slots of ready and finish, what it refuses with
     // no slot for its answer, and what it refuses with one, as the run does
-    let jumps: [(fn(&mut Case), [usize; 2], (u32, u64), Option<(u32, u64)>); 29] = [
+    let jumps: [(fn(&mut Case), [usize; 2], (u32, u64), Option<(u32, u64)>); 36] = [
         (|_| (), [2, 2], (13, 1), None),
         (|c| c.count = 0, [2, 2], (5, 0), Some((5, 0))),
         (|c| c.count = 33, [2, 2], (4, 32), Some((4, 32))),
@@ -1154,6 +1491,14 @@ fn short_answers(r: &mut Random, tally: &mut Tally) {
         (|c| (c.task[1], c.tick[1], c.cost[1]) = (3, MAX_TICK + 1, 0), [2, 2], (13, 1), Some((7, 1))),
         (|c| (c.tick[0], c.cost[1]) = (1, 0), [2, 2], (13, 1), Some((8, 1))),
         (|c| (c.n, c.task, c.tick, c.cost) = (0, vec![], vec![], vec![]), [0, 0], (13, 1), None),
+        // a charge: the tasks hold up to 4, and costs are up to E without it
+        (|c| c.charge = 4, [2, 2], (13, 1), None),
+        (|c| c.charge = 5, [2, 2], (17, 0), Some((17, 0))),
+        (|c| (c.charge, c.n) = (5, 1025), [2, 2], (17, 0), Some((17, 0))),
+        (|c| (c.charge, c.numbers[10], c.kept) = (4, 7, vec![]), [0, 0], (17, 2), Some((17, 2))),
+        (|c| (c.charge, c.numbers[6], c.numbers[10]) = (4, 0, 7), [2, 2], (6, 1), Some((6, 1))),
+        (|c| (c.charge, c.cost[1]) = (4, 3), [2, 2], (13, 1), Some((9, 1))),
+        (|c| (c.charge, c.kept[1]) = (4, 8), [2, 2], (13, 1), Some((12, 1))),
     ];
     for (change, [a, b], none, one) in jumps {
         let mut case = Case { kept: vec![1, 3, 0], n: 2, ..sound.clone() };
@@ -1164,7 +1509,7 @@ fn short_answers(r: &mut Random, tally: &mut Tally) {
                 continue;
             };
             let lent = (&mut ready.now[..], &mut finish.now[..], &mut answer.now[..slots]);
-            let got = library::jump(&case.numbers, case.count, &case.kept, case.n, case.library_list(), lent.0, lent.1, lent.2);
+            let got = library::jump(&case.numbers, case.count, case.charge, &case.kept, case.n, case.library_list(), lent.0, lent.1, lent.2);
             let same = ready.holds(None) && finish.holds(None) && answer.holds(None);
             tally.note(9, refused(number, place), got, same, || format!("{} slots for the answer {}", slots, case.show()));
         }
@@ -1172,7 +1517,7 @@ fn short_answers(r: &mut Random, tally: &mut Tally) {
             continue;
         }
         let got = library::run(
-            &case.numbers, case.count, &case.kept, case.n, case.library_list(), &mut ready.now, &mut finish.now,
+            &case.numbers, case.count, case.charge, &case.kept, case.n, case.library_list(), &mut ready.now, &mut finish.now,
         );
         let expected = one.and_then(|(number, place)| refused(number, place));
         let same = expected.is_none() || (ready.holds(None) && finish.holds(None));
@@ -1181,22 +1526,38 @@ fn short_answers(r: &mut Random, tally: &mut Tally) {
 
     // files: the slots of the sheet, of the columns and of the answer, and what decides
     let sheet = sums::printed_sheet();
-    let file = reference::encode(&sheet.tasks[..sheet.count], &sums::printed_releases());
+    let file = reference::encode(&sheet, &sums::printed_releases());
     let mut longer = file.clone();
     longer.push(3);
-    let late = reference::encode(&sheet.tasks[..sheet.count], &moved(&sums::printed_releases(), MAX_TICK - 1));
-    let files: [(&[u8], usize, [usize; 3], usize, (u32, u64)); 13] = [
-        (&file, 127, [3, 3, 3], 2, (13, 128)),
-        (&file, 128, [3, 3, 3], 1, (13, 2)),
+    let late = reference::encode(&sheet, &moved(&sums::printed_releases(), MAX_TICK - 1));
+    let one = reference::encode(&sheet, &sums::printed_releases()[..1]);
+    let charged = reference::encode(&sheet.charged(4), &sums::printed_releases()[..1]);
+    let over = reference::encode(&sheet.charged(5), &sums::printed_releases()[..1]);
+    let files: [(&[u8], usize, [usize; 3], usize, (u32, u64)); 25] = [
+        (&file, 127, [3, 3, 3], 3, (13, 128)),
+        (&file, 128, [3, 3, 3], 2, (13, 3)),
         (&file, 0, [0, 3, 3], 0, (13, 128)),
         (&file, 128, [2, 3, 3], 0, (13, 3)),
         (&file, 128, [3, 0, 3], 1, (13, 3)),
         (&file, 200, [5, 4, 2], 0, (13, 3)),
+        // of one release, so that the place says which of them is short
+        (&one, 128, [1, 1, 1], 0, (13, 3)),
+        (&one, 128, [1, 1, 1], 1, (13, 3)),
+        (&one, 128, [1, 1, 1], 2, (13, 3)),
+        (&one, 128, [1, 0, 1], 2, (13, 1)),
+        (&charged, 128, [1, 1, 1], 2, (13, 3)),
+        (&charged, 128, [0, 1, 1], 2, (13, 1)),
+        (&charged, 127, [0, 1, 1], 2, (13, 128)),
+        (&charged[..63], 127, [0, 1, 1], 2, (2, 63)),
+        (&charged[2..], 128, [1, 1, 1], 2, (13, 3)),
+        (&charged[..1], 0, [0, 0, 0], 0, (2, 0)),
+        (&over, 0, [0, 0, 0], 0, (17, 2)),
+        (&over[..18], 0, [0, 0, 0], 0, (2, 2)),
         (&[], 0, [0, 0, 0], 0, (2, 0)),
-        (&file[..81], 0, [3, 3, 3], 2, (2, 81)),
+        (&file[..81], 0, [3, 3, 3], 3, (2, 81)),
         (&longer, 127, [0, 0, 0], 0, (11, 82)),
         (&file[17 * 3..], 128, [3, 3, 3], 0, (5, 0)),
-        (&late, 128, [3, 2, 3], 2, (13, 3)),
+        (&late, 128, [3, 2, 3], 3, (13, 3)),
         (&late[..93], 0, [0, 0, 0], 0, (2, 93)),
         (&late[17 * 3..], 0, [0, 0, 0], 0, (5, 0)),
     ];
@@ -1260,13 +1621,19 @@ fn main() {
     timed("reference: run by event, tick and job", || check_reference_run(r, 4_000));
     timed("reference: forms and late ticks", || check_reference_jump(r, 500));
     timed("reference: texts there and back", || check_reference_texts(r, 20_000));
+    timed("reference: a charge and costs with it", || check_reference_charge(r, 10_000));
     timed("printed sheet", || printed(r, tally));
     timed("answers that are too short", || short_answers(r, tally));
-    timed("small sheets and lists", || small(r, tally, 100_000));
-    timed("boundary values", || boundary(r, tally, 20_000));
-    timed("loaded sheets", || loaded(r, tally, 3_000, &[1, 2, 3, 5, 8, 16]));
-    timed("full sheets", || loaded(r, tally, 400, &[31, 32]));
-    timed("long lists", || long_lists(r, tally, 60));
+    timed("small sheets and lists", || small(r, tally, 120_000));
+    timed("boundary values", || boundary(r, tally, 25_000));
+    timed("loaded sheets", || loaded(r, tally, 4_000, &[1, 2, 3, 5, 8, 16]));
+    timed("full sheets", || loaded(r, tally, 500, &[31, 32]));
+    timed("long lists", || long_lists(r, tally, 80));
+    timed("charges: cost and charge at P and D", || charge_edges(r, tally));
+    timed("charges: 6 and 17 of three tasks", || [1, 2, 254, 255].iter().for_each(|&charge| charge_orders(r, tally, charge)));
+    timed("charges: files", || charge_files(r, tally));
+    timed("charges: in the costs", || charge_law(r, tally, 20_000, &[0, 1, 2, 5, 12, 40]));
+    timed("the same with 1,024 releases", || charge_law(r, tally, 40, &[1024]));
     timed("ticks at 1,000,000,000", || late_ticks(r, tally, 3));
     timed("ticks past it, up to the limit", || long_ticks(r, tally, 20_000, &[0, 1, 2, 5, 12]));
     timed("the same with 1,024 releases", || long_ticks(r, tally, 60, &[1023, 1024, 1024, 1025]));
@@ -1280,30 +1647,34 @@ fn main() {
     timed("jumps: the same with 1,024 releases", || moved_lists(r, tally, 10, &[1024]));
     timed("files, cut and changed at every byte", || files(r, tally, 1_000));
     timed("releases of both kinds at the edges", || edge_files(r, tally));
-    timed("records in every order", || record_orders(r, tally));
+    timed("records in every order", || record_orders(r, tally, 4, 5));
+    timed("the same with a charge that is refused", || [0, 5].iter().for_each(|&charge| record_orders(r, tally, charge, 4)));
     timed("files without long ticks", || old_files(r, tally, 300));
-    timed("full files", || full_files(r, tally));
+    timed("full files", || [0, 1, 255].iter().for_each(|&charge| full_files(r, tally, charge)));
     timed("bytes that decide a read", || deciding_bytes(r, tally));
     timed("bytes that a write needs", || write_places(r, tally, 2_000, &[0, 1, 2, 5, 12]));
     timed("the same with 1,024 releases", || write_places(r, tally, 20, &[1024]));
     timed("texts, cut and changed at every byte", || texts(r, tally, 200));
     timed("numbers and lines at the limits", || full_texts(r, tally));
     timed("long walks", || long_walks(r, tally));
-    for (name, n) in NAMES.iter().zip(tally.calls) {
-        println!("{:<14} {:8} calls", name, n);
+    for ((name, n), charged) in NAMES.iter().zip(tally.calls).zip(tally.charged) {
+        println!("{:<14} {:8} calls, {} answered with a charge", name, n, charged);
     }
-    let each: Vec<String> = (1..17).map(|n| format!("{}: {}", n, tally.refusals[n])).collect();
+    let each: Vec<String> = (1..18).map(|n| format!("{}: {}", n, tally.refusals[n])).collect();
     println!("refusals by number  {}", each.join("  "));
     let [horizon, late, fits] = tally.verdicts;
     println!("verdicts  horizon {}  late {}  fits {}; too close {}; passed over {}", horizon, late, fits, tally.too_close, tally.passed_over);
     println!("jumping runs  most stops {}; fewer than two stops for each release {}", tally.most_stops, tally.shared_stops);
+    println!("charges with which a call was answered: {}", tally.charges.len());
     println!("largest ready tick {}, finish {}; too many ticks to be ticked through {}", tally.last_ready, tally.last_finish, tally.not_ticked);
     println!("outside comparison: {} calls, {} differences", tally.calls.iter().sum::<u64>(), tally.differences);
     let stops = tally.most_stops == 2 * MAX_RELEASES as u64 && tally.shared_stops > 0;
     let ticks = (tally.last_ready, tally.last_finish) == (1_000_001_023_000_000, 1_000_001_024_000_001);
-    let missing = (1..17).any(|n| tally.refusals[n] == 0) || tally.verdicts.contains(&0) || !stops || !ticks;
+    // a load has no charge
+    let charges = tally.charges.len() == 255 && (0..10).all(|call| (tally.charged[call] > 0) != (call == 8));
+    let missing = (1..18).any(|n| tally.refusals[n] == 0) || tally.verdicts.contains(&0) || !stops || !ticks || !charges;
     if missing {
-        println!("some refusal, verdict, number of stops or largest tick never came up");
+        println!("some refusal, verdict, number of stops, largest tick or charge never came up");
     }
     std::process::exit(if tally.differences == 0 && !missing { 0 } else { 1 });
 }

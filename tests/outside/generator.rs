@@ -48,6 +48,9 @@ pub const EDGE_TICKS: [u64; 10] = [
 /// Ticks that a list may lie around: both sides of each are allowed, but for the last.
 pub const MIDDLE_TICKS: [u64; 6] = [MAX_SHORT_TICK, MAX_SHORT_TICK + 1, 1 << 32, 3 << 32, 1 << 49, MAX_TICK];
 
+/// Charges at the limits.
+pub const EDGE_CHARGES: [u8; 5] = [0, 1, 2, 254, 255];
+
 fn small_task(r: &mut Random) -> Task {
     let p = r.within(1, 24);
     let d = if r.once_in(3) { r.within(1, 24) } else { r.within(1, 80) };
@@ -73,6 +76,15 @@ pub fn sheet_for(r: &mut Random, tasks: usize) -> Sheet {
     Sheet::of(&all)
 }
 
+/// The same with this charge, and with periods and deadlines that hold it.
+pub fn roomy_sheet_for(r: &mut Random, tasks: usize, charge: u8) -> Sheet {
+    let mut sheet = sheet_for(r, tasks).charged(charge);
+    for t in sheet.tasks.iter_mut() {
+        *t = Task { p: t.p + charge as u32, d: t.d + charge as u32, ..*t };
+    }
+    sheet
+}
+
 /// Tasks whose costs add up to a chosen share of the processor; periods up to `top`.
 pub fn loaded_sheet(r: &mut Random, n: u32, top: u32) -> Sheet {
     let per_mille = r.within(200, 1_050) as u64;
@@ -86,6 +98,61 @@ pub fn loaded_sheet(r: &mut Random, n: u32, top: u32) -> Sheet {
         })
         .collect();
     Sheet::of(&tasks)
+}
+
+/// The largest charge that every task of a sound sheet holds.
+pub fn room(sheet: &Sheet) -> u8 {
+    sheet.tasks.iter().map(|t| t.p.min(t.d).saturating_sub(t.e)).min().unwrap_or(0).min(255) as u8
+}
+
+/// The sheet with some charge or none: at the limits, at the largest that every task holds and one over it, and any. Where the sheet is
+/// small most of these are refused with 17.
+pub fn with_charge(r: &mut Random, sheet: Sheet) -> Sheet {
+    let room = room(&sheet);
+    let charge = match r.within(0, 7) {
+        0..=2 => 0,
+        3 => r.of(&EDGE_CHARGES),
+        4 => room,
+        5 => room.saturating_add(1),
+        6 => r.within(0, room as u32) as u8,
+        _ => r.bits() as u8,
+    };
+    sheet.charged(charge)
+}
+
+/// The sheet with a charge that every task holds, and none where there is no room for one.
+pub fn with_fitting_charge(r: &mut Random, sheet: Sheet) -> Sheet {
+    let room = room(&sheet);
+    let charge = if r.once_in(2) { r.of(&[1, 2, 254, 255, room]).min(room) } else { r.within(0, room as u32) as u8 };
+    sheet.charged(charge)
+}
+
+/// A part of each cost taken for a charge: the sheet has the load that it had, and none is refused that was not.
+pub fn with_part_charged(r: &mut Random, sheet: Sheet) -> Sheet {
+    let most = sheet.tasks.iter().map(|t| t.e - 1).min().unwrap_or(0).min(255);
+    let charge = if r.once_in(3) { most } else { r.within(0, most) };
+    let tasks: Vec<Task> = sheet.tasks.iter().map(|t| Task { e: t.e - charge, ..*t }).collect();
+    Sheet::of(&tasks).charged(charge as u8)
+}
+
+/// The sheet with a charge in one of these ways, mostly one that is not refused.
+pub fn any_charge(r: &mut Random, sheet: Sheet) -> Sheet {
+    match r.within(0, 5) {
+        0 => with_charge(r, sheet),
+        1 | 2 => with_fitting_charge(r, sheet),
+        _ => with_part_charged(r, sheet),
+    }
+}
+
+/// The sheet without a charge in which each cost has it in it.
+pub fn charge_in_costs(sheet: &Sheet) -> Sheet {
+    let tasks: Vec<Task> = sheet.tasks.iter().map(|t| Task { e: t.e + sheet.charge as u32, ..*t }).collect();
+    Sheet::of(&tasks)
+}
+
+/// The same for releases.
+pub fn with_costs(list: &[Release], charge: u8) -> Vec<Release> {
+    list.iter().map(|x| Release { cost: x.cost + charge as u32, ..*x }).collect()
 }
 
 /// Each number a boundary value or a small one; most of these are refused.
@@ -115,13 +182,13 @@ pub fn numbers_of(sheet: &Sheet) -> Vec<u32> {
     sheet.tasks.iter().flat_map(|t| [t.p, t.j, t.e, t.d]).collect()
 }
 
-/// The sheet that a slice of numbers and a count give: numbers past the slice's end count as 0.
-pub fn sheet_of(numbers: &[u32], count: u32) -> Sheet {
+/// The sheet that a slice of numbers, a count and a charge give: numbers past the slice's end count as 0.
+pub fn sheet_of(numbers: &[u32], count: u32, charge: u8) -> Sheet {
     let at = |i: usize| numbers.get(i).copied().unwrap_or(0);
     let tasks = (0..count.min(32) as usize)
         .map(|i| Task { p: at(4 * i), j: at(4 * i + 1), e: at(4 * i + 2), d: at(4 * i + 3) })
         .collect();
-    Sheet { count: count as usize, tasks }
+    Sheet { count: count as usize, tasks, charge }
 }
 
 /// Kept jitters for each task of a sheet, from 0 to J.
@@ -207,24 +274,28 @@ pub fn damage_list(r: &mut Random, sheet: &Sheet, list: &mut [Release]) {
 }
 
 /// A sound file, with ticks from 0 on.
-pub fn file_for(r: &mut Random, tasks: usize, releases: usize) -> Vec<u8> {
-    let sheet = sheet_for(r, tasks);
+pub fn file_for(r: &mut Random, charge: u8, tasks: usize, releases: usize) -> Vec<u8> {
+    let sheet = roomy_sheet_for(r, tasks, charge);
     let list = list_for(r, &sheet, releases, 9);
-    encode(&sheet.tasks, &list)
+    encode(&sheet, &list)
 }
 
 /// A sound file with ticks around this one, or up to it where it is the limit.
-pub fn late_file_for(r: &mut Random, tasks: usize, releases: usize, tick: u64) -> Vec<u8> {
-    let sheet = sheet_for(r, tasks);
+pub fn late_file_for(r: &mut Random, charge: u8, tasks: usize, releases: usize, tick: u64) -> Vec<u8> {
+    let sheet = roomy_sheet_for(r, tasks, charge);
     let list = list_for(r, &sheet, releases, 9);
     let by = way_to(r, &list, tick);
-    encode(&sheet.tasks, &moved(&list, by))
+    encode(&sheet, &moved(&list, by))
 }
 
 /// Records in any order, with numbers at and beyond the limits.
 pub fn random_file(r: &mut Random) -> Vec<u8> {
     let mut file = Vec::new();
     let mut tick = if r.once_in(2) { 0 } else { r.of(&MIDDLE_TICKS) - 20 };
+    if r.once_in(2) {
+        let charge = if r.once_in(4) { r.of(&EDGE_CHARGES) } else { r.within(0, 4) as u8 };
+        file.extend_from_slice(&[5, charge]);
+    }
     for _ in 0..r.within(0, 12) {
         match r.within(0, 9) {
             0..=3 => {
@@ -248,8 +319,9 @@ pub fn random_file(r: &mut Random) -> Vec<u8> {
                 let cost = r.within(0, 3);
                 add_release(&mut file, if short { 2 } else { 4 }, Release { task, tick, cost });
             }
+            8 if r.once_in(3) => file.extend_from_slice(&[5, r.within(0, 3) as u8]),
             8 => file.push(3),
-            _ => file.push(r.within(0, 5) as u8),
+            _ => file.push(r.within(0, 6) as u8),
         }
     }
     if r.once_in(2) {
@@ -260,14 +332,20 @@ pub fn random_file(r: &mut Random) -> Vec<u8> {
 
 // ---- Lists of a chosen form --------------------------------------------------------------------------------------------
 
-/// Tasks of one period, below 978, and of any cost up to it. With full jitters kept nothing is held back in 1,024 releases, since
-/// 1,023 periods are below that jitter. With 0 kept, jobs of a task that are released together are ready P ticks apart.
-fn open_sheet(n: u32, p: u32) -> Sheet {
-    Sheet::of(&vec![Task { p, j: MAX_TIME, e: p, d: MAX_TIME }; n as usize])
+/// A charge for such lists: none in two of five cases.
+pub fn form_charge(r: &mut Random) -> u8 {
+    r.of(&[0, 0, 1, 3, 255])
+}
+
+/// Tasks of any cost up to e, and of one period that a job of cost e and the charge take whole, below 978. With full jitters kept
+/// nothing is held back in 1,024 releases, since 1,023 periods are below that jitter. With 0 kept, jobs of a task that are released
+/// together are ready P ticks apart.
+fn open_sheet(n: u32, e: u32, charge: u8) -> Sheet {
+    Sheet::of(&vec![Task { p: e + charge as u32, j: MAX_TIME, e, d: MAX_TIME }; n as usize]).charged(charge)
 }
 
 /// Bursts: many jobs at one tick, then a gap.
-fn bursts(r: &mut Random, n: usize) -> (Sheet, Vec<Release>) {
+fn bursts(r: &mut Random, n: usize, charge: u8) -> (Sheet, Vec<Release>) {
     let (tasks, p, gap) = (r.of(&[1, 3, 32]), r.of(&[8, 60, 500]), r.of(&[1, 10, 300, 4_000]));
     let mut tick = 0;
     let list = (0..n)
@@ -278,11 +356,11 @@ fn bursts(r: &mut Random, n: usize) -> (Sheet, Vec<Release>) {
             Release { task: r.within(0, tasks - 1), tick, cost: r.within(1, 8) }
         })
         .collect();
-    (open_sheet(tasks, p), list)
+    (open_sheet(tasks, p, charge), list)
 }
 
 /// Chains of preemption: from the lowest task up, each job is released while the one below it has work left.
-fn chains(r: &mut Random, n: usize) -> (Sheet, Vec<Release>) {
+fn chains(r: &mut Random, n: usize, charge: u8) -> (Sheet, Vec<Release>) {
     let (tasks, step, gap) = (r.of(&[2, 5, 32]), r.within(1, 3), r.of(&[1, 40, 3_000]));
     let mut tick = 0;
     let list = (0..n as u32)
@@ -293,66 +371,66 @@ fn chains(r: &mut Random, n: usize) -> (Sheet, Vec<Release>) {
             Release { task: tasks - 1 - k % tasks, tick, cost: r.within(step + 1, 9) }
         })
         .collect();
-    (open_sheet(tasks, 60), list)
+    (open_sheet(tasks, 60, charge), list)
 }
 
 /// Equal ready ticks of several tasks: all released at 0, so that the shapers give them ready ticks P apart, or task after task at
 /// multiples of P.
-fn equal_ticks(r: &mut Random, n: usize) -> (Sheet, Vec<Release>) {
+fn equal_ticks(r: &mut Random, n: usize, charge: u8) -> (Sheet, Vec<Release>) {
     let (tasks, p, at_once) = (r.of(&[2, 7, 32]), r.of(&[4, 30, 250]), r.once_in(2));
     let list = (0..n as u32)
         .map(|k| {
-            let tick = if at_once { 0 } else { k / tasks * p } as u64;
+            let tick = if at_once { 0 } else { k / tasks * (p + charge as u32) } as u64;
             Release { task: k % tasks, tick, cost: r.within(1, p.min(5)) }
         })
         .collect();
-    (open_sheet(tasks, p), list)
+    (open_sheet(tasks, p, charge), list)
 }
 
 /// Each job alone, with idle ticks before it: with full jitters kept every start and every finish is a tick of its own.
-fn jobs_apart(r: &mut Random, n: usize) -> (Sheet, Vec<Release>) {
+fn jobs_apart(r: &mut Random, n: usize, charge: u8) -> (Sheet, Vec<Release>) {
     let (tasks, p, gap) = (r.of(&[1, 4, 32]), r.of(&[3, 20]), r.of(&[1, 2, 50, 1_000]));
     let mut tick = r.within(0, gap) as u64;
     let list = (0..n)
         .map(|_| {
             let one = Release { task: r.within(0, tasks - 1), tick, cost: r.within(1, p) };
-            tick += (one.cost + r.within(1, gap)) as u64;
+            tick += (one.cost + charge as u32 + r.within(1, gap)) as u64;
             one
         })
         .collect();
-    (open_sheet(tasks, p), list)
+    (open_sheet(tasks, p, charge), list)
 }
 
 /// Jobs that start in the tick in which the one before is finished, some a tick sooner or later.
-fn jobs_touching(r: &mut Random, n: usize) -> (Sheet, Vec<Release>) {
+fn jobs_touching(r: &mut Random, n: usize, charge: u8) -> (Sheet, Vec<Release>) {
     let (tasks, p) = (r.of(&[1, 2, 32]), r.of(&[2, 9, 300]));
     let mut tick = r.within(0, 3) as u64;
     let list = (0..n)
         .map(|_| {
             let one = Release { task: r.within(0, tasks - 1), tick, cost: r.within(1, p) };
-            tick += (one.cost + r.of(&[1, 1, 1, 1, 0, 2]) - 1) as u64;
+            tick += (one.cost + charge as u32 + r.of(&[1, 1, 1, 1, 0, 2]) - 1) as u64;
             one
         })
         .collect();
-    (open_sheet(tasks, p), list)
+    (open_sheet(tasks, p, charge), list)
 }
 
 /// Up to 40 jobs, each of which starts at a finish that the list has without it, a tick sooner or a tick later.
-fn jobs_meeting(r: &mut Random, n: usize) -> (Sheet, Vec<Release>) {
+fn jobs_meeting(r: &mut Random, n: usize, charge: u8) -> (Sheet, Vec<Release>) {
     let (tasks, p) = (r.of(&[2, 3, 8]), r.of(&[4, 15]));
     let mut list = vec![Release { task: tasks - 1, tick: 0, cost: r.within(1, p) }];
     while list.len() < n.min(40) {
         let ready: Vec<i64> = list.iter().map(|x| x.tick as i64).collect();
-        let finish = r.of(&finish_ticks_by_job(&list, &ready)) as u64;
+        let finish = r.of(&finish_ticks_by_job(charge, &list, &ready)) as u64;
         let before = list[list.len() - 1].tick;
         let tick = (finish + r.of(&[1, 1, 0, 2]) - 2).max(before);
         list.push(Release { task: r.within(0, tasks - 1), tick, cost: r.within(1, p) });
     }
-    (open_sheet(tasks, p), list)
+    (open_sheet(tasks, p, charge), list)
 }
 
-/// A sheet and n releases, or up to 40 where so stated, of each form.
-pub const FORMS: [fn(&mut Random, usize) -> (Sheet, Vec<Release>); 6] =
+/// A sheet with this charge and n releases, or up to 40 where so stated, of each form.
+pub const FORMS: [fn(&mut Random, usize, u8) -> (Sheet, Vec<Release>); 6] =
     [bursts, chains, equal_ticks, jobs_apart, jobs_touching, jobs_meeting];
 
 /// A list with ticks that mostly rise by a little and now and then by much, up to the limit.

@@ -1,6 +1,6 @@
 /*
- * The constants of include/nolkrada.h: the limits of documents 01 and 02, the sizes of files and texts, the largest finish and the
- * most stops of a run, and each refusal by its name, got from the archive.
+ * The constants of include/nolkrada.h: the limits of documents 01 and 02, the sizes of files and texts, the largest charge, the
+ * largest finish and the most stops of a run, and each refusal by its name, got from the archive.
  */
 #include <stdio.h>
 #include <string.h>
@@ -20,9 +20,11 @@ SAME(NOLKRADA_MAX_SHORT_TICK, 1000000000);
 SAME(sizeof NOLKRADA_MAX_SHORT_TICK, 8);
 /* Released at the last tick, and each job runs from the tick after. */
 SAME(NOLKRADA_MAX_FINISH, NOLKRADA_MAX_TICK + NOLKRADA_PICKUP + UINT64_C(1000000) * NOLKRADA_MAX_RELEASES);
-SAME(NOLKRADA_MAX_FILE, 17 * NOLKRADA_MAX_TASKS + 14 * NOLKRADA_MAX_RELEASES + 1);
+/* A charge has one byte. */
+SAME(NOLKRADA_MAX_CHARGE, UINT8_MAX);
+SAME(NOLKRADA_MAX_FILE, 2 + 17 * NOLKRADA_MAX_TASKS + 14 * NOLKRADA_MAX_RELEASES + 1);
 /* One more record after the last that is allowed, a task: the longest. */
-SAME(NOLKRADA_READ_BYTES, 17 * NOLKRADA_MAX_TASKS + 14 * NOLKRADA_MAX_RELEASES + 17);
+SAME(NOLKRADA_READ_BYTES, 2 + 17 * NOLKRADA_MAX_TASKS + 14 * NOLKRADA_MAX_RELEASES + 17);
 /* Four numbers of up to 7 digits, three commas and a line feed in a line. */
 SAME(NOLKRADA_MAX_TEXT, NOLKRADA_MAX_TASKS * (4 * 7 + 3 + 1));
 
@@ -36,6 +38,8 @@ static const uint32_t unfit[] = {2, 1, 1, 2, 2, 0, 2, 2};
 
 static uint32_t sheet[NOLKRADA_SHEET_NUMBERS], task[NOLKRADA_MAX_RELEASES], cost[NOLKRADA_MAX_RELEASES];
 static uint64_t tick[NOLKRADA_MAX_RELEASES], answer[3];
+/* The charge of the sheet that is written. */
+static uint8_t charge;
 static int wrong;
 
 static void expect(const char *name, uint64_t code, uint32_t number, uint32_t place) {
@@ -56,41 +60,49 @@ static uint64_t load_bytes(const char *text, size_t length) {
 static uint64_t load(const char *text) { return load_bytes(text, strlen(text)); }
 
 static uint64_t write_bytes(uint8_t *file, size_t length) {
-    return nolkrada_write(sheet, NOLKRADA_SHEET_NUMBERS, NOLKRADA_MAX_TASKS, NOLKRADA_MAX_RELEASES, task, NOLKRADA_MAX_RELEASES, tick,
-                          NOLKRADA_MAX_RELEASES, cost, NOLKRADA_MAX_RELEASES, file, length, answer, 1);
+    return nolkrada_write(sheet, NOLKRADA_SHEET_NUMBERS, NOLKRADA_MAX_TASKS, charge, NOLKRADA_MAX_RELEASES, task,
+                          NOLKRADA_MAX_RELEASES, tick, NOLKRADA_MAX_RELEASES, cost, NOLKRADA_MAX_RELEASES, file, length, answer, 1);
 }
 
-/* The largest file, then one more byte, release or task. */
+/* The largest file, with the largest charge, then one more byte, release or task. */
 static void sizes(void) {
     static uint8_t file[NOLKRADA_READ_BYTES];
     const size_t end = NOLKRADA_MAX_FILE - 1;
-    for (uint32_t i = 0; i < NOLKRADA_SHEET_NUMBERS; i++) sheet[i] = 1;
+    charge = NOLKRADA_MAX_CHARGE;
+    for (uint32_t i = 0; i < NOLKRADA_SHEET_NUMBERS; i++) sheet[i] = i % 4 == 2 ? 1 : 1 + NOLKRADA_MAX_CHARGE;
     for (uint32_t n = 0; n < NOLKRADA_MAX_RELEASES; n++) task[n] = 0, tick[n] = NOLKRADA_MAX_SHORT_TICK + 1 + n, cost[n] = 1;
     expect("write of the largest file, a byte too few", write_bytes(file, end), NOLKRADA_REFUSED_SHORT_ARRAY, NOLKRADA_MAX_FILE);
     expect("write of the largest file", write_bytes(file, NOLKRADA_MAX_FILE), 0, 0);
     if (answer[0] != NOLKRADA_MAX_FILE) wrong = 1;
     expect("read of the largest file", read_bytes(file, NOLKRADA_MAX_FILE), 0, 0);
+    if (file[0] != 5 || file[1] != NOLKRADA_MAX_CHARGE) wrong = 1;
+    if (answer[0] != NOLKRADA_MAX_TASKS || answer[1] != NOLKRADA_MAX_RELEASES || answer[2] != NOLKRADA_MAX_CHARGE) wrong = 1;
     if (tick[NOLKRADA_MAX_RELEASES - 1] != NOLKRADA_MAX_SHORT_TICK + NOLKRADA_MAX_RELEASES) wrong = 1;
     /* The byte that a buffer of the largest file misses. */
     expect("one more byte", read_bytes(file, NOLKRADA_MAX_FILE + 1), NOLKRADA_REFUSED_BYTE_AFTER_END, NOLKRADA_MAX_FILE);
     memcpy(file + end, file + end - 14, 14);
     expect("one more release", read_bytes(file, end + 14), NOLKRADA_REFUSED_TOO_MANY_RELEASES, end);
-    memcpy(file + end, file, 17);
+    memcpy(file + end, file, 2);
+    expect("one more charge", read_bytes(file, end + 2), NOLKRADA_REFUSED_TASK_AFTER_RELEASE, end);
+    memcpy(file + end, file + 2, 17);
     expect("one more task", read_bytes(file, NOLKRADA_READ_BYTES), NOLKRADA_REFUSED_TASK_AFTER_RELEASE, end);
     expect("one more task, cut", read_bytes(file, NOLKRADA_READ_BYTES - 1), NOLKRADA_REFUSED_CUT, end);
 }
 
-/* The largest file with short ticks, the largest of them at the end: four bytes less for each release. Then one long tick at the
- * end, and in the first release a tick that is one too large for kind 2, and one too small for kind 4. */
+/* The largest file with short ticks and without a charge, the largest tick at the end: two bytes less, and four less for each
+ * release. Then one long tick at the end, and in the first release a tick that is one too large for kind 2, and one too small for
+ * kind 4. */
 static void short_sizes(void) {
     static const uint8_t large[] = {2, 0, 0x01, 0xca, 0x9a, 0x3b, 1, 0, 0, 0};
     static const uint8_t small[] = {4, 0, 0x00, 0xca, 0x9a, 0x3b, 0, 0, 0, 0, 1, 0, 0, 0};
     static uint8_t file[NOLKRADA_MAX_FILE];
-    const size_t all = NOLKRADA_MAX_FILE - 4 * NOLKRADA_MAX_RELEASES, first = 17 * NOLKRADA_MAX_TASKS;
+    const size_t all = NOLKRADA_MAX_FILE - 2 - 4 * NOLKRADA_MAX_RELEASES, first = 17 * NOLKRADA_MAX_TASKS;
+    charge = 0;
     for (uint32_t n = 0; n < NOLKRADA_MAX_RELEASES; n++) tick[n] = NOLKRADA_MAX_SHORT_TICK + 1 - NOLKRADA_MAX_RELEASES + n;
     expect("write of short ticks", write_bytes(file, all), 0, 0);
     if (answer[0] != all || file[first] != 2) wrong = 1;
     expect("read of short ticks", read_bytes(file, all), 0, 0);
+    if (file[0] != 1 || answer[2] != 0) wrong = 1;
     if (tick[0] != NOLKRADA_MAX_SHORT_TICK + 1 - NOLKRADA_MAX_RELEASES) wrong = 1;
     tick[NOLKRADA_MAX_RELEASES - 1] = NOLKRADA_MAX_SHORT_TICK + 1;
     expect("write of one long tick", write_bytes(file, all), NOLKRADA_REFUSED_SHORT_ARRAY, (uint32_t)all + 4);
@@ -128,23 +140,23 @@ static void refusals(void) {
     expect("kind", read_bytes(kind, 1), NOLKRADA_REFUSED_KIND, 0);
     expect("cut", read_bytes(cut, 2), NOLKRADA_REFUSED_CUT, 0);
     expect("end alone", read_bytes(alone, 1), NOLKRADA_REFUSED_NO_TASK, 0);
-    expect("too many tasks", nolkrada_choice(printed, n, 33, kept, 3, worst, 3), NOLKRADA_REFUSED_TOO_MANY_TASKS, 32);
-    expect("no task", nolkrada_choice(printed, n, 0, kept, 3, worst, 3), NOLKRADA_REFUSED_NO_TASK, 0);
-    expect("range", nolkrada_choice(printed, n, 4, kept, 3, worst, 3), NOLKRADA_REFUSED_RANGE, 3);
-    expect("task of a release", nolkrada_trace_check(printed, n, 3, 1, five, 3, at_0, 3, one, 3, answer, 3),
+    expect("too many tasks", nolkrada_choice(printed, n, 33, 0, kept, 3, worst, 3), NOLKRADA_REFUSED_TOO_MANY_TASKS, 32);
+    expect("no task", nolkrada_choice(printed, n, 0, 0, kept, 3, worst, 3), NOLKRADA_REFUSED_NO_TASK, 0);
+    expect("range", nolkrada_choice(printed, n, 4, 0, kept, 3, worst, 3), NOLKRADA_REFUSED_RANGE, 3);
+    expect("task of a release", nolkrada_trace_check(printed, n, 3, 0, 1, five, 3, at_0, 3, one, 3, answer, 3),
            NOLKRADA_REFUSED_RELEASE_TASK, 0);
-    expect("tick of a release", nolkrada_trace_check(printed, n, 3, 2, one, 3, falling, 2, one, 3, answer, 3),
+    expect("tick of a release", nolkrada_trace_check(printed, n, 3, 0, 2, one, 3, falling, 2, one, 3, answer, 3),
            NOLKRADA_REFUSED_RELEASE_TICK, 1);
-    expect("tick over the limit", nolkrada_trace_check(printed, n, 3, 1, one, 3, over, 1, one, 3, answer, 3),
+    expect("tick over the limit", nolkrada_trace_check(printed, n, 3, 0, 1, one, 3, over, 1, one, 3, answer, 3),
            NOLKRADA_REFUSED_RELEASE_TICK, 0);
-    expect("cost of a release", nolkrada_trace_check(printed, n, 3, 1, one, 3, at_0, 3, five, 3, answer, 3),
+    expect("cost of a release", nolkrada_trace_check(printed, n, 3, 0, 1, one, 3, at_0, 3, five, 3, answer, 3),
            NOLKRADA_REFUSED_RELEASE_COST, 0);
-    expect("too many releases", nolkrada_trace_check(printed, n, 3, 1025, one, 3, at_0, 3, one, 3, answer, 3),
+    expect("too many releases", nolkrada_trace_check(printed, n, 3, 0, 1025, one, 3, at_0, 3, one, 3, answer, 3),
            NOLKRADA_REFUSED_TOO_MANY_RELEASES, 1024);
-    expect("kept", nolkrada_verdict(printed, n, 3, 0, five, 3, answer, 3), NOLKRADA_REFUSED_KEPT, 2);
-    expect("short array", nolkrada_choice(printed, n, 3, kept, 2, worst, 3), NOLKRADA_REFUSED_SHORT_ARRAY, 3);
-    expect("no such task", nolkrada_verdict(printed, n, 3, 3, zero, 3, answer, 3), NOLKRADA_REFUSED_NO_SUCH_TASK, 3);
-    expect("unfit", nolkrada_choice(unfit, 8, 2, kept, 3, worst, 3), NOLKRADA_REFUSED_UNFIT, 1);
+    expect("kept", nolkrada_verdict(printed, n, 3, 0, 0, five, 3, answer, 3), NOLKRADA_REFUSED_KEPT, 2);
+    expect("short array", nolkrada_choice(printed, n, 3, 0, kept, 2, worst, 3), NOLKRADA_REFUSED_SHORT_ARRAY, 3);
+    expect("no such task", nolkrada_verdict(printed, n, 3, 0, 3, zero, 3, answer, 3), NOLKRADA_REFUSED_NO_SUCH_TASK, 3);
+    expect("unfit", nolkrada_choice(unfit, 8, 2, 0, kept, 3, worst, 3), NOLKRADA_REFUSED_UNFIT, 1);
     expect("line", load("6,5,2,6\n8,7,2,8\r\n"), NOLKRADA_REFUSED_LINE, 1);
     expect("line before range", load("0,5,2,6 \n"), NOLKRADA_REFUSED_LINE, 0);
     expect("range in a line", load("6,5,2,6\n8,7,2,8\n8,7,20000000000000000000000002,8\n"), NOLKRADA_REFUSED_RANGE, 2);
@@ -156,12 +168,60 @@ static void refusals(void) {
 /* The verdicts of the printed sheet's second task, and of a task under a full load. */
 static void verdicts(void) {
     static const uint32_t busy[] = {1, 0, 1, 1, 1, 0, 1, 1}, kept[3] = {1, 4, 0}, less[3] = {1, 3, 0};
-    expect("fits", nolkrada_verdict(printed, 12, 3, 1, kept, 3, answer, 3), 0, 0);
+    expect("fits", nolkrada_verdict(printed, 12, 3, 0, 1, kept, 3, answer, 3), 0, 0);
     if (answer[0] != NOLKRADA_FITS || answer[2] != 8) wrong = 1;
-    expect("late", nolkrada_verdict(printed, 12, 3, 1, less, 3, answer, 3), 0, 0);
+    expect("late", nolkrada_verdict(printed, 12, 3, 0, 1, less, 3, answer, 3), 0, 0);
     if (answer[0] != NOLKRADA_LATE || answer[2] != 9) wrong = 1;
-    expect("horizon", nolkrada_verdict(busy, 8, 2, 1, (const uint32_t[]){0, 0}, 2, answer, 3), 0, 0);
+    expect("horizon", nolkrada_verdict(busy, 8, 2, 0, 1, (const uint32_t[]){0, 0}, 2, answer, 3), 0, 0);
     if (answer[0] != NOLKRADA_HORIZON || answer[1] != 0 || answer[2] != 0) wrong = 1;
+}
+
+/* The charge: in every call that takes a sheet 17 where a task holds no more than 4, and answers with 4; a release with a cost over E
+ * although E and the charge hold it; the records of a file; and a charge that a caller cuts. */
+static void charges(void) {
+    static const uint8_t cut[] = {5}, none[] = {5, 0}, twice[] = {5, 1, 5, 1}, first[] = {5, 1, 3};
+    static const uint32_t zero[1], two[1] = {2}, three[1] = {3}, loose[3] = {5, 7, 0};
+    static const uint64_t at_0[1];
+    const unsigned wide = 256 + 4;
+    const size_t n = sizeof printed / sizeof printed[0];
+    uint32_t kept[3], worst[3];
+    uint64_t ready[1], finish[1];
+    uint8_t file[2 + 17 * 3 + 10 + 1];
+    for (uint32_t s = 4; s <= 5; s++) {
+        const uint8_t c = (uint8_t)s;
+        const uint32_t number = s == 5 ? NOLKRADA_REFUSED_CHARGE : 0;
+        expect("charge, arrival count", nolkrada_arrival_count(printed, n, 3, c, 0, loose, 3, 8, answer, 1), number, 0);
+        expect("charge, verdict", nolkrada_verdict(printed, n, 3, c, 0, loose, 3, answer, 3), number, 0);
+        expect("charge, choice", nolkrada_choice(printed, n, 3, c, kept, 3, worst, 3), s == 5 ? number : NOLKRADA_REFUSED_UNFIT, 0);
+        expect("charge, trace check", nolkrada_trace_check(printed, n, 3, c, 1, zero, 1, at_0, 1, two, 1, answer, 2), number, 0);
+        expect("charge, ready", nolkrada_ready(printed, n, 3, c, loose, 3, 1, zero, 1, at_0, 1, two, 1, ready, 1), number, 0);
+        expect("charge, run", nolkrada_run(printed, n, 3, c, loose, 3, 1, zero, 1, at_0, 1, two, 1, ready, 1, finish, 1), number, 0);
+        if (finish[0] != NOLKRADA_PICKUP + 2 + 4) wrong = 1;
+        expect("charge, jump", nolkrada_jump(printed, n, 3, c, loose, 3, 1, zero, 1, at_0, 1, two, 1, ready, 1, finish, 1, answer, 1),
+               number, 0);
+        if (finish[0] != NOLKRADA_PICKUP + 2 + 4) wrong = 1;
+        expect("charge, write", nolkrada_write(printed, n, 3, c, 1, zero, 1, at_0, 1, two, 1, file, sizeof file, answer, 1), number, 0);
+    }
+    if (answer[0] != sizeof file || file[0] != 5 || file[1] != 4) wrong = 1;
+    expect("charge, read", read_bytes(file, sizeof file), 0, 0);
+    if (answer[0] != 3 || answer[1] != 1 || answer[2] != 4) wrong = 1;
+    expect("charge, short answer",
+           nolkrada_read(file, sizeof file, sheet, NOLKRADA_SHEET_NUMBERS, task, 1, tick, 1, cost, 1, answer, 2),
+           NOLKRADA_REFUSED_SHORT_ARRAY, 3);
+    file[1] = 5;
+    expect("charge over a task's room in a file", read_bytes(file, sizeof file), NOLKRADA_REFUSED_CHARGE, 2);
+    file[1] = 0;
+    expect("charge 0 in a file", read_bytes(file, sizeof file), NOLKRADA_REFUSED_RANGE, 0);
+    expect("charge 0, nothing after it", read_bytes(none, 2), NOLKRADA_REFUSED_RANGE, 0);
+    expect("charge that is cut", read_bytes(cut, 1), NOLKRADA_REFUSED_CUT, 0);
+    expect("second charge", read_bytes(twice, 4), NOLKRADA_REFUSED_TASK_AFTER_RELEASE, 2);
+    expect("charge alone", read_bytes(first, 3), NOLKRADA_REFUSED_NO_TASK, 2);
+    expect("cost over E with a charge", nolkrada_trace_check(printed, n, 3, 4, 1, zero, 1, at_0, 1, three, 1, answer, 2),
+           NOLKRADA_REFUSED_RELEASE_COST, 0);
+    /* 256 + 4 is cut to 4. */
+    expect("charge over 255",
+           nolkrada_write(printed, n, 3, (uint8_t)wide, 1, zero, 1, at_0, 1, two, 1, file, sizeof file, answer, 1), 0, 0);
+    if (file[1] != 4) wrong = 1;
 }
 
 /* A job that is alone may run NOLKRADA_PICKUP ticks after its ready tick, and is finished when it has run for its cost. */
@@ -169,39 +229,60 @@ static void runs(void) {
     static const uint32_t zero[1], two[1] = {2}, kept[3] = {2, 4, 0};
     static const uint64_t three[1] = {3};
     uint64_t ready[1], finish[1];
-    expect("run", nolkrada_run(printed, 12, 3, kept, 3, 1, zero, 1, three, 1, two, 1, ready, 1, finish, 1), 0, 0);
+    expect("run", nolkrada_run(printed, 12, 3, 0, kept, 3, 1, zero, 1, three, 1, two, 1, ready, 1, finish, 1), 0, 0);
     if (ready[0] != 3 || finish[0] != 3 + NOLKRADA_PICKUP + 2) wrong = 1;
 }
 
 /* The run that jumps: of one job the same and two stops; of none no stop; of two, at tick 0 and at the last tick allowed, four; as
  * many as the header says of the longest list with idle ticks between the jobs; and the largest finish, of 1,024 jobs of the largest
- * cost at the last tick allowed. Refused without a slot for the stops. */
+ * cost at the last tick allowed, and of the largest charge and the rest of that cost. Refused without a slot for the stops. */
 static void jumps(void) {
     static const uint32_t zero[2], two[2] = {2, 2}, kept[3] = {2, 4, 0}, alone[4] = {1, 0, 1, 1};
-    static const uint32_t longest[4] = {1000000, 0, 1000000, 1000000};
+    static const uint32_t longest[4] = {1000000, 0, 1000000, 1000000}, charged[4] = {1000000, 0, 999745, 1000000};
     static const uint64_t three[1] = {3}, far[2] = {0, NOLKRADA_MAX_TICK};
     static uint64_t ready[NOLKRADA_MAX_RELEASES], finish[NOLKRADA_MAX_RELEASES];
     const size_t all = NOLKRADA_MAX_RELEASES;
-    expect("jump", nolkrada_jump(printed, 12, 3, kept, 3, 1, zero, 1, three, 1, two, 1, ready, 1, finish, 1, answer, 1), 0, 0);
+    expect("jump", nolkrada_jump(printed, 12, 3, 0, kept, 3, 1, zero, 1, three, 1, two, 1, ready, 1, finish, 1, answer, 1), 0, 0);
     if (ready[0] != 3 || finish[0] != 3 + NOLKRADA_PICKUP + 2 || answer[0] != 2) wrong = 1;
     expect("jump of no release",
-           nolkrada_jump(printed, 12, 3, kept, 3, 0, zero, 0, three, 0, two, 0, ready, 0, finish, 0, answer, 1), 0, 0);
+           nolkrada_jump(printed, 12, 3, 0, kept, 3, 0, zero, 0, three, 0, two, 0, ready, 0, finish, 0, answer, 1), 0, 0);
     if (answer[0] != 0) wrong = 1;
     expect("jump to the last tick allowed",
-           nolkrada_jump(printed, 12, 3, kept, 3, 2, zero, 2, far, 2, two, 2, ready, 2, finish, 2, answer, 1), 0, 0);
+           nolkrada_jump(printed, 12, 3, 0, kept, 3, 2, zero, 2, far, 2, two, 2, ready, 2, finish, 2, answer, 1), 0, 0);
     if (ready[0] != 0 || finish[0] != 3 || ready[1] != NOLKRADA_MAX_TICK || finish[1] != NOLKRADA_MAX_TICK + 3) wrong = 1;
     if (answer[0] != 4) wrong = 1;
     for (uint32_t n = 0; n < all; n++) task[n] = 0, tick[n] = 2 * n, cost[n] = 1;
     expect("most stops",
-           nolkrada_jump(alone, 4, 1, zero, 1, all, task, all, tick, all, cost, all, ready, all, finish, all, answer, 1), 0, 0);
+           nolkrada_jump(alone, 4, 1, 0, zero, 1, all, task, all, tick, all, cost, all, ready, all, finish, all, answer, 1), 0, 0);
     if (answer[0] != NOLKRADA_MAX_STOPS) wrong = 1;
     for (uint32_t n = 0; n < all; n++) tick[n] = NOLKRADA_MAX_TICK, cost[n] = 1000000;
     expect("largest finish",
-           nolkrada_jump(longest, 4, 1, zero, 1, all, task, all, tick, all, cost, all, ready, all, finish, all, answer, 1), 0, 0);
+           nolkrada_jump(longest, 4, 1, 0, zero, 1, all, task, all, tick, all, cost, all, ready, all, finish, all, answer, 1), 0, 0);
+    if (finish[all - 1] != NOLKRADA_MAX_FINISH || finish[0] != NOLKRADA_MAX_TICK + 1000001) wrong = 1;
+    for (uint32_t n = 0; n < all; n++) cost[n] = 1000000 - NOLKRADA_MAX_CHARGE;
+    expect("largest finish with the largest charge",
+           nolkrada_jump(charged, 4, 1, NOLKRADA_MAX_CHARGE, zero, 1, all, task, all, tick, all, cost, all, ready, all, finish, all,
+                         answer, 1),
+           0, 0);
     if (finish[all - 1] != NOLKRADA_MAX_FINISH || finish[0] != NOLKRADA_MAX_TICK + 1000001) wrong = 1;
     expect("no slot for the stops",
-           nolkrada_jump(printed, 12, 3, kept, 3, 1, zero, 1, three, 1, two, 1, ready, 1, finish, 1, answer, 0),
+           nolkrada_jump(printed, 12, 3, 0, kept, 3, 1, zero, 1, three, 1, two, 1, ready, 1, finish, 1, answer, 0),
            NOLKRADA_REFUSED_SHORT_ARRAY, 1);
+}
+
+/* The calling convention leaves open what stands above the byte of a charge in its register: the archive looks at the byte alone. */
+typedef uint64_t (*whole_register)(const uint32_t *, size_t, uint32_t, uint32_t, uint32_t, const uint32_t *, size_t, uint64_t *,
+                                   size_t);
+
+static void upper_bits(void) {
+    static const uint32_t none[3] = {0, 0, 0};
+    uint64_t other[3];
+    whole_register verdict = (whole_register)(void (*)(void))nolkrada_verdict;
+    for (uint32_t c = 0; c < 6; c++) {
+        uint64_t code = nolkrada_verdict(printed, 12, 3, (uint8_t)c, 1, none, 3, answer, 3);
+        if (verdict(printed, 12, 3, UINT32_C(0xabcdef00) + c, 1, none, 3, other, 3) != code) wrong = 1;
+        if (code == 0 && memcmp(answer, other, sizeof other) != 0) wrong = 1;
+    }
 }
 
 int main(void) {
@@ -211,9 +292,11 @@ int main(void) {
     text_sizes();
     refusals();
     verdicts();
+    charges();
+    upper_bits();
     runs();
     jumps();
     puts(wrong ? "header: something is not as it says"
-               : "header: limits, sizes, refusals, verdicts, pickup, largest finish and stops as it says");
+               : "header: limits, sizes, refusals, verdicts, charge, pickup, largest finish and stops as it says");
     return wrong;
 }

@@ -2,33 +2,33 @@
 
 extern "C" {
     fn nolkrada_arrival_count(
-        sheet: *const u32, sheet_length: usize, count: u32, task: u32, kept: *const u32, kept_length: usize, t: u32,
+        sheet: *const u32, sheet_length: usize, count: u32, charge: u8, task: u32, kept: *const u32, kept_length: usize, t: u32,
         answer: *mut u64, answer_length: usize,
     ) -> u64;
     fn nolkrada_verdict(
-        sheet: *const u32, sheet_length: usize, count: u32, task: u32, kept: *const u32, kept_length: usize,
+        sheet: *const u32, sheet_length: usize, count: u32, charge: u8, task: u32, kept: *const u32, kept_length: usize,
         answer: *mut u64, answer_length: usize,
     ) -> u64;
     fn nolkrada_choice(
-        sheet: *const u32, sheet_length: usize, count: u32, kept: *mut u32, kept_length: usize,
+        sheet: *const u32, sheet_length: usize, count: u32, charge: u8, kept: *mut u32, kept_length: usize,
         worst: *mut u32, worst_length: usize,
     ) -> u64;
     fn nolkrada_trace_check(
-        sheet: *const u32, sheet_length: usize, count: u32, n: u32, task: *const u32, task_length: usize,
+        sheet: *const u32, sheet_length: usize, count: u32, charge: u8, n: u32, task: *const u32, task_length: usize,
         tick: *const u64, tick_length: usize, cost: *const u32, cost_length: usize, answer: *mut u64, answer_length: usize,
     ) -> u64;
     fn nolkrada_ready(
-        sheet: *const u32, sheet_length: usize, count: u32, kept: *const u32, kept_length: usize, n: u32,
+        sheet: *const u32, sheet_length: usize, count: u32, charge: u8, kept: *const u32, kept_length: usize, n: u32,
         task: *const u32, task_length: usize, tick: *const u64, tick_length: usize, cost: *const u32, cost_length: usize,
         ready: *mut u64, ready_length: usize,
     ) -> u64;
     fn nolkrada_run(
-        sheet: *const u32, sheet_length: usize, count: u32, kept: *const u32, kept_length: usize, n: u32,
+        sheet: *const u32, sheet_length: usize, count: u32, charge: u8, kept: *const u32, kept_length: usize, n: u32,
         task: *const u32, task_length: usize, tick: *const u64, tick_length: usize, cost: *const u32, cost_length: usize,
         ready: *mut u64, ready_length: usize, finish: *mut u64, finish_length: usize,
     ) -> u64;
     fn nolkrada_jump(
-        sheet: *const u32, sheet_length: usize, count: u32, kept: *const u32, kept_length: usize, n: u32,
+        sheet: *const u32, sheet_length: usize, count: u32, charge: u8, kept: *const u32, kept_length: usize, n: u32,
         task: *const u32, task_length: usize, tick: *const u64, tick_length: usize, cost: *const u32, cost_length: usize,
         ready: *mut u64, ready_length: usize, finish: *mut u64, finish_length: usize, answer: *mut u64, answer_length: usize,
     ) -> u64;
@@ -37,7 +37,7 @@ extern "C" {
         tick: *mut u64, tick_length: usize, cost: *mut u32, cost_length: usize, answer: *mut u64, answer_length: usize,
     ) -> u64;
     fn nolkrada_write(
-        sheet: *const u32, sheet_length: usize, count: u32, n: u32, task: *const u32, task_length: usize,
+        sheet: *const u32, sheet_length: usize, count: u32, charge: u8, n: u32, task: *const u32, task_length: usize,
         tick: *const u64, tick_length: usize, cost: *const u32, cost_length: usize, out: *mut u8, out_length: usize,
         answer: *mut u64, answer_length: usize,
     ) -> u64;
@@ -54,52 +54,54 @@ pub struct Columns<'a> {
     pub cost: &'a [u32],
 }
 
-pub fn arrival_count(sheet: &[u32], count: u32, task: u32, kept: &[u32], t: u32, answer: &mut [u64]) -> u64 {
+pub fn arrival_count(sheet: &[u32], count: u32, charge: u8, task: u32, kept: &[u32], t: u32, answer: &mut [u64]) -> u64 {
     unsafe {
         nolkrada_arrival_count(
-            sheet.as_ptr(), sheet.len(), count, task, kept.as_ptr(), kept.len(), t, answer.as_mut_ptr(), answer.len(),
+            sheet.as_ptr(), sheet.len(), count, charge, task, kept.as_ptr(), kept.len(), t, answer.as_mut_ptr(), answer.len(),
         )
     }
 }
 
-pub fn verdict(sheet: &[u32], count: u32, task: u32, kept: &[u32], answer: &mut [u64]) -> u64 {
+pub fn verdict(sheet: &[u32], count: u32, charge: u8, task: u32, kept: &[u32], answer: &mut [u64]) -> u64 {
     unsafe {
         nolkrada_verdict(
-            sheet.as_ptr(), sheet.len(), count, task, kept.as_ptr(), kept.len(), answer.as_mut_ptr(), answer.len(),
+            sheet.as_ptr(), sheet.len(), count, charge, task, kept.as_ptr(), kept.len(), answer.as_mut_ptr(), answer.len(),
         )
     }
 }
 
-pub fn choice(sheet: &[u32], count: u32, kept: &mut [u32], worst: &mut [u32]) -> u64 {
+pub fn choice(sheet: &[u32], count: u32, charge: u8, kept: &mut [u32], worst: &mut [u32]) -> u64 {
     unsafe {
         nolkrada_choice(
-            sheet.as_ptr(), sheet.len(), count, kept.as_mut_ptr(), kept.len(), worst.as_mut_ptr(), worst.len(),
+            sheet.as_ptr(), sheet.len(), count, charge, kept.as_mut_ptr(), kept.len(), worst.as_mut_ptr(), worst.len(),
         )
     }
 }
 
-pub fn trace_check(sheet: &[u32], count: u32, n: u32, list: Columns, answer: &mut [u64]) -> u64 {
+pub fn trace_check(sheet: &[u32], count: u32, charge: u8, n: u32, list: Columns, answer: &mut [u64]) -> u64 {
     unsafe {
         nolkrada_trace_check(
-            sheet.as_ptr(), sheet.len(), count, n, list.task.as_ptr(), list.task.len(), list.tick.as_ptr(), list.tick.len(),
-            list.cost.as_ptr(), list.cost.len(), answer.as_mut_ptr(), answer.len(),
+            sheet.as_ptr(), sheet.len(), count, charge, n, list.task.as_ptr(), list.task.len(), list.tick.as_ptr(),
+            list.tick.len(), list.cost.as_ptr(), list.cost.len(), answer.as_mut_ptr(), answer.len(),
         )
     }
 }
 
-pub fn ready(sheet: &[u32], count: u32, kept: &[u32], n: u32, list: Columns, ready: &mut [u64]) -> u64 {
+pub fn ready(sheet: &[u32], count: u32, charge: u8, kept: &[u32], n: u32, list: Columns, ready: &mut [u64]) -> u64 {
     unsafe {
         nolkrada_ready(
-            sheet.as_ptr(), sheet.len(), count, kept.as_ptr(), kept.len(), n, list.task.as_ptr(), list.task.len(),
+            sheet.as_ptr(), sheet.len(), count, charge, kept.as_ptr(), kept.len(), n, list.task.as_ptr(), list.task.len(),
             list.tick.as_ptr(), list.tick.len(), list.cost.as_ptr(), list.cost.len(), ready.as_mut_ptr(), ready.len(),
         )
     }
 }
 
-pub fn run(sheet: &[u32], count: u32, kept: &[u32], n: u32, list: Columns, ready: &mut [u64], finish: &mut [u64]) -> u64 {
+pub fn run(
+    sheet: &[u32], count: u32, charge: u8, kept: &[u32], n: u32, list: Columns, ready: &mut [u64], finish: &mut [u64],
+) -> u64 {
     unsafe {
         nolkrada_run(
-            sheet.as_ptr(), sheet.len(), count, kept.as_ptr(), kept.len(), n, list.task.as_ptr(), list.task.len(),
+            sheet.as_ptr(), sheet.len(), count, charge, kept.as_ptr(), kept.len(), n, list.task.as_ptr(), list.task.len(),
             list.tick.as_ptr(), list.tick.len(), list.cost.as_ptr(), list.cost.len(), ready.as_mut_ptr(), ready.len(),
             finish.as_mut_ptr(), finish.len(),
         )
@@ -107,11 +109,12 @@ pub fn run(sheet: &[u32], count: u32, kept: &[u32], n: u32, list: Columns, ready
 }
 
 pub fn jump(
-    sheet: &[u32], count: u32, kept: &[u32], n: u32, list: Columns, ready: &mut [u64], finish: &mut [u64], answer: &mut [u64],
+    sheet: &[u32], count: u32, charge: u8, kept: &[u32], n: u32, list: Columns, ready: &mut [u64], finish: &mut [u64],
+    answer: &mut [u64],
 ) -> u64 {
     unsafe {
         nolkrada_jump(
-            sheet.as_ptr(), sheet.len(), count, kept.as_ptr(), kept.len(), n, list.task.as_ptr(), list.task.len(),
+            sheet.as_ptr(), sheet.len(), count, charge, kept.as_ptr(), kept.len(), n, list.task.as_ptr(), list.task.len(),
             list.tick.as_ptr(), list.tick.len(), list.cost.as_ptr(), list.cost.len(), ready.as_mut_ptr(), ready.len(),
             finish.as_mut_ptr(), finish.len(), answer.as_mut_ptr(), answer.len(),
         )
@@ -129,11 +132,11 @@ pub fn read(
     }
 }
 
-pub fn write(sheet: &[u32], count: u32, n: u32, list: Columns, out: &mut [u8], answer: &mut [u64]) -> u64 {
+pub fn write(sheet: &[u32], count: u32, charge: u8, n: u32, list: Columns, out: &mut [u8], answer: &mut [u64]) -> u64 {
     unsafe {
         nolkrada_write(
-            sheet.as_ptr(), sheet.len(), count, n, list.task.as_ptr(), list.task.len(), list.tick.as_ptr(), list.tick.len(),
-            list.cost.as_ptr(), list.cost.len(), out.as_mut_ptr(), out.len(), answer.as_mut_ptr(), answer.len(),
+            sheet.as_ptr(), sheet.len(), count, charge, n, list.task.as_ptr(), list.task.len(), list.tick.as_ptr(),
+            list.tick.len(), list.cost.as_ptr(), list.cost.len(), out.as_mut_ptr(), out.len(), answer.as_mut_ptr(), answer.len(),
         )
     }
 }

@@ -1,8 +1,8 @@
-//! An implementation of document 01 with document 02's text sheets, pickup, long ticks and stops of a run,
-//! for comparison, written from their words alone. It shares no code and no method with the library: ready ticks and the trace check
-//! look at every pair of jobs, W(q) is found by walking over the ticks at which the demand steps, the choice tries every K in rising
-//! order, the ticking run is compared with one from event to event and the run that jumps with one that allots free ticks job by job,
-//! a file is taken apart in one pass, and a text is split into whole lines and fields.
+//! An implementation of document 01 with document 02's text sheets, pickup, long ticks, charge for each switch
+//! and stops of a run, for comparison, written from their words alone. It shares no code and no method with the library: ready
+//! ticks and the trace check look at every pair of jobs, W(q) is found by walking over the ticks at which the demand steps, the choice
+//! tries every K in rising order, the ticking run is compared with one from event to event and the run that jumps with one that allots
+//! free ticks job by job, a file is taken apart in one pass, and a text is split into whole lines and fields.
 
 use std::collections::BTreeSet;
 use std::ops::RangeInclusive;
@@ -26,19 +26,30 @@ pub struct Task {
     pub d: u32,
 }
 
-/// A sheet: `count` as given, and the entries that there are. An entry that is not there counts as 0, 0, 0, 0.
+/// A sheet: `count` as given, the entries that there are, and the charge for each switch, 0 for none. An entry that is not there
+/// counts as 0, 0, 0, 0.
 #[derive(Clone, Debug, PartialEq, Eq)]
 pub struct Sheet {
     pub count: usize,
     pub tasks: Vec<Task>,
+    pub charge: u8,
 }
 
 impl Sheet {
+    /// A sheet without a charge.
     pub fn of(tasks: &[Task]) -> Sheet {
-        Sheet { count: tasks.len(), tasks: tasks.to_vec() }
+        Sheet { count: tasks.len(), tasks: tasks.to_vec(), charge: 0 }
+    }
+    /// The same sheet with this charge.
+    pub fn charged(&self, charge: u8) -> Sheet {
+        Sheet { charge, ..self.clone() }
     }
     pub fn task(&self, i: usize) -> Task {
         self.tasks.get(i).copied().unwrap_or(Task { p: 0, j: 0, e: 0, d: 0 })
+    }
+    /// The most ticks that a job of a task takes: its cost and the charge.
+    fn most_work(&self, i: usize) -> i64 {
+        self.task(i).e as i64 + self.charge as i64
     }
 }
 
@@ -147,15 +158,20 @@ fn job_at(list: &[Release], first: &[i64], left: &[i64], t: i64) -> Option<usize
     (0..list.len()).filter(|&p| first[p] <= t && left[p] > 0).min_by_key(|&p| (list[p].task, p))
 }
 
+/// The ticks that each job takes: its cost and the charge.
+fn work_of(charge: u8, list: &[Release]) -> Vec<i64> {
+    list.iter().map(|r| r.cost as i64 + charge as i64).collect()
+}
+
 /// Finish ticks of the run.
-pub fn finish_ticks(list: &[Release], ready: &[i64]) -> Vec<i64> {
-    finish_from(list, &first_ticks(ready))
+pub fn finish_ticks(charge: u8, list: &[Release], ready: &[i64]) -> Vec<i64> {
+    finish_from(charge, list, &first_ticks(ready))
 }
 
 /// Finish ticks of jobs that may run from these ticks on, from event to event: a job runs until it is finished or the next job
 /// may run.
-pub fn finish_from(list: &[Release], first: &[i64]) -> Vec<i64> {
-    let mut left: Vec<i64> = list.iter().map(|r| r.cost as i64).collect();
+pub fn finish_from(charge: u8, list: &[Release], first: &[i64]) -> Vec<i64> {
+    let mut left = work_of(charge, list);
     let mut finish = vec![0; list.len()];
     let mut t = 0;
     loop {
@@ -176,9 +192,9 @@ pub fn finish_from(list: &[Release], first: &[i64]) -> Vec<i64> {
 }
 
 /// Finish ticks of the run, tick by tick.
-pub fn finish_ticks_by_tick(list: &[Release], ready: &[i64]) -> Vec<i64> {
+pub fn finish_ticks_by_tick(charge: u8, list: &[Release], ready: &[i64]) -> Vec<i64> {
     let first = first_ticks(ready);
-    let mut left: Vec<i64> = list.iter().map(|r| r.cost as i64).collect();
+    let mut left = work_of(charge, list);
     let mut finish = vec![0; list.len()];
     let mut t = 0;
     while left.iter().any(|&l| l > 0) {
@@ -194,15 +210,15 @@ pub fn finish_ticks_by_tick(list: &[Release], ready: &[i64]) -> Vec<i64> {
 /// Finish ticks of the run, job by job and not in the order of time: the tasks from the highest priority down, the jobs of a task
 /// in list order, each takes the earliest ticks from its first one on that no job before it took. The time that this takes does not
 /// grow with the ticks.
-pub fn finish_ticks_by_job(list: &[Release], ready: &[i64]) -> Vec<i64> {
-    let first = first_ticks(ready);
+pub fn finish_ticks_by_job(charge: u8, list: &[Release], ready: &[i64]) -> Vec<i64> {
+    let (first, work) = (first_ticks(ready), work_of(charge, list));
     let mut order: Vec<usize> = (0..list.len()).collect();
     order.sort_by_key(|&p| (list[p].task, p));
     let mut finish = vec![0; list.len()];
     // stretches of free ticks in rising order, each from its first tick up to its second, not including the latter
     let mut free = vec![(0, i64::MAX)];
     for p in order {
-        let mut wanted = list[p].cost as i64;
+        let mut wanted = work[p];
         let mut rest = Vec::new();
         for (from, to) in free {
             let begin = from.max(first[p]).min(to);
@@ -235,13 +251,13 @@ pub struct Windows<'a> {
 impl<'a> Windows<'a> {
     pub fn of(sheet: &Sheet, kept: &[u32], i: usize, budget: &'a mut Budget) -> Windows<'a> {
         let above = (0..i)
-            .map(|j| (sheet.task(j).p as i64, kept[j] as i64, sheet.task(j).e as i64))
+            .map(|j| (sheet.task(j).p as i64, kept[j] as i64, sheet.most_work(j)))
             .collect();
-        Windows { own_cost: sheet.task(i).e as i64, above, found: Vec::new(), budget }
+        Windows { own_cost: sheet.most_work(i), above, found: Vec::new(), budget }
     }
 
-    /// The least t from `from` on with (q + 1)E + sum of E_j σ_j(t) ≤ t. The demand is constant up to the least tick
-    /// σ_j P_j − K_j, where some σ_j takes its last tick, so only one t in each such stretch is to be tried.
+    /// The least t from `from` on with (q + 1)E + sum of E_j σ_j(t) ≤ t, each E with the charge. The demand is constant up to the
+    /// least tick σ_j P_j − K_j, where some σ_j takes its last tick, so only one t in each such stretch is to be tried.
     fn search(&mut self, q: i64, from: i64) -> Result<Option<i64>, Exhausted> {
         let mut t = from;
         while t <= HORIZON {
@@ -331,8 +347,17 @@ pub fn check_sheet(sheet: &Sheet) -> Result<(), Refusal> {
         if !in_range(sheet.task(i)) {
             return refuse(6, i);
         }
+        if !holds_charge(sheet.task(i), sheet.charge) {
+            return refuse(17, i);
+        }
     }
     Ok(())
+}
+
+/// Whether a job of the full cost and the charge is within P and D.
+fn holds_charge(t: Task, charge: u8) -> bool {
+    let work = t.e as i64 + charge as i64;
+    work <= t.p as i64 && work <= t.d as i64
 }
 
 fn in_range(t: Task) -> bool {
@@ -362,7 +387,8 @@ fn check_kept(sheet: &Sheet, kept: &[u32]) -> Result<(), Refusal> {
     }
 }
 
-/// The number of what is wrong with a release, the lowest first. Its tick has to be one of those given.
+/// The number of what is wrong with a release, the lowest first. Its tick has to be one of those given. The charge is no part of a
+/// cost.
 fn release_fault(sheet: &Sheet, before: Option<u64>, ticks: RangeInclusive<u64>, r: Release) -> Option<u32> {
     if r.task as usize >= sheet.count {
         return Some(7);
@@ -510,7 +536,7 @@ pub fn run(
 ) -> Result<(Vec<u64>, Vec<u64>), Refusal> {
     let list = check_run(sheet, kept, n, columns, ready_slots, finish_slots)?;
     let ready = ready_ticks(sheet, kept, &list);
-    let finish = finish_ticks(&list, &ready);
+    let finish = finish_ticks(sheet.charge, &list, &ready);
     Ok((column(&ready), column(&finish)))
 }
 
@@ -532,7 +558,7 @@ pub fn jump(
 ) -> Result<Jumped, Refusal> {
     let list = check_run(sheet, kept, n, columns, ready_slots, finish_slots)?;
     let ready = ready_ticks(sheet, kept, &list);
-    let finish = finish_ticks_by_job(&list, &ready);
+    let finish = finish_ticks_by_job(sheet.charge, &list, &ready);
     Ok(Jumped { ready: column(&ready), finish: column(&finish), stops: stops(&ready, &finish) })
 }
 
@@ -546,10 +572,14 @@ pub fn add_release(out: &mut Vec<u8>, kind: u8, r: Release) {
     out.extend_from_slice(&r.cost.to_le_bytes());
 }
 
-/// The bytes of a sheet and a list.
-pub fn encode(tasks: &[Task], list: &[Release]) -> Vec<u8> {
+/// The bytes of a sheet and a list: the charge first, where there is one.
+pub fn encode(sheet: &Sheet, list: &[Release]) -> Vec<u8> {
     let mut out = Vec::new();
-    for t in tasks {
+    if sheet.charge > 0 {
+        out.extend_from_slice(&[5, sheet.charge]);
+    }
+    for i in 0..sheet.count {
+        let t = sheet.task(i);
         out.push(1);
         for x in [t.p, t.j, t.e, t.d] {
             out.extend_from_slice(&x.to_le_bytes());
@@ -562,24 +592,26 @@ pub fn encode(tasks: &[Task], list: &[Release]) -> Vec<u8> {
     out
 }
 
-/// The bytes that a write needs: those of each task, of each release by its tick, whatever it is, and of the end.
-pub fn bytes_needed(tasks: usize, ticks: &[u64]) -> usize {
+/// The bytes that a write needs: those of a charge, of each task, of each release by its tick, whatever it is, and of the end.
+pub fn bytes_needed(charge: u8, tasks: usize, ticks: &[u64]) -> usize {
     let size = |&tick: &u64| if tick <= MAX_SHORT_TICK { 10 } else { 14 };
-    17 * tasks + ticks.iter().map(size).sum::<usize>() + 1
+    let head = if charge == 0 { 0 } else { 2 };
+    head + 17 * tasks + ticks.iter().map(size).sum::<usize>() + 1
 }
 
 pub fn write(sheet: &Sheet, n: usize, columns: &Columns, out_slots: usize) -> Result<Vec<u8>, Refusal> {
     check_sheet(sheet)?;
     check_count(n)?;
     columns.check_slots(n)?;
-    check_slots(out_slots, bytes_needed(sheet.count, &columns.tick[..n]))?;
+    check_slots(out_slots, bytes_needed(sheet.charge, sheet.count, &columns.tick[..n]))?;
     let list = columns.list(n);
     check_releases(sheet, &list)?;
-    Ok(encode(&sheet.tasks[..sheet.count], &list))
+    Ok(encode(sheet, &list))
 }
 
 /// A whole record. Beside a release stand the ticks that its kind is for.
 enum Record {
+    Charge(u8),
     Task(Task),
     Release(Release, RangeInclusive<u64>),
     End,
@@ -611,6 +643,7 @@ fn record_at(file: &[u8], at: usize) -> Result<(Record, usize), Refusal> {
         2 => 9,
         3 => 0,
         4 => 13,
+        5 => 1,
         _ => return refuse(1, at),
     };
     let Some(body) = rest.get(..length) else {
@@ -620,19 +653,30 @@ fn record_at(file: &[u8], at: usize) -> Result<(Record, usize), Refusal> {
         1 => Record::Task(task_of(body)),
         2 => Record::Release(release_of(body), 0..=MAX_SHORT_TICK),
         3 => Record::End,
-        _ => Record::Release(release_of(body), MAX_SHORT_TICK + 1..=MAX_TICK),
+        4 => Record::Release(release_of(body), MAX_SHORT_TICK + 1..=MAX_TICK),
+        _ => Record::Charge(body[0]),
     };
     Ok((record, 1 + length))
 }
 
 /// What a file holds. The earliest record decides, and within a record the lowest number.
 pub fn decode(file: &[u8]) -> Result<(Sheet, Vec<Release>), Refusal> {
-    let mut sheet = Sheet { count: 0, tasks: Vec::new() };
+    let mut sheet = Sheet::of(&[]);
     let mut list: Vec<Release> = Vec::new();
     let mut at = 0;
     loop {
         let (record, size) = record_at(file, at)?;
         match record {
+            Record::Charge(charge) => {
+                // none but the first record may be a charge: a release has a task before it
+                if at > 0 {
+                    return refuse(3, at);
+                }
+                if charge == 0 {
+                    return refuse(6, at);
+                }
+                sheet.charge = charge;
+            }
             Record::Task(t) => {
                 if !list.is_empty() {
                     return refuse(3, at);
@@ -642,6 +686,9 @@ pub fn decode(file: &[u8]) -> Result<(Sheet, Vec<Release>), Refusal> {
                 }
                 if !in_range(t) {
                     return refuse(6, at);
+                }
+                if !holds_charge(t, sheet.charge) {
+                    return refuse(17, at);
                 }
                 sheet.tasks.push(t);
                 sheet.count += 1;

@@ -21,8 +21,9 @@ static uint8_t file[NOLKRADA_READ_BYTES];
 static const char line[] = "1000000,1000000,1000000,1000000\n";
 static char text[NOLKRADA_MAX_TEXT + sizeof line - 1];
 static uint64_t answer[3], code;
-/* The parts of a call that a case changes: how many tasks, releases, slots, bytes, characters, numbers of a sheet that is
- * read or loaded and words there are, and which task is asked for. */
+/* The parts of a call that a case changes: the charge, how many tasks, releases, slots, bytes, characters, numbers of a sheet that
+ * is read or loaded and words there are, and which task is asked for. */
+static uint8_t charge;
 static uint32_t tasks, releases, which;
 /* The tick of the first release. */
 static uint64_t first;
@@ -30,35 +31,35 @@ static size_t slots, bytes, characters, numbers_lent, words;
 
 static void nothing(void) { code = 0; }
 static void arrival_count(void) {
-    code = nolkrada_arrival_count(sheet, NUMBERS, tasks, which, kept, slots, 1000000, answer, words);
+    code = nolkrada_arrival_count(sheet, NUMBERS, tasks, charge, which, kept, slots, 1000000, answer, words);
 }
-static void verdict(void) { code = nolkrada_verdict(sheet, NUMBERS, tasks, which, kept, slots, answer, words); }
-static void choice(void) { code = nolkrada_choice(sheet, NUMBERS, tasks, kept, slots, worst, slots); }
+static void verdict(void) { code = nolkrada_verdict(sheet, NUMBERS, tasks, charge, which, kept, slots, answer, words); }
+static void choice(void) { code = nolkrada_choice(sheet, NUMBERS, tasks, charge, kept, slots, worst, slots); }
 static void trace_check(void) {
-    code = nolkrada_trace_check(sheet, NUMBERS, tasks, releases, task, slots, tick, slots, cost, slots, answer, words);
+    code = nolkrada_trace_check(sheet, NUMBERS, tasks, charge, releases, task, slots, tick, slots, cost, slots, answer, words);
 }
 static void ready_ticks(void) {
-    code = nolkrada_ready(sheet, NUMBERS, tasks, kept, slots, releases, task, slots, tick, slots, cost, slots, ready, slots);
+    code = nolkrada_ready(sheet, NUMBERS, tasks, charge, kept, slots, releases, task, slots, tick, slots, cost, slots, ready, slots);
 }
 static void run(void) {
-    code = nolkrada_run(sheet, NUMBERS, tasks, kept, slots, releases, task, slots, tick, slots, cost, slots, ready, slots, finish,
-                        slots);
+    code = nolkrada_run(sheet, NUMBERS, tasks, charge, kept, slots, releases, task, slots, tick, slots, cost, slots, ready, slots,
+                        finish, slots);
 }
 static void jump(void) {
-    code = nolkrada_jump(sheet, NUMBERS, tasks, kept, slots, releases, task, slots, tick, slots, cost, slots, ready, slots, finish,
-                         slots, answer, words);
+    code = nolkrada_jump(sheet, NUMBERS, tasks, charge, kept, slots, releases, task, slots, tick, slots, cost, slots, ready, slots,
+                         finish, slots, answer, words);
 }
 static void read_file(void) {
     code = nolkrada_read(file, bytes, sheet, numbers_lent, task, slots, tick, slots, cost, slots, answer, words);
 }
 static void write_file(void) {
-    code = nolkrada_write(sheet, NUMBERS, tasks, releases, task, slots, tick, slots, cost, slots, file, bytes, answer, words);
+    code = nolkrada_write(sheet, NUMBERS, tasks, charge, releases, task, slots, tick, slots, cost, slots, file, bytes, answer, words);
 }
 static void load_text(void) {
     code = nolkrada_load((const uint8_t *)text, characters, sheet, numbers_lent, answer, words);
 }
 
-/* The releases, 100 ticks apart, and their file. */
+/* The releases, 100 ticks apart, and their file, with the charge. */
 static void list(void) {
     for (uint32_t n = 0; n < NOLKRADA_MAX_RELEASES; n++) tick[n] = first + 100 * n;
     bytes = NOLKRADA_MAX_FILE;
@@ -77,6 +78,7 @@ static void full(void) {
         task[n] = n % 32;
         cost[n] = 60;
     }
+    charge = 5;
     tasks = NOLKRADA_MAX_TASKS;
     releases = NOLKRADA_MAX_RELEASES;
     which = NOLKRADA_MAX_TASKS - 1;
@@ -94,9 +96,24 @@ static void many_tasks(void) { tasks = NOLKRADA_MAX_TASKS + 1; }
 static void many_releases(void) { releases = NOLKRADA_MAX_RELEASES + 1; }
 static void no_such_task(void) { which = NOLKRADA_MAX_TASKS; }
 static void last_range(void) { sheet[NUMBERS - 1] = 0; }
+static void no_charge(void) {
+    charge = 0;
+    list();
+}
+static void most_charge(void) {
+    charge = NOLKRADA_MAX_CHARGE;
+    list();
+}
+/* The deadline of the last task, and in the file of the first, one below its cost and the charge. */
+static void over_charge(void) {
+    sheet[NUMBERS - 1] = 64;
+    file[15] = 64, file[16] = 0, file[17] = 0, file[18] = 0;
+}
+static void second_charge(void) { file[2] = 5; }
+static void zero_charge(void) { file[1] = 0; }
 static void last_cost(void) { cost[NOLKRADA_MAX_RELEASES - 1] = 0; }
 static void last_kept(void) { kept[NOLKRADA_MAX_TASKS - 1] = 1501; }
-static void tight(void) { sheet[NUMBERS - 1] = 60; }
+static void tight(void) { sheet[NUMBERS - 1] = 65; }
 static void crowded(void) {
     for (uint32_t n = 0; n < SLOTS; n++) tick[n] = first;
 }
@@ -115,9 +132,10 @@ static void line_zero(void) { text[0] = '0'; }
 static void line_range(void) { text[NOLKRADA_MAX_TEXT - 2] = '1'; }
 static void few_numbers(void) { numbers_lent = NUMBERS - 1; }
 static void no_words(void) { words = 0; }
-static void (*const cases[])(void) = {nothing, few_numbers, no_words, no_slots, many_tasks, many_releases, no_such_task, last_range, last_cost,
-                                      last_kept, last_tick, tight, crowded, short_ticks, cut, one_more_byte, no_text, text_cut,
-                                      one_more_line, line_form, line_zero, line_range};
+static void (*const cases[])(void) = {nothing, few_numbers, no_words, no_slots, many_tasks, many_releases, no_such_task, last_range,
+                                      no_charge, most_charge, over_charge, second_charge, zero_charge, last_cost, last_kept, last_tick,
+                                      tight, crowded, short_ticks, cut, one_more_byte, no_text, text_cut, one_more_line, line_form,
+                                      line_zero, line_range};
 
 static unsigned char room[1 << 16];
 static ucontext_t outside, inside;

@@ -1,5 +1,6 @@
 //! The reference implementation on the twelve sums and the two printed examples of document 01, 7 to 12 and the examples as document
-//! 02's R-2 has them, on R-2's own figures, on stops of R-5 that were counted by hand, and on records of R-3 written by hand.
+//! 02's R-2 has them, on R-2's own figures, on stops of R-5 that were counted by hand, on records of written by hand, and on
+//! verdicts, choices and runs with a charge that were worked out by hand.
 
 use crate::reference::*;
 
@@ -42,7 +43,111 @@ fn both_ways(records: &str, list: &[(u32, u64, u32)]) {
     let file = bytes_of(&format!("01 06000000 05000000 02000000 06000000 {records} 03"));
     let sheet = Sheet::of(&[task(6, 5, 2, 6)]);
     assert_eq!(decode(&file), Ok((sheet.clone(), list_of(list))));
-    assert_eq!(encode(&sheet.tasks, &list_of(list)), file);
+    assert_eq!(encode(&sheet, &list_of(list)), file);
+}
+
+/// The record of the task (6,5,2,6), and of a release of it at tick 1 with cost 2.
+const TASK: &str = "01 06000000 05000000 02000000 06000000";
+const RELEASE: &str = "02 00 01000000 02000000";
+
+/// These records are refused so.
+fn refused(records: &str, number: u32, place: u64) {
+    assert_eq!(decode(&bytes_of(records)), Err(Refusal { number, place }), "{records}");
+}
+
+/// Records of a charge: read and written, and each refusal that has to do with one.
+fn charge_records() -> usize {
+    for (hex, charge) in [("01", 1), ("04", 4)] {
+        let file = bytes_of(&format!("05 {hex} {TASK} {RELEASE} 03"));
+        let sheet = Sheet::of(&[task(6, 5, 2, 6)]).charged(charge);
+        assert_eq!(decode(&file), Ok((sheet.clone(), list_of(&[(0, 1, 2)]))));
+        assert_eq!(encode(&sheet, &list_of(&[(0, 1, 2)])), file);
+        assert_eq!(bytes_needed(charge, 1, &[1]), file.len());
+    }
+    assert_eq!(bytes_needed(0, 1, &[1]), bytes_of(&format!("{TASK} {RELEASE} 03")).len());
+    // 256 = 1 + 255 ticks within P and D
+    let longest = bytes_of("05 ff 01 00010000 00000000 01000000 00010000 03");
+    let sheet = Sheet::of(&[task(256, 0, 1, 256)]).charged(255);
+    assert_eq!((decode(&longest), encode(&sheet, &[])), (Ok((sheet.clone(), vec![])), longest));
+    // cut; before anything but a task; a charge of 0; a second one; after a task, a release and the end
+    refused("05", 2, 0);
+    refused("05 01", 2, 2);
+    refused("05 01 03", 5, 2);
+    refused(&format!("05 01 {RELEASE} 03"), 5, 2);
+    refused(&format!("05 00 {TASK} 03"), 6, 0);
+    refused(&format!("05 01 05 01 {TASK} 03"), 3, 2);
+    refused(&format!("05 01 05 00 {TASK} 03"), 3, 2);
+    refused("05 01 05", 2, 2);
+    refused(&format!("{TASK} 05 01 03"), 3, 17);
+    refused(&format!("{TASK} 05 00 03"), 3, 17);
+    refused(&format!("{TASK} {RELEASE} 05 01 03"), 3, 27);
+    refused(&format!("{TASK} 03 05 01"), 11, 18);
+    refused("06 01", 1, 0);
+    // 2 + 5 ticks are over 6; a cost of 3 is over E, although 3 + 1 ticks are within P; E of 7 is 6 before 17
+    refused(&format!("05 05 {TASK} 03"), 17, 2);
+    refused(&format!("05 04 {TASK} 01 07000000 00000000 04000000 09000000 03"), 17, 19);
+    refused(&format!("05 04 {TASK} 01 09000000 00000000 04000000 07000000 03"), 17, 19);
+    refused(&format!("05 01 {TASK} 02 00 01000000 03000000 03"), 9, 19);
+    refused("05 05 01 06000000 05000000 07000000 06000000 03", 6, 2);
+    2 + 1 + 1 + 18
+}
+
+/// The charge in verdicts, choices, runs and checks.
+fn charges() -> usize {
+    // Task 0 takes 1 + S and task 1 2 + S ticks of each 4 and 8. Without a charge W(0) of task 1 is 2 + 1 = 3, R(0) is 4, D is 4: fits.
+    // With 1 the demand at t is 3 + 2σ(t): 5 at t = 1 to 4, 7 at t = 5 to 8, so W(0) is 7, R(0) is 8: late.
+    let two = Sheet::of(&[task(4, 0, 1, 4), task(8, 0, 2, 4)]);
+    assert_eq!(windows(&two, &[0, 0], 1, 1), [3]);
+    assert_eq!(verdict_for(&two, &[0, 0], 1), Verdict::Fits { r: 4, q: 0 });
+    assert_eq!(windows(&two.charged(1), &[0, 0], 1, 1), [7]);
+    assert_eq!(verdict_for(&two.charged(1), &[0, 0], 1), Verdict::Late { q: 0, r: 8 });
+    // the choice: without a charge it keeps 0 of both, with 1 no K fits task 1
+    assert_eq!(choice_for(&two), Ok((vec![0, 0], vec![2, 4])));
+    assert_eq!(choice_for(&two.charged(1)), Err(Refusal { number: 15, place: 1 }));
+    // with D 8 it fits again: W(0) is 7, which is within d_0(1) = 8
+    let roomy = Sheet::of(&[task(4, 0, 1, 4), task(8, 0, 2, 8)]).charged(1);
+    assert_eq!(choice_for(&roomy), Ok((vec![0, 0], vec![3, 8])));
+    // the charge is in the task's own jobs for each q: W is 3, 6, and with K 7 R is 4, 6 and d_7 is 1, 9
+    let one = Sheet::of(&[task(8, 7, 2, 8)]).charged(1);
+    assert_eq!(windows(&one, &[7], 0, 2), [3, 6]);
+    assert_eq!(verdict_for(&one, &[7], 0), Verdict::Fits { r: 6, q: 1 });
+    // the folder sheet with a charge of 1: R(0) of task 0 is 3 + 1 + 5 − K, so that it keeps 3. The demand of task 1 is then 3 + 3 = 6 at
+    // t = 1 to 3 and 3 + 3 · 2 = 9 at t = 4 to 9, so that its R(0) is 9 + 1 + 7 − K, at least 10
+    assert_eq!(windows(&folder_sheet().charged(1), &[3, 0, 0], 1, 1), [9]);
+    assert_eq!(choice_for(&folder_sheet().charged(1)), Err(Refusal { number: 15, place: 1 }));
+
+    // a run: the jobs take 3, 3 and 2 ticks, the last a tick less than its task may. Task 1 runs in tick 1, task 0 in ticks 2 to 4,
+    // task 1 in ticks 5 and 6, and the last job, held to tick 9, in ticks 10 and 11
+    let sheet = Sheet::of(&[task(8, 0, 2, 8), task(9, 0, 2, 9)]).charged(1);
+    let list = list_of(&[(1, 0, 2), (0, 1, 2), (0, 8, 1)]);
+    let kept = [0, 0];
+    let ready = ready_ticks(&sheet, &kept, &list);
+    assert_eq!(ready, [0, 1, 9]);
+    for finish in [finish_ticks(1, &list, &ready), finish_ticks_by_tick(1, &list, &ready), finish_ticks_by_job(1, &list, &ready)] {
+        assert_eq!(finish, [7, 5, 12]);
+    }
+    // without the charge: task 1 in ticks 1 and 4, task 0 in ticks 2 and 3, and in tick 10
+    assert_eq!(finish_ticks(0, &list, &ready), [5, 4, 11]);
+    // stops: starts 1, 2 and 10, finishes 7, 5 and 12
+    assert_eq!(stops(&ready, &finish_ticks(1, &list, &ready)), 6);
+    // one release of the largest charge: cost 1, in ticks 1 to 256
+    assert_eq!(finish_ticks(255, &list_of(&[(0, 0, 1)]), &[0]), [257]);
+
+    // checks: 17 by task right after 6 by task
+    let refusal = |tasks: &[Task], charge: u8| check_sheet(&Sheet::of(tasks).charged(charge)).err().map(|r| (r.number, r.place));
+    let (sound, range, tight) = (task(9, 0, 2, 9), task(9, 0, 10, 9), task(5, 0, 2, 9));
+    assert_eq!(refusal(&[sound, sound], 7), None);
+    assert_eq!(refusal(&[sound, sound], 8), Some((17, 0)));
+    assert_eq!(refusal(&[sound, tight], 4), Some((17, 1)));
+    assert_eq!(refusal(&[tight, range], 4), Some((17, 0)));
+    assert_eq!(refusal(&[range, tight], 4), Some((6, 0)));
+    assert_eq!(refusal(&[sound, task(9, 0, 2, 5)], 4), Some((17, 1)));
+    assert_eq!(refusal(&[sound, task(MAX_TIME, 0, 999_745, MAX_TIME)], 7), None);
+    assert_eq!(refusal(&[task(MAX_TIME, 0, 999_745, MAX_TIME)], 255), None);
+    assert_eq!(refusal(&[task(MAX_TIME, 0, 999_746, MAX_TIME)], 255), Some((17, 0)));
+    assert_eq!(refusal(&[task(MAX_TIME, 0, u32::MAX, MAX_TIME)], 255), Some((6, 0)));
+    assert_eq!(refusal(&[], 255), Some((5, 0)));
+    11 + 5 + 11
 }
 
 /// The same, but the record at this offset is refused with 8.
@@ -92,7 +197,7 @@ fn ready_of(p: u32, keep: u32, ticks: &[u64]) -> Vec<i64> {
 fn stops_of(list: &[(u32, u64, u32)]) -> u64 {
     let list = list_of(list);
     let ready: Vec<i64> = list.iter().map(|x| x.tick as i64).collect();
-    stops(&ready, &finish_ticks_by_job(&list, &ready))
+    stops(&ready, &finish_ticks_by_job(0, &list, &ready))
 }
 
 fn choice_for(sheet: &Sheet) -> Result<(Vec<u32>, Vec<u32>), Refusal> {
@@ -122,7 +227,7 @@ fn lines_of_run(sheet: &Sheet, list: &[Release]) -> String {
         Ok((kept, _)) => kept,
     };
     let ready = ready_ticks(sheet, &kept, list);
-    let finish = finish_ticks(list, &ready);
+    let finish = finish_ticks(sheet.charge, list, &ready);
     let mut text = String::from("job task release ready finish response\n");
     for p in 0..list.len() {
         let r = list[p];
@@ -160,13 +265,13 @@ pub fn check() -> usize {
     assert_eq!(verdict_for(&busy, &[0, 0], 0), Verdict::Late { q: 0, r: 2 });
     assert_eq!(verdict_for(&busy, &[0, 0], 1), Verdict::Horizon { q: 0 });
     // 12
-    assert!(finish_ticks(&[], &[]).is_empty());
+    assert!(finish_ticks(0, &[], &[]).is_empty());
     assert_eq!(ready_of(6, 1, &[3]), [3]);
     for cost in 1..=6 {
         let one = [Release { task: 0, tick: 3, cost }];
-        assert_eq!(finish_ticks(&one, &[3]), [4 + cost as i64]);
-        assert_eq!(finish_ticks_by_tick(&one, &[3]), [4 + cost as i64]);
-        assert_eq!(finish_ticks_by_job(&one, &[3]), [4 + cost as i64]);
+        assert_eq!(finish_ticks(0, &one, &[3]), [4 + cost as i64]);
+        assert_eq!(finish_ticks_by_tick(0, &one, &[3]), [4 + cost as i64]);
+        assert_eq!(finish_ticks_by_job(0, &one, &[3]), [4 + cost as i64]);
     }
     // the printed examples
     let list = printed_releases();
@@ -188,10 +293,10 @@ pub fn check() -> usize {
     assert_eq!(verdict_for(&Sheet::of(&[task(8, 7, 2, 8)]), &[7], 0), Verdict::Fits { r: 4, q: 1 });
     // each finish is one tick later than in a run that lets a job run in its ready tick
     let ready = ready_ticks(&s, &[2, 4, 0], &list);
-    let at_once: Vec<i64> = finish_from(&list, &ready).iter().map(|t| t + 1).collect();
-    assert_eq!(finish_ticks(&list, &ready), at_once);
+    let at_once: Vec<i64> = finish_from(0, &list, &ready).iter().map(|t| t + 1).collect();
+    assert_eq!(finish_ticks(0, &list, &ready), at_once);
     // stops of the printed releases: starts 1, 1, 5 and finishes 3, 5, 7
-    let finish = finish_ticks_by_job(&list, &ready);
+    let finish = finish_ticks_by_job(0, &list, &ready);
     assert_eq!((&ready[..], &finish[..], stops(&ready, &finish)), (&[0, 0, 4][..], &[3, 5, 7][..], 4));
     // no release; one; one after the other of a task, the second at the finish of the first; one inside the other; two of a burst
     assert_eq!(stops_of(&[]), 0);
@@ -201,6 +306,6 @@ pub fn check() -> usize {
     assert_eq!(stops_of(&[(1, 0, 1), (0, 0, 1)]), 3);
     // two releases alone, at tick 0 and at the limit
     assert_eq!(stops_of(&[(0, 0, 1), (0, MAX_TICK, 1)]), 4);
-    // twelve sums, two examples, these with D 11, three figures more, seven of stops, and the records
-    12 + 2 + 2 + 3 + 7 + records()
+    // twelve sums, two examples, these with D 11, three figures more, seven of stops, the records, and those of a charge
+    12 + 2 + 2 + 3 + 7 + records() + charge_records() + charges()
 }

@@ -286,7 +286,7 @@ fn inputs(tree: &Tree) {
     let folder = "examples/folder.sheet";
     for (option, end) in [(None, "choose"), (Some("--replay"), "replay")] {
         let words = |last: Option<&'static str>| -> Vec<&str> { option.into_iter().chain(last).collect() };
-        for name in ["folder", "printed", "press", "overload", "months"] {
+        for name in ["folder", "printed", "press", "overload", "months", "charge"] {
             let (file, text) = (format!("examples/{name}.sheet"), stored(&format!("{name}.{end}")));
             let code = if text.starts_with("refused ") { 1 } else { 0 };
             let absolute = fs::canonicalize(&file).unwrap();

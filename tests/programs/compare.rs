@@ -8,8 +8,8 @@ mod generator;
 mod reference;
 
 use generator::{damaged_texts, digits_at_limits, other_line_ends, texts_at_line_limit, texts_with_digits};
-use generator::{file_for, late_file_for, legal_list_for, loaded_sheet, moved, random_file, random_text, small_sheet, way_to};
-use generator::{Random, EDGE_TICKS, MIDDLE_TICKS};
+use generator::{any_charge, file_for, late_file_for, legal_list_for, loaded_sheet, moved, random_file, random_text, small_sheet, way_to};
+use generator::{Random, EDGE_CHARGES, EDGE_TICKS, MIDDLE_TICKS};
 use reference::{add_release, choice, decode, encode, finish_ticks, load, ready_ticks, text_of, Budget, Refusal, Release, Sheet, Task};
 use reference::{MAX_SHORT_TICK, MAX_TICK};
 use std::io::{Read, Write};
@@ -54,7 +54,7 @@ fn replay_text(file: &[u8]) -> Option<String> {
         Ok((kept, _)) => kept,
     };
     let ready = ready_ticks(&sheet, &kept, &list);
-    let finish = finish_ticks(&list, &ready);
+    let finish = finish_ticks(sheet.charge, &list, &ready);
     let mut out = String::from("job task release ready finish response\n");
     for (p, r) in list.iter().enumerate() {
         out += &format!("{} {} {} {} {} {}\n", p, r.task, r.tick, ready[p], finish[p], finish[p] - r.tick as i64);
@@ -143,8 +143,8 @@ fn stored(folder: &str) -> usize {
     n
 }
 
-fn sheet(tasks: &[[u32; 4]]) -> Vec<Task> {
-    tasks.iter().map(|t| Task { p: t[0], j: t[1], e: t[2], d: t[3] }).collect()
+fn sheet(tasks: &[[u32; 4]]) -> Sheet {
+    Sheet::of(&tasks.iter().map(|t| Task { p: t[0], j: t[1], e: t[2], d: t[3] }).collect::<Vec<_>>())
 }
 
 fn rel(task: u32, tick: u64, cost: u32) -> Release {
@@ -152,16 +152,16 @@ fn rel(task: u32, tick: u64, cost: u32) -> Release {
 }
 
 /// 32 tasks and 1,024 releases.
-fn full() -> (Vec<Task>, Vec<Release>) {
-    let tasks = (0..32).map(|i| Task { p: 100 + i, j: 3 * i, e: 1, d: 1000 }).collect();
-    (tasks, (0..1024).map(|n| rel(n % 32, n as u64 / 3, 1)).collect())
+fn full() -> (Sheet, Vec<Release>) {
+    let tasks: Vec<Task> = (0..32).map(|i| Task { p: 100 + i, j: 3 * i, e: 1, d: 1000 }).collect();
+    (Sheet::of(&tasks), (0..1024).map(|n| rel(n % 32, n as u64 / 3, 1)).collect())
 }
 
-/// The same with the last release at the last tick allowed: the largest file, without its end.
-fn longest() -> Vec<u8> {
-    let (tasks, list) = full();
-    let mut file = encode(&tasks, &moved(&list, MAX_TICK - list[1023].tick));
-    assert_eq!((file.len(), file.pop()), (14_881, Some(3)));
+/// The same with the last release at the last tick allowed and this charge, without the end: where there is a charge, the largest file.
+fn longest(charge: u8) -> Vec<u8> {
+    let (sheet, list) = full();
+    let mut file = encode(&sheet.charged(charge), &moved(&list, MAX_TICK - list[1023].tick));
+    assert_eq!((file.len(), file.pop()), (if charge > 0 { 14_883 } else { 14_881 }, Some(3)));
     file
 }
 
@@ -169,7 +169,7 @@ fn longest() -> Vec<u8> {
 fn worked() -> Vec<(&'static str, Vec<u8>)> {
     let tasks = sheet(&[[6, 5, 2, 6], [8, 7, 2, 8], [10, 0, 2, 11]]);
     let whole = encode(&tasks, &[rel(0, 0, 2), rel(2, 0, 2), rel(0, 1, 2)]);
-    let many = encode(&vec![tasks[0]; 33], &[]);
+    let many = encode(&sheet(&[[6, 5, 2, 6]; 33]), &[]);
     let mut cases = vec![
         ("empty", vec![]),
         ("unknown kind", vec![9]),
@@ -205,19 +205,24 @@ fn worked_long() -> Vec<(String, Vec<u8>)> {
         add_release(&mut bytes, kind, r);
         bytes
     };
-    let one = &encode(&tasks[..1], &[])[..17];
-    let tails: [(&str, &[u8]); 8] = [
+    let one = &encode(&tasks, &[])[..17];
+    let tails: [(&str, &[u8]); 9] = [
         ("the end", &[3]),
         ("no end", &[]),
         ("two ends", &[3, 3]),
+        ("a charge", &[5, 1]),
         ("one more long release", &record(4, rel(0, MAX_TICK, 1))),
         ("a short release", &record(2, rel(0, 5, 1))),
         ("a task", one),
         ("a task that is cut", &one[..16]),
         ("a task and 5,000 bytes", &[one, &[1; 5_000]].concat()),
     ];
-    let mut cases: Vec<(String, Vec<u8>)> =
-        tails.iter().map(|(name, tail)| (format!("1,024 long releases, {name}"), [&longest(), *tail].concat())).collect();
+    let mut cases: Vec<(String, Vec<u8>)> = Vec::new();
+    for charge in [0, 1, 99] {
+        cases.extend(tails.iter().map(|(name, tail)| {
+            (format!("charge {charge}, 1,024 long releases, {name}"), [&longest(charge), *tail].concat())
+        }));
+    }
     let ticks = [0, MAX_SHORT_TICK, MAX_SHORT_TICK + 1, 1 << 32, MAX_TICK];
     cases.push(("ticks of up to 16 digits".to_string(), encode(&tasks, &ticks.map(|tick| rel(0, tick, 2)))));
     for tick in EDGE_TICKS {
@@ -226,6 +231,42 @@ fn worked_long() -> Vec<(String, Vec<u8>)> {
             cases.push((format!("tick {tick} in kind {kind}"), records.concat()));
         }
     }
+    cases
+}
+
+/// Charges: files with one that fits, that is too much, and that is refused; where it stands; and each cut at every byte of its start.
+fn worked_charges() -> Vec<(String, Vec<u8>)> {
+    let roomy = sheet(&[[400, 300, 4, 400], [600, 35, 9, 700], [900, 60, 15, 2_000]]);
+    let tight = sheet(&[[6, 5, 2, 6], [8, 7, 2, 8], [10, 0, 2, 11]]);
+    let list = [rel(0, 0, 4), rel(2, 0, 15), rel(1, 1, 1), rel(0, 5, 2), rel(2, MAX_TICK, 3)];
+    let mut cases = Vec::new();
+    for charge in [1, 2, 3, 50, 100, 130, 200, 254, 255] {
+        cases.push((format!("charge {charge}"), encode(&roomy.charged(charge), &list)));
+        let small = encode(&tight.charged(charge), &[rel(0, 0, 2), rel(2, 0, 1), rel(0, 1, 2)]);
+        cases.push((format!("charge {charge} on a tight sheet"), small));
+    }
+    let file = encode(&roomy.charged(7), &list);
+    for end in 0..30 {
+        cases.push((format!("charge, the first {end} bytes"), file[..end].to_vec()));
+    }
+    let (task, release, rest) = (&file[2..19], &file[53..63], &file[2..]);
+    let odd: [(&str, &[&[u8]]); 14] = [
+        ("0", &[&[5, 0], rest]),
+        ("a second one", &[&[5, 7, 5, 7], rest]),
+        ("a second one of 0", &[&[5, 7, 5, 0], rest]),
+        ("a second one, cut", &[&[5, 7, 5]]),
+        ("after a task", &[task, &[5, 7], rest]),
+        ("0 after a task", &[task, &[5, 0], rest]),
+        ("after a task, cut", &[task, &[5]]),
+        ("after a release", &[task, release, &[5, 7, 3]]),
+        ("after the end", &[task, &[3, 5, 7]]),
+        ("before the end", &[&[5, 7, 3]]),
+        ("before a release", &[&[5, 7], release, &[3]]),
+        ("before another kind", &[&[5, 7, 6]]),
+        ("before the task cut", &[&[5, 7], &task[..16]]),
+        ("and a byte after the end", &[&[5, 7], rest, &[5]]),
+    ];
+    cases.extend(odd.iter().map(|(name, parts)| (format!("charge, {name}"), parts.concat())));
     cases
 }
 
@@ -288,9 +329,15 @@ fn odd_ends() {
     add_release(&mut last, 4, rel(0, MAX_TICK, 1));
     for program in [CHOOSE, REPLAY] {
         endless(program, b"", &task[..17], "refused 4 at 544\n");
-        endless(program, &longest(), &task[..17], "refused 3 at 14880\n");
-        endless(program, &longest(), &last, "refused 10 at 14880\n");
-        endless(program, &longest(), b"\x03", "refused 11 at 14881\n");
+        endless(program, &longest(0), &task[..17], "refused 3 at 14880\n");
+        endless(program, &longest(0), &last, "refused 10 at 14880\n");
+        endless(program, &longest(0), b"\x03", "refused 11 at 14881\n");
+        endless(program, &longest(1), &task[..17], "refused 3 at 14882\n");
+        endless(program, &longest(1), &last, "refused 10 at 14882\n");
+        endless(program, &longest(1), b"\x03", "refused 11 at 14883\n");
+        endless(program, &longest(1), b"\x05", "refused 3 at 14882\n");
+        endless(program, b"", b"\x05", "refused 3 at 2\n");
+        endless(program, b"\x05\x01", &task[..17], "refused 4 at 546\n");
         unread(program, &task);
     }
     endless(CHOOSE_CSV, b"", b"6,5,2,6\n", "refused 4 at 32\n");
@@ -306,23 +353,24 @@ fn main() {
         n += same(name, &file, 4096);
         n += same(name, &file, 7);
     }
-    for (name, file) in worked_long() {
+    for (name, file) in worked_long().into_iter().chain(worked_charges()) {
         n += same(&name, &file, 4096);
     }
     odd_ends();
     let mut r = Random::seeded(20_260_101);
-    for _ in 0..300 {
+    for _ in 0..400 {
         let s = if r.once_in(3) { loaded_sheet(&mut r, 6, 200) } else { small_sheet(&mut r) };
+        let s = any_charge(&mut r, s);
         let list = legal_list_for(&mut r, &s, 20);
         let tick = r.of(&MIDDLE_TICKS);
         let by = if r.once_in(2) { way_to(&mut r, &list, tick) } else { 0 };
-        n += same("a small file", &encode(&s.tasks, &moved(&list, by)), 4096);
+        n += same("a small file", &encode(&s, &moved(&list, by)), 4096);
     }
     for _ in 0..200 {
         let file = random_file(&mut r);
         n += same("a random file", &file, 4096);
-        let tick = r.of(&MIDDLE_TICKS);
-        let mut cut = if r.once_in(2) { file_for(&mut r, 3, 5) } else { late_file_for(&mut r, 3, 5, tick) };
+        let (tick, charge) = (r.of(&MIDDLE_TICKS), r.of(&EDGE_CHARGES));
+        let mut cut = if r.once_in(2) { file_for(&mut r, charge, 3, 5) } else { late_file_for(&mut r, charge, 3, 5, tick) };
         cut.truncate(r.within(0, cut.len() as u32) as usize);
         n += same("a cut file", &cut, 4096);
     }

@@ -403,6 +403,161 @@ fn choice_refusals() -> Vec<(&'static str, ChoiceCall)> {
     ]
 }
 
+/// Verdicts with a charge.
+fn charged_tasks(v: &mut Vectors) {
+    let mut add = |label: &str, sheet: &Sheet, task: u32, kept: &[u32], line: &str| {
+        let c = about(sheet, task, kept, 0);
+        v.worked(&format!("verdict, charge, {label}"), &verdict_blocks(&c), &verdict_answer(&c), line);
+    };
+    // Without a charge W(0) of task 1 is 2 + 1 = 3. With 1 the demand is 3 + 2σ(t), so that it is 7. With 2 it is 4 + 3σ(t): t − 4 is at
+    // least 3σ(t) first at t = 16, where σ is 4.
+    let two = |d: u32| sheet(&[(4, 0, 1, 4), (8, 0, 2, d)]);
+    add("none", &two(4), 1, &[0, 0], " fits R 4 q 0");
+    add("1", &two(4).charged(1), 1, &[0, 0], " late q 0 R 8");
+    add("1, D 8", &two(8).charged(1), 1, &[0, 0], " fits R 8 q 0");
+    add("2, D 16", &two(16).charged(2), 1, &[0, 0], " late q 0 R 17");
+    // R(0) is E + S + 1.
+    add("R(0) is D", &sheet(&[(10, 0, 1, 4)]).charged(2), 0, &[0], " fits R 4 q 0");
+    add("R(0) is D + 1", &sheet(&[(10, 0, 1, 3)]).charged(2), 0, &[0], " late q 0 R 4");
+    add("255, R(0) is D", &sheet(&[(900, 0, 1, 257)]).charged(255), 0, &[0], " fits R 257 q 0");
+    add("255, R(0) is D + 1", &sheet(&[(900, 0, 1, 256)]).charged(255), 0, &[0], " late q 0 R 257");
+    // E + S is P: W(q) is d_0(q + 1).
+    add("E + S is P", &sheet(&[(5, 0, 2, 6)]).charged(3), 0, &[0], " fits R 6 q 0");
+    // W is 3, 6. With K 7 R is 4, 6, and d_7 is 1, 9.
+    add("R(1)", &sheet(&[(8, 7, 2, 6)]).charged(1), 0, &[7], " fits R 6 q 1");
+    add("R(1) is D + 1", &sheet(&[(8, 7, 2, 5)]).charged(1), 0, &[7], " late q 1 R 6");
+    // The printed sheet: R(0) of task 0 is 3 + 1 + 5 − K, of task 1 with K 3 above 9 + 1 + 7 − K.
+    add("printed sheet, task 0, K 3", &printed_sheet().charged(1), 0, &[3, 0, 0], " fits R 6 q 0");
+    add("printed sheet, task 0, K 2", &printed_sheet().charged(1), 0, &[2, 0, 0], " late q 0 R 7");
+    add("printed sheet, task 1", &printed_sheet().charged(1), 1, &[3, 7, 0], " late q 0 R 10");
+    // Both tasks take the whole processor, and there is no W(0).
+    let busy = sheet(&[(2, 0, 1, 2), (2, 0, 1, 2)]);
+    add("horizon", &busy.charged(1), 1, &[0, 0], " horizon q 0");
+    // W(0) is the horizon: the task above leaves 1 tick of each 1,000,000, and 10 are needed.
+    let at = sheet(&[(MILLION, 0, 999_744, MILLION), (MILLION, 0, 1, MILLION)]);
+    add("no horizon", &at, 1, &[0, 0], " fits R 999746 q 0");
+    let far = sheet(&[(MILLION, 0, 999_990, MILLION), (50, 9, 1, MILLION)]);
+    add("W(0) is the horizon", &far.charged(9), 1, &[0, 9], " late q 0 R 10000001");
+    add("W(0) over the horizon", &sheet(&[(MILLION, 0, 999_989, MILLION), (50, 9, 1, MILLION)]).charged(10), 1, &[0, 9], " horizon q 0");
+}
+
+/// Choices with a charge.
+fn charged_choices(v: &mut Vectors) {
+    let mut add = |label: &str, sheet: &Sheet, line: &str| {
+        let c = choosing(sheet);
+        v.worked(&format!("choice, charge, {label}"), &choice_blocks(&c), &choice_answer(&c), line);
+    };
+    let two = |d: u32| sheet(&[(4, 0, 1, 4), (8, 0, 2, d)]);
+    add("none", &two(4), " fine, 0 0 - -, 2 4 - -");
+    add("1", &two(4).charged(1), " refused 15 at 1, - - - -, - - - -");
+    add("1, D 8", &two(8).charged(1), " fine, 0 0 - -, 3 8 - -");
+    // R(0) is E + S + 1 + 4 − K.
+    add("K is one more", &sheet(&[(10, 4, 3, 6)]).charged(1), " fine, 3 - -, 6 - -");
+    add("K is J", &sheet(&[(10, 4, 3, 6)]).charged(2), " fine, 4 - -, 6 - -");
+    add("over J", &sheet(&[(10, 4, 3, 6)]).charged(3), " refused 15 at 0, - - -, - - -");
+    add("over D", &sheet(&[(10, 4, 3, 6)]).charged(4), " refused 17 at 0, - - -, - - -");
+    add("printed sheet, D 11", &folder_sheet().charged(1), " refused 15 at 1, - - - - -, - - - - -");
+    add("printed sheet, D 11, 4", &folder_sheet().charged(4), " refused 15 at 0, - - - - -, - - - - -");
+    add("printed sheet, D 11, 5", &folder_sheet().charged(5), " refused 17 at 0, - - - - -, - - - - -");
+    add("255", &sheet(&[(900, 0, 1, 257)]).charged(255), " fine, 0 - -, 257 - -");
+}
+
+/// Sheets of the cases without a charge, with one that is taken off each cost: the same verdicts and choices.
+fn charged_parts(v: &mut Vectors) {
+    let mut sheets: Vec<(String, Sheet)> = edges().into_iter().map(|(label, s)| (label.to_string(), s)).collect();
+    for (per_mille, jitter, deadlines) in [(300, 0, 90), (900, 50, 400), (1010, 0, 700)] {
+        sheets.push((format!("32 tasks, load {per_mille}, jitter {jitter}, deadlines {deadlines}"), loaded(per_mille, jitter, deadlines)));
+    }
+    for (label, s) in &sheets {
+        let charge = (s.tasks.iter().map(|t| t.e).min().unwrap() - 1).min(255) as u8;
+        if charge == 0 {
+            continue;
+        }
+        let (part, label) = (part_charged(s, charge), format!("charge {charge}, {label}"));
+        let whole: Vec<u32> = s.tasks.iter().map(|t| t.j).collect();
+        for i in if s.count > 1 { vec![0, s.count - 1] } else { vec![0] } {
+            let c = about(&part, i as u32, &whole, 0);
+            let answer = verdict_answer(&about(s, i as u32, &whole, 0));
+            v.worked(&format!("verdict, {label}, task {i}"), &verdict_blocks(&c), &verdict_answer(&c), &answer);
+        }
+        let c = choosing(&part);
+        v.worked(&format!("choice, {label}"), &choice_blocks(&c), &choice_answer(&c), &choice_answer(&choosing(s)));
+    }
+}
+
+/// Small sheets with a charge of 1, 2 or 3, some of which are refused with 17.
+fn charged_small(v: &mut Vectors) {
+    let mut m = Mixer::from(11);
+    for n in 0..40 {
+        let all: Vec<_> = (0..m.within(1, 4))
+            .map(|_| {
+                let p = m.within(6, 60);
+                let e = m.within(1, 1 + p / 8);
+                (p, m.within(0, 2 * p), e, m.within(e + 2, 3 * p + 10))
+            })
+            .collect();
+        let s = sheet(&all).charged(m.within(1, 3) as u8);
+        let kept: Vec<u32> = s.tasks.iter().map(|t| m.within(0, t.j)).collect();
+        for i in 0..s.count {
+            add_verdict(v, &format!("charge {}, small sheet {n}, task {i}", s.charge), &about(&s, i as u32, &kept, 0));
+        }
+        add_choice(v, &format!("charge {}, small sheet {n}", s.charge), &choosing(&s));
+    }
+}
+
+/// 17 and what decides, in each of the three calls. The tasks of the printed sheet hold up to 4.
+fn charged_checks(v: &mut Vectors) {
+    let mut add = |label: &str, change: &dyn Fn(&mut TaskCall)| {
+        let mut c = about(&printed_sheet(), 1, &[2, 4, 0], 8);
+        change(&mut c);
+        add_arrivals(v, &format!("charge, {label}"), &c);
+        add_verdict(v, &format!("charge, {label}"), &c);
+        add_choice(v, &format!("charge, {label}"), &choosing_at_most(&c.sheet));
+    };
+    for charge in [1, 4, 5, 254, 255] {
+        add(&format!("{charge} on the printed sheet"), &|c| c.sheet.charge = charge);
+    }
+    for (charge, e) in [(1, 4), (2, 9), (254, 2), (255, 2), (255, 999_745)] {
+        let work = e + charge as u32;
+        for (label, p, d) in [
+            ("E + S is P", work, work + 1),
+            ("E + S is D", work + 1, work),
+            ("E + S is P + 1", work - 1, work),
+            ("E + S is D + 1", work, work - 1),
+        ] {
+            if p.max(d) <= MILLION {
+                let (sound, edge) = ((MILLION, 7, 2, MILLION), (p, 9, e, d));
+                add(&format!("{label}, S {charge}, E {e}, task 0"), &|c| c.sheet = sheet(&[edge, sound, sound]).charged(charge));
+                add(&format!("{label}, S {charge}, E {e}, task 2"), &|c| c.sheet = sheet(&[sound, sound, edge]).charged(charge));
+            }
+        }
+    }
+    add("17 of task 0 before 6 of task 1", &|c| (c.sheet.charge, c.sheet.tasks[1].p) = (5, 0));
+    add("6 of task 0 before 17 of task 1", &|c| (c.sheet.charge, c.sheet.tasks[0].p, c.sheet.tasks[1].d) = (4, 0, 5));
+    add("17 of task 1 before 6 of task 2", &|c| (c.sheet.charge, c.sheet.tasks[1].d, c.sheet.tasks[2].p) = (4, 5, 0));
+    add("6 of task 1 before 17 of task 2", &|c| (c.sheet.charge, c.sheet.tasks[1].p, c.sheet.tasks[2].d) = (4, 0, 5));
+    add("6 before 17 of one task", &|c| (c.sheet.charge, c.sheet.tasks[1].j, c.sheet.tasks[1].d) = (4, 1_000_001, 5));
+    add("17 of a task below the one asked for", &|c| (c.sheet.charge, c.sheet.tasks[2].d, c.task) = (4, 5, 0));
+    add("5 before 17", &|c| (c.sheet.charge, c.sheet.count) = (255, 0));
+    add("4 before 17", &|c| (c.sheet.charge, c.sheet.count) = (255, 33));
+    add("17 before 14", &|c| (c.sheet.charge, c.task) = (5, 3));
+    add("14 with a charge", &|c| (c.sheet.charge, c.task) = (4, 3));
+    add("17 before 13", &|c| (c.sheet.charge, c.kept) = (5, vec![]));
+    add("17 before 12", &|c| (c.sheet.charge, c.kept[0]) = (5, 6));
+    add("an entry past the count", &|c| {
+        c.sheet.charge = 4;
+        c.sheet.tasks.push(task(5, 0, 2, 5));
+    });
+    let mut short = choosing(&folder_sheet().charged(5));
+    short.kept.clear();
+    add_choice(v, "charge, 17 before 13, no column", &short);
+}
+
+/// What the choice is given for a sheet whose count may be over the limit: at most five slots in each column.
+fn choosing_at_most(sheet: &Sheet) -> ChoiceCall {
+    ChoiceCall { sheet: sheet.clone(), kept: held((sheet.count + 2).min(5)), worst: held((sheet.count + 2).min(5)) }
+}
+
 pub fn vectors() -> Vectors {
     let mut v = Vectors::new();
     worked_tasks(&mut v);
@@ -428,5 +583,10 @@ pub fn vectors() -> Vectors {
     for (label, c) in &choice_refusals() {
         add_choice(&mut v, label, c);
     }
+    charged_tasks(&mut v);
+    charged_choices(&mut v);
+    charged_parts(&mut v);
+    charged_small(&mut v);
+    charged_checks(&mut v);
     v
 }

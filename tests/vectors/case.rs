@@ -62,12 +62,13 @@ pub fn numbers<N: Number>(all: &[N]) -> Vec<u8> {
     all.iter().flat_map(|n| n.bytes()).collect()
 }
 
-/// The first block of numbers: which call, up to three numbers that it is given, the sheet's count and its entries.
+/// The first block of numbers: which call, up to three numbers that it is given, the sheet's count, its charge and its entries.
 pub fn head(call: u32, given: &[u32], sheet: &Sheet) -> Vec<u8> {
     let mut all = vec![0; 8];
     all[0] = call;
     all[1..1 + given.len()].copy_from_slice(given);
     all[4] = sheet.count as u32;
+    all[5] = sheet.charge as u32;
     all.extend(sheet.tasks.iter().flat_map(|t| [t.p, t.j, t.e, t.d]));
     numbers(&all)
 }
@@ -101,6 +102,16 @@ pub fn sheet(tasks: &[(u32, u32, u32, u32)]) -> Sheet {
 
 pub fn list(releases: &[(u32, u64, u32)]) -> Vec<Release> {
     releases.iter().map(|&(task, tick, cost)| Release { task, tick, cost }).collect()
+}
+
+/// The sheet without a charge in which each cost has it in it.
+pub fn charge_in_costs(s: &Sheet) -> Sheet {
+    Sheet::of(&s.tasks.iter().map(|t| Task { e: t.e + s.charge as u32, ..*t }).collect::<Vec<_>>())
+}
+
+/// The sheet with this charge, taken off each cost: where the charge is in the costs again it is the sheet as it was.
+pub fn part_charged(s: &Sheet, charge: u8) -> Sheet {
+    Sheet::of(&s.tasks.iter().map(|t| Task { e: t.e - charge as u32, ..*t }).collect::<Vec<_>>()).charged(charge)
 }
 
 /// The same releases, each as much later.
@@ -173,6 +184,12 @@ impl ListCall {
 
     pub fn columns(&self) -> Columns<'_> {
         Columns { task: &self.task, tick: &self.tick, cost: &self.cost }
+    }
+
+    /// The same call without a charge, in which each cost has it in it.
+    pub fn charge_in_costs(&self) -> ListCall {
+        let cost = self.cost.iter().map(|c| c + self.sheet.charge as u32).collect();
+        ListCall { sheet: charge_in_costs(&self.sheet), cost, ..self.clone() }
     }
 
     /// The three columns of releases as blocks.

@@ -1,14 +1,14 @@
 //! The cases of `vectors_files`: read, write, and a file read and written again.
 
 use crate::case::*;
-use crate::lists::{full_list, full_sheet, late_list, middle_list, refusals, sound};
+use crate::lists::{charges, full_list, full_sheet, late_list, middle_list, refusals, sound};
 use crate::reference::{add_release, bytes_needed, encode, read, write, Release, Sheet, Task, MAX_TICK};
 
 /// What a byte of a lent buffer holds before a call.
 const BYTE: u8 = 0xee;
 
 pub fn no_sheet() -> Sheet {
-    Sheet { count: 0, tasks: Vec::new() }
+    Sheet::of(&[])
 }
 
 /// What a read is given: a file and three columns.
@@ -29,15 +29,20 @@ pub fn entries(s: &Sheet) -> String {
     s.tasks.iter().fold(format!(" sheet {}", s.count), |text, t| text + &format!(", {} {} {} {}", t.p, t.j, t.e, t.d))
 }
 
+/// The sheet of a read: after a refusal it has no tasks and the charge 0.
+fn read_sheet(s: &Sheet) -> String {
+    format!("{} charge {}", entries(s), s.charge)
+}
+
 fn read_answer(c: &ReadCall) -> String {
     match read(&c.file, [c.task.len(), c.tick.len(), c.cost.len()]) {
-        Err(r) => refused(r) + " sheet 0" + &column(&c.task) + &column(&c.tick) + &column(&c.cost),
+        Err(r) => refused(r) + &read_sheet(&no_sheet()) + &column(&c.task) + &column(&c.tick) + &column(&c.cost),
         Ok((sheet, list)) => {
             let task: Vec<u32> = list.iter().map(|r| r.task).collect();
             let tick: Vec<u64> = list.iter().map(|r| r.tick).collect();
             let cost: Vec<u32> = list.iter().map(|r| r.cost).collect();
             let columns = [column(&written(&task, &c.task)), column(&written(&tick, &c.tick)), column(&written(&cost, &c.cost))];
-            format!(" read {}{}{}", list.len(), entries(&sheet), columns.concat())
+            format!(" read {}{}{}", list.len(), read_sheet(&sheet), columns.concat())
         }
     }
 }
@@ -69,7 +74,7 @@ fn write_blocks(c: &ListCall, slots: usize) -> Vec<Vec<u8>> {
 }
 
 fn needed(c: &ListCall) -> usize {
-    bytes_needed(c.sheet.count, &c.tick[..c.count])
+    bytes_needed(c.sheet.charge, c.sheet.count, &c.tick[..c.count])
 }
 
 /// A file that is read and written again: the same bytes.
@@ -77,7 +82,7 @@ fn again_answer(file: &[u8]) -> String {
     match read(file, [1024; 3]) {
         Err(r) => refused(r),
         Ok((sheet, list)) => {
-            assert_eq!(encode(&sheet.tasks, &list), file);
+            assert_eq!(encode(&sheet, &list), file);
             format!(" written {}{}", file.len(), bytes(file))
         }
     }
@@ -102,9 +107,14 @@ fn add_again(v: &mut Vectors, label: &str, file: &[u8]) {
 // ---- Records as bytes ----
 
 fn of_task(t: Task) -> Vec<u8> {
-    let mut all = encode(&[t], &[]);
+    let mut all = encode(&Sheet::of(&[t]), &[]);
     all.pop();
     all
+}
+
+/// A charge, which is to be the first record.
+fn of_charge(charge: u8) -> Vec<u8> {
+    vec![5, charge]
 }
 
 fn of_release(kind: u8, task: u32, tick: u64, cost: u32) -> Vec<u8> {
@@ -133,7 +143,7 @@ fn end() -> Vec<u8> {
 }
 
 fn printed_file() -> Vec<u8> {
-    encode(&printed_sheet().tasks, &printed_list())
+    encode(&printed_sheet(), &printed_list())
 }
 
 /// The printed sheet without and with the printed releases, written out by hand.
@@ -141,13 +151,13 @@ fn worked(v: &mut Vectors) {
     let sheet_hex = "0106000000050000000200000006000000010800000007000000020000000800000001\
                      0a00000000000000020000000a000000";
     let list_hex = "020000000000020000000202000000000200000002000100000002000000";
-    let sheet_line = " sheet 3, 6 5 2 6, 8 7 2 8, 10 0 2 10";
+    let sheet_line = " sheet 3, 6 5 2 6, 8 7 2 8, 10 0 2 10 charge 0";
     for (label, list, hex, line) in [
         ("printed sheet", vec![], format!("{sheet_hex}03"), format!(" read 0{sheet_line}, - - - - -, - - - - -, - - - - -")),
         ("printed example", printed_list(), format!("{sheet_hex}{list_hex}03"),
          format!(" read 3{sheet_line}, 0 2 0 - -, 0 0 1 - -, 2 2 2 - -")),
     ] {
-        let whole = encode(&printed_sheet().tasks, &list);
+        let whole = encode(&printed_sheet(), &list);
         let r = reading(&whole, 5);
         v.worked(&format!("read, {label}"), &read_blocks(&r), &read_answer(&r), &line);
         let w = ListCall::of(&printed_sheet(), &[], &list);
@@ -157,11 +167,11 @@ fn worked(v: &mut Vectors) {
         v.worked(&format!("again, {label}"), &again_blocks(&whole), &again_answer(&whole), &line);
     }
     let empty = reading(&[], 1);
-    v.worked("read, empty file", &read_blocks(&empty), &read_answer(&empty), " refused 2 at 0 sheet 0, -, -, -");
+    v.worked("read, empty file", &read_blocks(&empty), &read_answer(&empty), " refused 2 at 0 sheet 0 charge 0, -, -, -");
     let lone = reading(&[3], 1);
-    v.worked("read, lone end", &read_blocks(&lone), &read_answer(&lone), " refused 5 at 0 sheet 0, -, -, -");
+    v.worked("read, lone end", &read_blocks(&lone), &read_answer(&lone), " refused 5 at 0 sheet 0 charge 0, -, -, -");
     let after = reading(&[3, 3], 1);
-    v.worked("read, lone end and a byte", &read_blocks(&after), &read_answer(&after), " refused 5 at 0 sheet 0, -, -, -");
+    v.worked("read, lone end and a byte", &read_blocks(&after), &read_answer(&after), " refused 5 at 0 sheet 0 charge 0, -, -, -");
 }
 
 /// A file cut before each of its bytes.
@@ -192,7 +202,7 @@ fn faults() -> Vec<(&'static str, Vec<u8>)> {
     vec![
         ("kind 0", file(&[t(), vec![0], end()])),
         ("kind 4 with one byte after it", file(&[t(), low(), vec![4], end()])),
-        ("kind 5", file(&[t(), low(), vec![5], end()])),
+        ("kind 5 with one byte after it", file(&[t(), low(), vec![5], end()])),
         ("kind 255 first", vec![255]),
         ("kind 0 after a release", file(&[t(), r(0, 1, 1), vec![0]])),
         ("kind 9 with nothing after it", file(&[t(), r(0, 1, 1), vec![9]])),
@@ -313,7 +323,7 @@ fn limits(v: &mut Vectors) {
     add_again(v, "32 tasks", &with(&[end()]));
 
     let list = full_list();
-    let full = encode(&full_sheet().tasks, &list);
+    let full = encode(&full_sheet(), &list);
     let last = list[1023].tick;
     let mut many = full.clone();
     many.pop();
@@ -330,10 +340,11 @@ fn limits(v: &mut Vectors) {
     add_read(v, "1024 releases, a byte after the end", &reading(&then(&[end(), vec![2]]), 1));
 }
 
-/// The same with ticks up to the last one allowed, all of them long; and with ticks around 1,000,000,000. 14,897 bytes decide a read.
+/// The same with ticks up to the last one allowed, all of them long; and with ticks around 1,000,000,000. Without a charge 14,897 bytes
+/// decide a read.
 fn long_limits(v: &mut Vectors) {
     let all = late_list();
-    let full = encode(&full_sheet().tasks, &all);
+    let full = encode(&full_sheet(), &all);
     assert_eq!((full.len(), all[1023].tick), (14_881, MAX_TICK));
     let mut many = full.clone();
     many.pop();
@@ -351,7 +362,7 @@ fn long_limits(v: &mut Vectors) {
     add_read(v, "1024 long releases", &reading(&full, 1026));
     add_read(v, "1024 long releases, 1023 slots", &reading(&full, 1023));
     add_again(v, "1024 long releases", &full);
-    let both = encode(&full_sheet().tasks, &middle_list());
+    let both = encode(&full_sheet(), &middle_list());
     add_read(v, "1024 releases of both kinds", &reading(&both, 1026));
     add_again(v, "1024 releases of both kinds", &both);
 }
@@ -369,7 +380,7 @@ fn read_columns(v: &mut Vectors) {
         let [task, tick, cost] = slots;
         add_read(v, label, &ReadCall { file: printed_file(), task: held(task), tick: held(tick), cost: held(cost) });
     }
-    let late = encode(&printed_sheet().tasks, &moved(&printed_list(), MAX_TICK - 1));
+    let late = encode(&printed_sheet(), &moved(&printed_list(), MAX_TICK - 1));
     let short_column = ReadCall { file: late, task: held(3), tick: held(2), cost: held(3) };
     add_read(v, "tick column short for long ticks", &short_column);
     let mut after = printed_file();
@@ -435,6 +446,142 @@ fn write_kinds(v: &mut Vectors) {
     add("long ticks, cost 0", [0, 1_000_000_001, MAX_TICK, MAX_TICK], |c| c.cost[1] = 0, 104);
 }
 
+/// The printed sheet and releases with a charge of 4, written out by hand, and refusals of a charge.
+fn worked_charges(v: &mut Vectors) {
+    let hex = "05040106000000050000000200000006000000010800000007000000020000000800000001\
+               0a00000000000000020000000a000000\
+               02000000000002000000020200000000020000000200010000000200000003";
+    let charged = printed_sheet().charged(4);
+    let whole = encode(&charged, &printed_list());
+    let r = reading(&whole, 4);
+    let line = " read 3 sheet 3, 6 5 2 6, 8 7 2 8, 10 0 2 10 charge 4, 0 2 0 -, 0 0 1 -, 2 2 2 -";
+    v.worked("read, charge 4, printed example", &read_blocks(&r), &read_answer(&r), line);
+    let w = ListCall::of(&charged, &[], &printed_list());
+    v.worked("write, charge 4, printed example", &write_blocks(&w, 85), &write_answer(&w, 85), &format!(" written 84, {hex}ee"));
+    v.worked("again, charge 4, printed example", &again_blocks(&whole), &again_answer(&whole), &format!(" written 84, {hex}"));
+    let mut add = |label: &str, bytes: &[u8], line: &str| {
+        let r = reading(bytes, 1);
+        v.worked(&format!("read, charge, {label}"), &read_blocks(&r), &read_answer(&r), &format!("{line} sheet 0 charge 0, -, -, -"));
+    };
+    let t = of_task(task(6, 5, 2, 6));
+    add("kind 5 alone", &[5], " refused 2 at 0");
+    add("nothing after it", &[5, 1], " refused 2 at 2");
+    add("0 and nothing after it", &[5, 0], " refused 6 at 0");
+    add("then the end", &[5, 1, 3], " refused 5 at 2");
+    add("0 before a task", &file(&[of_charge(0), t.clone(), end()]), " refused 6 at 0");
+    add("a second one", &file(&[of_charge(1), of_charge(1), t.clone(), end()]), " refused 3 at 2");
+    add("after a task", &file(&[t.clone(), of_charge(1), end()]), " refused 3 at 17");
+    add("after a release", &file(&[t.clone(), short(0, 0, 1), of_charge(1), end()]), " refused 3 at 27");
+    add("after the end", &file(&[t.clone(), end(), of_charge(1)]), " refused 11 at 18");
+    add("5 before (6,5,2,6)", &file(&[of_charge(5), t.clone(), end()]), " refused 17 at 2");
+    add("kind 6", &[6, 1], " refused 1 at 0");
+}
+
+/// A file with a charge cut before each of its bytes.
+fn cut_charges(v: &mut Vectors) {
+    let tasks = || file(&[of_task(task(6, 5, 2, 6)), of_task(task(8, 7, 2, 8))]);
+    let whole = file(&[of_charge(4), tasks(), short(0, 1_000_000_000, 2), long(1, MAX_TICK, 1), end()]);
+    for n in 0..=whole.len() {
+        add_read(v, &format!("charge 4, the first {n} bytes"), &reading(&whole[..n], 3));
+    }
+}
+
+/// Files with a charge: where it stands, 17, and which of several faults decides.
+fn charge_records() -> Vec<(String, Vec<u8>)> {
+    let t = || of_task(task(6, 5, 2, 6));
+    let tight = || of_task(task(9, 0, 6, 9));
+    let bad = || of_task(task(0, 7, 2, 8));
+    let r = || short(0, 9, 2);
+    let mut all = Vec::new();
+    let mut add = |label: &str, records: &[Vec<u8>]| all.push((format!("charge, {label}"), file(records)));
+    for charge in [1, 2, 3, 4, 5, 254, 255] {
+        add(&format!("{charge} before (6,5,2,6) and a release"), &[of_charge(charge), t(), r(), end()]);
+        let least = 2 + charge as u32;
+        add(&format!("{charge}, E + S is P"), &[of_charge(charge), of_task(task(least, 0, 2, least + 1)), end()]);
+        add(&format!("{charge}, E + S is D"), &[of_charge(charge), of_task(task(least + 1, 0, 2, least)), end()]);
+        add(&format!("{charge}, E + S is P + 1"), &[of_charge(charge), of_task(task(least - 1, 0, 2, least)), end()]);
+        add(&format!("{charge}, E + S is D + 1"), &[of_charge(charge), of_task(task(least, 0, 2, least - 1)), end()]);
+    }
+    add("the largest numbers", &[of_charge(255), of_task(task(1_000_000, 1_000_000, 999_745, 1_000_000)), end()]);
+    add("the largest numbers and one more", &[of_charge(255), of_task(task(1_000_000, 1_000_000, 999_746, 1_000_000)), end()]);
+    add("E the largest", &[of_charge(1), of_task(task(1_000_000, 0, 1_000_000, 1_000_000)), end()]);
+    add("every byte 255 in a task", &[of_charge(255), vec![1], vec![255; 16], end()]);
+    add("before a release", &[of_charge(1), r(), end()]);
+    add("before a long release", &[of_charge(1), long(0, MAX_TICK, 1), end()]);
+    add("before another kind", &[of_charge(1), vec![0]]);
+    add("a second one of 0", &[of_charge(1), of_charge(0), t(), end()]);
+    add("a second one, cut", &[of_charge(1), vec![5]]);
+    add("0, then another one", &[of_charge(0), of_charge(1), t(), end()]);
+    add("0 after a task", &[t(), of_charge(0), end()]);
+    add("after a task, cut", &[t(), vec![5]]);
+    add("after a charge and a task", &[of_charge(1), t(), of_charge(1), end()]);
+    add("after a task out of range", &[bad(), of_charge(1), end()]);
+    add("after a long release", &[t(), long(0, MAX_TICK, 1), of_charge(1), end()]);
+    add("between two tasks", &[t(), of_charge(1), t(), end()]);
+    add("between two releases", &[t(), r(), of_charge(1), r(), end()]);
+    add("after a charge, a task and a release", &[of_charge(1), t(), r(), of_charge(1), end()]);
+    add("before the end of a file without tasks, then one more", &[of_charge(1), end(), of_charge(1)]);
+    add("17 of the second task", &[of_charge(4), t(), tight(), end()]);
+    add("17 of the second task, cut", &[of_charge(4), t(), tight()[..16].to_vec()]);
+    add("17 in an earlier record than 6", &[of_charge(4), t(), tight(), bad(), end()]);
+    add("6 in an earlier record than 17", &[of_charge(4), bad(), tight(), end()]);
+    add("6 before 17 in one record", &[of_charge(4), t(), of_task(task(9, 1_000_001, 6, 9)), end()]);
+    add("3 before 17", &[of_charge(4), t(), r(), tight(), end()]);
+    add("17 in an earlier record than 1", &[of_charge(4), tight(), vec![9]]);
+    add("17 in an earlier record than 9", &[of_charge(4), t(), tight(), short(0, 0, 0), end()]);
+    add("without one the task holds", &[t(), tight(), r(), end()]);
+    add("cost over E, within E + S", &[of_charge(4), t(), short(0, 9, 3), end()]);
+    add("cost 0", &[of_charge(4), t(), short(0, 9, 0), end()]);
+    add("releases of both kinds", &[of_charge(4), t(), r(), long(0, MAX_TICK, 1), end()]);
+    add("a byte after the end", &[of_charge(4), t(), end(), vec![5]]);
+    all
+}
+
+/// 32 tasks and 1,024 releases with a charge of 1: the largest file has 14,883 bytes, and 14,899 decide a read.
+fn charge_limits(v: &mut Vectors) {
+    let s = full_sheet().charged(1);
+    let one = of_task(task(6, 5, 2, 6));
+    let tight = of_task(task(9, 0, 9, 9));
+    let tasks = encode(&s, &[])[..2 + 17 * 32].to_vec();
+    let with = |tail: &[Vec<u8>]| [tasks.clone(), tail.concat()].concat();
+    add_read(v, "charge 1, 32 tasks", &reading(&with(&[end()]), 1));
+    add_read(v, "charge 1, 33 tasks", &reading(&with(&[one.clone(), end()]), 1));
+    add_read(v, "charge 1, 33rd task with 17", &reading(&with(&[tight.clone(), end()]), 1));
+    let full = encode(&s, &late_list());
+    assert_eq!(full.len(), 14_883);
+    let many = full[..14_882].to_vec();
+    let then = |tail: &[Vec<u8>]| [many.clone(), tail.concat()].concat();
+    add_read(v, "charge 1, 1024 long releases", &reading(&full, 1024));
+    add_read(v, "charge 1, 1025 long releases", &reading(&then(&[long(0, MAX_TICK, 1), end()]), 1));
+    add_read(v, "charge 1, task after 1024 long releases", &reading(&then(&[one.clone()]), 1));
+    add_read(v, "charge 1, task after 1024 long releases, cut", &reading(&then(&[one[..16].to_vec()]), 1));
+    add_read(v, "charge 1, 1024 long releases, a second charge", &reading(&then(&[of_charge(1), end()]), 1));
+    add_read(v, "charge 1, 1024 long releases, a byte after the end", &reading(&then(&[end(), vec![5]]), 1));
+    add_again(v, "charge 1, 1024 long releases", &full);
+    let late = ListCall::of(&s, &[], &late_list());
+    add_write(v, "charge 1, 32 tasks and 1024 long releases", &late, 14_884);
+    add_write(v, "charge 1, 32 tasks and 1024 long releases, too few bytes", &late, 3);
+}
+
+/// The bytes that a write needs with a charge: 2 more.
+fn charge_bytes(v: &mut Vectors) {
+    let mut c = sound();
+    let n = needed(&c);
+    c.sheet.charge = 4;
+    assert_eq!(needed(&c), n + 2);
+    for slots in [0, 1, 2, n, n + 1, n + 2] {
+        add_write(v, &format!("charge 4, {slots} bytes"), &c, slots);
+    }
+    let mut wrong = c.clone();
+    wrong.cost[0] = 3;
+    add_write(v, "charge 4, bytes short before 9", &wrong, n + 1);
+    add_write(v, "charge 4, 9", &wrong, n + 2);
+    c.sheet.charge = 5;
+    add_write(v, "charge 5, 17 before bytes", &c, 0);
+    c.sheet.charge = 0;
+    add_write(v, "charge 0, the first byte is a task's", &c, n);
+}
+
 pub fn vectors() -> Vectors {
     let mut v = Vectors::new();
     worked(&mut v);
@@ -457,8 +604,20 @@ pub fn vectors() -> Vectors {
     for (label, c) in &refusals() {
         // Two bytes more than the sheet and the first four ticks need, and no fewer than the sound call has.
         let ticks = &c.tick[..c.tick.len().min(4)];
-        add_write(&mut v, label, c, bytes_needed(3, ticks).max(needed(&sound())) + 2);
+        add_write(&mut v, label, c, bytes_needed(c.sheet.charge, 3, ticks).max(needed(&sound())) + 2);
     }
     write_bytes(&mut v);
+    worked_charges(&mut v);
+    cut_charges(&mut v);
+    for (label, f) in &charge_records() {
+        add_read(&mut v, label, &reading(f, 3));
+        add_again(&mut v, label, f);
+    }
+    charge_limits(&mut v);
+    for (label, c) in &charges() {
+        let ticks = &c.tick[..c.tick.len().min(4)];
+        add_write(&mut v, label, c, bytes_needed(c.sheet.charge, 3, ticks).max(needed(&sound())) + 2);
+    }
+    charge_bytes(&mut v);
     v
 }

@@ -207,6 +207,84 @@ pub fn refusals() -> Vec<(String, ListCall)> {
     all
 }
 
+/// Charges in a call with a list, and 17. Of the sound call the tasks hold up to 4.
+pub fn charges() -> Vec<(String, ListCall)> {
+    let mut all = Vec::new();
+    let mut add = |label: &str, change: &dyn Fn(&mut ListCall)| {
+        let mut c = sound();
+        change(&mut c);
+        all.push((format!("charge, {label}"), c));
+    };
+    for charge in [1, 3, 4, 5, 6, 254, 255] {
+        add(&format!("{charge}"), &|c| c.sheet.charge = charge);
+    }
+    // E + S at P and at D, one over them, and E alone over them.
+    for (charge, e) in [(1, 4), (2, 9), (254, 2), (255, 2), (255, 999_745)] {
+        let work = e + charge as u32;
+        for (label, p, d) in [
+            ("E + S is P", work, work + 1),
+            ("E + S is D", work + 1, work),
+            ("E + S is P and D", work, work),
+            ("E + S is P + 1", work - 1, work),
+            ("E + S is D + 1", work, work - 1),
+            ("E over P", e - 1, work),
+        ] {
+            if p.max(d) <= 1_000_000 {
+                add(&format!("{label}, S {charge}, E {e}"), &|c| {
+                    c.sheet = sheet(&[(999_000, 5, 2, 999_000), (999_000, 7, 2, 999_000), (p, 0, e, d)]).charged(charge)
+                });
+            }
+        }
+    }
+    add("E is P", &|c| (c.sheet.charge, c.sheet.tasks[2]) = (1, task(2, 0, 2, 10)));
+    add("E is D", &|c| (c.sheet.charge, c.sheet.tasks[2]) = (1, task(10, 0, 2, 2)));
+    add("E and P the largest", &|c| (c.sheet.charge, c.sheet.tasks[1]) = (1, task(1_000_000, 7, 1_000_000, 1_000_000)));
+    add("E 4294967295", &|c| (c.sheet.charge, c.sheet.tasks[1]) = (4, task(8, 7, u32::MAX, 8)));
+    add("cost over E, within E + S", &|c| (c.sheet.charge, c.cost[2]) = (4, 3));
+    add("cost 0", &|c| (c.sheet.charge, c.cost[2]) = (4, 0));
+    add("17 of task 0 before 6 of task 1", &|c| (c.sheet.charge, c.sheet.tasks[1].p) = (5, 0));
+    add("6 of task 0 before 17 of task 1", &|c| (c.sheet.charge, c.sheet.tasks[0].p, c.sheet.tasks[1].d) = (4, 0, 5));
+    add("17 of task 1 before 6 of task 2", &|c| (c.sheet.charge, c.sheet.tasks[1].d, c.sheet.tasks[2].p) = (4, 5, 0));
+    add("6 of task 1 before 17 of task 2", &|c| (c.sheet.charge, c.sheet.tasks[1].p, c.sheet.tasks[2].d) = (4, 0, 5));
+    add("6 before 17 of one task", &|c| (c.sheet.charge, c.sheet.tasks[1].j, c.sheet.tasks[1].d) = (4, 1_000_001, 5));
+    add("17 of two tasks", &|c| (c.sheet.charge, c.sheet.tasks[1].d, c.sheet.tasks[2].p) = (4, 5, 5));
+    add("an entry past the count", &|c| {
+        c.sheet.charge = 4;
+        c.sheet.tasks.push(task(5, 0, 2, 5));
+    });
+    add("5 before 17", &|c| (c.sheet.charge, c.sheet.count) = (255, 0));
+    add("4 before 17", &|c| (c.sheet.charge, c.sheet.count) = (255, 33));
+    add("17 before 10", &|c| (c.sheet.charge, c.count) = (5, 1025));
+    add("17 before 13", &|c| (c.sheet.charge, c.task) = (5, vec![]));
+    add("17 before 7", &|c| (c.sheet.charge, c.task[0]) = (5, 3));
+    add("10 with a charge", &|c| (c.sheet.charge, c.count) = (4, 1025));
+    all
+}
+
+/// The same in a call with kept jitters besides.
+pub fn kept_charges() -> Vec<(String, ListCall)> {
+    let mut all = charges();
+    let mut add = |label: &str, change: &dyn Fn(&mut ListCall)| {
+        let mut c = sound();
+        change(&mut c);
+        all.push((format!("charge, {label}"), c));
+    };
+    add("17 before 13 by task", &|c| (c.sheet.charge, c.kept) = (5, vec![]));
+    add("17 before 12", &|c| (c.sheet.charge, c.kept[0]) = (5, 6));
+    add("12 with a charge", &|c| (c.sheet.charge, c.kept[0]) = (4, 6));
+    add("slots hold numbers, 17", &|c| {
+        c.sheet.charge = 5;
+        c.ready = vec![11, 22, 33, 44, 55, 1 << 63];
+        c.finish = vec![12, 23, 34, 45, 56, 4_294_967_295];
+    });
+    add("slots hold numbers, accepted", &|c| {
+        c.sheet.charge = 4;
+        c.ready = vec![11, 22, 33, 44, 55, 1 << 63];
+        c.finish = vec![12, 23, 34, 45, 56, 4_294_967_295];
+    });
+    all
+}
+
 /// The refusals of a call with kept jitters and a list besides: 12 and 13, and which decides.
 pub fn kept_refusals() -> Vec<(String, ListCall)> {
     let mut all = Vec::new();

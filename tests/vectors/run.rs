@@ -297,6 +297,88 @@ fn many_jumps(v: &mut Vectors) {
     add("1024 releases, each starts after an idle tick", &single(3, 1), |p| 3 * p, |p| 3 * p + 2, 2048);
 }
 
+/// A charge of 2 on tasks of any cost up to 20: a job takes its cost and 2 ticks. Before a case stand the ticks in which the jobs run.
+/// The kept jitters let three jobs of a task be ready at once, so that ready is release.
+fn charged(v: &mut Vectors) {
+    let four = four_tasks().charged(2);
+    let mut add = |label: &str, releases: &[(u32, u64, u32)], columns: &str, stops: u64| {
+        let c = ListCall::of(&four, &[200; 4], &list(releases));
+        v.worked(&format!("charge, {label}"), &blocks(&c), &answer(&c), &line(columns, stops));
+    };
+    add("no release", &[], ", - -, - -", 0);
+    // 1 to 3.
+    add("one release of cost 1", &[(0, 0, 1)], ", 0 - -, 4 - -", 2);
+    // 4 to 25.
+    add("one release of cost E", &[(3, 3, 20)], ", 3 - -, 26 - -", 2);
+    // Task 0 in 1 to 4, task 1 in 5 to 8, task 2 in 9 to 12.
+    add("three tasks at tick 0", &[(2, 0, 2), (1, 0, 2), (0, 0, 2)], ", 0 0 0 - -, 13 9 5 - -", 4);
+    add("three jobs of a task at tick 0", &[(1, 0, 2), (1, 0, 1), (1, 0, 3)], ", 0 0 0 - -, 5 8 13 - -", 4);
+    // Task 3 in 1 to 3, task 0 in 4 to 6, task 3 in 7 and 8: the charge is taken once.
+    add("interrupted once", &[(3, 0, 3), (0, 3, 1)], ", 0 3 - -, 9 7 - -", 4);
+    // Task 3 in 1, task 0 in 2 to 4, task 3 in 5, task 0 in 6 to 8, task 3 in 9 to 11.
+    add("interrupted twice", &[(3, 0, 3), (0, 1, 1), (0, 5, 1)], ", 0 1 5 - -, 12 5 9 - -", 6);
+    // Task 3 in 1 and 2, where without the charge it is finished at 3; task 0 in 3 to 5.
+    add("interrupted in the ticks of the charge", &[(3, 0, 2), (0, 2, 1)], ", 0 2 - -, 8 6 - -", 4);
+    // Task 3 in 1 to 4, task 0 in 5 to 7.
+    add("a higher one starts at the finish", &[(3, 0, 2), (0, 4, 1)], ", 0 4 - -, 5 8 - -", 3);
+    // Tick 5 is idle.
+    add("a higher one starts a tick after the finish", &[(3, 0, 2), (0, 5, 1)], ", 0 5 - -, 5 9 - -", 4);
+    // Task 0 in 1 to 6, task 3 in 7 to 9.
+    add("a lower one waits", &[(0, 0, 4), (3, 2, 1)], ", 0 2 - -, 7 10 - -", 4);
+    // Ticks 5 to 1,000,002 are idle.
+    add("999998 idle ticks", &[(0, 0, 2), (1, 1_000_002, 2)], ", 0 1000002 - -, 5 1000007 - -", 4);
+    // The largest charge: 1 to 256, 257 to 512.
+    let largest = sheet(&[(256, 0, 1, 256), (999, 0, 700, 999)]).charged(255);
+    let two = ListCall::of(&largest, &[0, 0], &list(&[(0, 0, 1), (1, 0, 1)]));
+    v.worked("charge, the largest", &blocks(&two), &answer(&two), &line(", 0 0 - -, 257 513 - -", 3));
+    // Held: with K 0 the second job of task 0 is ready at 8, where the first one, of 2 + 6 ticks, is finished at 9.
+    let row = ListCall::of(&sheet(&[(8, 0, 2, 8)]).charged(6), &[0], &list(&[(0, 0, 2), (0, 0, 2), (0, 0, 1)]));
+    v.worked("charge, held jobs, E + S is P", &blocks(&row), &answer(&row), &line(", 0 8 16 - -, 9 17 24 - -", 4));
+    // The sum of tests/outside/sums.rs: task 1 in 1, task 0 in 2 to 4, task 1 in 5 and 6, task 0, held to 9, in 10 and 11.
+    let sums = sheet(&[(8, 0, 2, 8), (9, 0, 2, 9)]).charged(1);
+    let three = ListCall::of(&sums, &[0, 0], &list(&[(1, 0, 2), (0, 1, 2), (0, 8, 1)]));
+    v.worked("charge, a cost below E", &blocks(&three), &answer(&three), &line(", 0 1 9 - -, 7 5 12 - -", 6));
+    // The printed releases: task 0 in 1 to 3, task 2 in 4, task 0 in 5 to 7, task 2 in 8 and 9.
+    let folder = ListCall::of(&folder_sheet().charged(1), &[2, 4, 0], &printed_list());
+    v.worked("charge, printed example", &blocks(&folder), &answer(&folder), &line(", 0 0 4 - -, 4 10 8 - -", 5));
+}
+
+/// The same by the run that jumps alone, at late ticks.
+fn charged_late(v: &mut Vectors) {
+    let mut add = |label: &str, c: &ListCall, columns: &str, stops: u64| {
+        v.worked(&format!("charge, alone, {label}"), &blocks(c), &answer(c), &line_alone(columns, stops));
+    };
+    let open = |releases: &[(u32, u64, u32)]| ListCall::of(&four_tasks().charged(2), &[200; 4], &list(releases));
+    let two = open(&[(3, 0, 1), (0, MAX_TICK, 20)]);
+    add("two releases, tick 0 and the limit", &two, ", 0 1000000000000000 - -, 4 1000000000000023 - -", 4);
+    // Task 3 has run for four ticks when it is interrupted.
+    let across = open(&[(3, 4_294_967_293, 8), (0, 4_294_967_297, 2)]);
+    add("interrupted past 4294967296", &across, ", 4294967293 4294967297 - -, 4294967308 4294967302 - -", 4);
+    // 1024 jobs of 999745 + 255 ticks: the largest ready tick and the largest finish.
+    let largest = sheet(&[(1_000_000, 0, 999_745, 1_000_000)]).charged(255);
+    let all = ListCall::of(&largest, &[0], &list(&[(0, MAX_TICK, 999_745); 1024]));
+    let ready: Vec<u64> = (0..1024).map(|p| 1_000_000_000_000_000 + 1_000_000 * p).collect();
+    let finish: Vec<u64> = ready.iter().map(|t| t + 1_000_001).collect();
+    add("largest ready and finish ticks", &all, &after(&all, &ready, &finish), 1_025);
+}
+
+/// Lists of the cases without a charge, with some that their sheets hold: what the runs give of the list in which each cost has it in it.
+fn charged_lists(v: &mut Vectors) {
+    let long = long();
+    for (label, c) in short().iter().chain([&long[0], &long[2]]) {
+        for charge in [1, 2, 30] {
+            let mut c = c.clone();
+            c.sheet.charge = charge;
+            let holds = c.sheet.tasks.iter().all(|t| t.e + charge as u32 <= t.p.min(t.d));
+            if !holds || (c.count == 1024 && charge != 2) {
+                continue;
+            }
+            let in_costs = answer(&c.charge_in_costs());
+            v.worked(&format!("charge {charge}, {label}"), &blocks(&c), &answer(&c), &in_costs);
+        }
+    }
+}
+
 /// Runs of a few jobs.
 fn short() -> Vec<(&'static str, ListCall)> {
     let five = sheet(&[(50, 0, 20, 50), (60, 0, 20, 90), (70, 100, 20, 99), (80, 10, 20, 99), (90, 0, 20, 300)]);
@@ -368,7 +450,7 @@ pub fn vectors() -> Vectors {
             let all: Vec<Release> =
                 (0..c.count).map(|p| Release { task: c.task[p], tick: c.tick[p], cost: c.cost[p] }).collect();
             let ready = ready_ticks(&c.sheet, &c.kept, &all);
-            let finish = finish_ticks_by_tick(&all, &ready);
+            let finish = finish_ticks_by_tick(c.sheet.charge, &all, &ready);
             let end = finish.iter().copied().max().unwrap_or(0);
             let stops = (0..=end).filter(|t| finish.contains(t) || ready.contains(&(t - 1))).count() as u64;
             let slots = |ticks: &[i64]| ticks.iter().map(|&t| t as u64).collect::<Vec<u64>>();
@@ -387,5 +469,11 @@ pub fn vectors() -> Vectors {
     many_jumps(&mut v);
     late_jumps(&mut v);
     moved_jumps(&mut v);
+    charged(&mut v);
+    charged_late(&mut v);
+    charged_lists(&mut v);
+    for (label, c) in &kept_charges() {
+        v.case(label, &blocks(c), &answer(c));
+    }
     v
 }

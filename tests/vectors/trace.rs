@@ -144,6 +144,26 @@ fn limits() -> Vec<(String, ListCall)> {
     ]
 }
 
+/// Charges: 17; and that a charge changes no ready tick and no answer of the check.
+fn charged(v: &mut Vectors) {
+    for (label, c) in &charges() {
+        add_trace(v, label, c);
+    }
+    for (label, c) in &kept_charges() {
+        add_ready(v, label, c);
+    }
+    let both = shapes().into_iter().chain([("1024 releases of 32 tasks".to_string(), full().remove(0).1)]);
+    for (label, mut c) in both {
+        let (ready, trace) = (ready_answer(&c), trace_answer(&c));
+        c.sheet.charge = c.sheet.tasks.iter().map(|t| t.p.min(t.d) - t.e).min().unwrap().min(255) as u8;
+        if c.sheet.charge > 0 {
+            let label = format!("charge {}, {label}", c.sheet.charge);
+            v.worked(&format!("ready, {label}"), &ready_blocks(&c), &ready_answer(&c), &ready);
+            v.worked(&format!("trace, {label}"), &trace_blocks(&c), &trace_answer(&c), &trace);
+        }
+    }
+}
+
 pub fn vectors() -> Vectors {
     let mut v = Vectors::new();
     worked(&mut v);
@@ -156,5 +176,6 @@ pub fn vectors() -> Vectors {
     for (label, c) in &kept_refusals() {
         add_ready(&mut v, label, c);
     }
+    charged(&mut v);
     v
 }

@@ -11,7 +11,7 @@ use Rattle.model.specs.Run.{finishAt, responseAt, finishList}
 use Rattle.model.specs.Calls.{releasesOf}
 use Rattle.model.specs.Choice.{Choice, unfit, chosen, column, choice}
 use Rattle.model.proofs.TableLaws.{getD-table}
-use Rattle.fileformat.specs.File.{File, sheetOf, decode}
+use Rattle.fileformat.specs.File.{File, sheetIn, decode}
 use Rattle.fileformat.proofs.RoundTripCalls.{releases-of-columns}
 use Rattle.report.specs.Report.{runHeader, runFields, runLine, runText}
 use Rattle.answers.specs.Answers.{tasksOf, ticksOf, costsOf, listText, replayText}
@@ -52,11 +52,11 @@ replay-by-place f = go (decode f) refl
   where
     go : (a : Answer File) → decode f ≡ a → replayText f ≡ replayByPlace f
     go (refused r) e = rw (replayText, replayByPlace, e)
-    go (answered x) e = rw (replayText, replayByPlace, e) (list-by-place (sheetOf (x .tasks)) (x .releases) (choice (sheetOf (x .tasks))))
+    go (answered x) e = rw (replayText, replayByPlace, e) (list-by-place (sheetIn x) (x .releases) (choice (sheetIn x)))
 
 -- of an accepted file whose tasks fit: a line for each release, its last field the response
 pub replay-jobs
-    : (f : List ℕ) (x : File) (ks : List ℕ) (ws : List ℤ) → decode f ≡ answered x → choice (sheetOf (x .tasks)) ≡ chosen ks ws
-    → replayText f ≡ jobsText (sheetOf (x .tasks)) (column ks) (x .releases)
+    : (f : List ℕ) (x : File) (ks : List ℕ) (ws : List ℤ) → decode f ≡ answered x → choice (sheetIn x) ≡ chosen ks ws
+    → replayText f ≡ jobsText (sheetIn x) (column ks) (x .releases)
 unfolding replayByPlace withChosen
 replay-jobs f x ks ws e c = replay-by-place f ∙ rw (replayByPlace, e, withChosen, c)

@@ -44,7 +44,7 @@ module _ (text : List ℕ) (r : Loaded) (h : LoadSays (load text) r) where
   -- a text that is accepted
   module _ (e : r .answer ≡ Fine) where
     fine-view : viewOf (r .tasks) ≡ sheetOf (tasksIn (r .tasks))
-    fine-view = ap viewOf (said-sheet _ r h e) ∙ view-set (tasksIn (r .tasks))
+    fine-view = ap viewOf (said-sheet _ r h e) ∙ view-set 0 (tasksIn (r .tasks))
 
     pub csv-valid : none ≡ checkTasks (viewOf (r .tasks))
     csv-valid = sym (ap checkTasks fine-view ∙ loaded-valid text _ (said-tasks _ r h e))

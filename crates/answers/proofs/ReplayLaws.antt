@@ -20,7 +20,7 @@ use Rattle.jumps.specs.declared.JumpAnswer.the-variants.{Refused}
 use Rattle.jumps.specs.Jumps.{jumpIn}
 use Rattle.taskset.specs.declared.TaskSet.{TaskSet}
 use Rattle.taskset.specs.TaskSet.{viewOf}
-use Rattle.fileformat.specs.File.{File, sheetOf, decode, ValidFile}
+use Rattle.fileformat.specs.File.{File, sheetIn, decode, ValidFile}
 use Rattle.fileformat.specs.FileCalls.{readCall, readCount, readSheet, readColumn}
 use Rattle.fileformat.proofs.RoundTrips.{decode-valid}
 use Rattle.fileformat.proofs.RoundTripCalls.{view-set, releases-of-columns}
@@ -80,7 +80,7 @@ module _ (s : Tasks) (kept : List ℕ) (n : ℕ) (task tick cost ready finish : 
 module _ (f a b c : List ℕ) (ha : maxReleases ≤ length a) (hb : maxReleases ≤ length b) (hc : maxReleases ≤ length c) where
   -- a file that was refused
   pub record Halts (n p : ℕ) : Type 0 where
-    pub small : p ≤ 14881
+    pub small : p ≤ 14883
     pub choose : refusalText n p ≡ chooseText f
     pub replay : refusalText n p ≡ replayText f
 
@@ -158,7 +158,7 @@ module _ (f a b c : List ℕ) (ha : maxReleases ≤ length a) (hb : maxReleases 
       said : answered n ≡ readCount (decode f)
       said = sym (ap outcomeIn e) ∙ h ∙ ap readCount roomy
 
-      build : (x : File) → decode f ≡ answered x → n ≡ length (x .releases) → viewOf t ≡ sheetOf (x .tasks)
+      build : (x : File) → decode f ≡ answered x → n ≡ length (x .releases) → viewOf t ≡ sheetIn x
           → p ≡ tasksOf (x .releases) ++ drop (length (tasksOf (x .releases))) a
           → q ≡ ticksOf (x .releases) ++ drop (length (ticksOf (x .releases))) b
           → r ≡ costsOf (x .releases) ++ drop (length (costsOf (x .releases))) c → Holds n t p q r
@@ -200,7 +200,7 @@ module _ (f a b c : List ℕ) (ha : maxReleases ≤ length a) (hb : maxReleases 
                   );
               list = rw (ev, back) (sym (v .releases));
             };
-            replay = rw (replayText, g, en, ap′, aq, ar, ev) (list-same (sheetOf (x .tasks)) (x .releases) _ _ _ (choice (sheetOf (x .tasks))));
+            replay = rw (replayText, g, en, ap′, aq, ar, ev) (list-same (sheetIn x) (x .releases) _ _ _ (choice (sheetIn x)));
           }
 
       go : (d : Answer File) → decode f ≡ d → Holds n t p q r
@@ -209,4 +209,4 @@ module _ (f a b c : List ℕ) (ha : maxReleases ≤ length a) (hb : maxReleases 
           let i : answered n ≡ answered (length (x .releases)) = said ∙ ap readCount g in
           let en : n ≡ length (x .releases) = cc in
           let d : readCall f a b c ≡ answered x = roomy ∙ g in
-          build x g en (ap viewOf (et ∙ ap readSheet d) ∙ view-set (x .tasks)) (rw d at ep) (rw d at eq) (rw d at er)
+          build x g en (ap viewOf (et ∙ ap readSheet d) ∙ view-set (x .charge) (x .tasks)) (rw d at ep) (rw d at eq) (rw d at er)

@@ -11,7 +11,7 @@ use Rattle.model.specs.Ready.{readyList}
 use Rattle.model.specs.Run.{finishList}
 use Rattle.model.specs.Calls.{releasesOf}
 use Rattle.model.specs.Choice.{Choice, unfit, chosen, column, choice}
-use Rattle.fileformat.specs.File.{sheetOf, decode}
+use Rattle.fileformat.specs.File.{sheetOf, sheetIn, decode}
 use Rattle.textformat.specs.TextSheet.{load}
 use Rattle.loader.specs.declared.Loader.{Loader}
 use Rattle.loader.specs.Loader.{fresh, fed, decided}
@@ -38,7 +38,7 @@ unfoldable pub chooseText : List ℕ → List ℕ
 chooseText f =
     elim (decode f) [
       | refused r ↦ refusalText (r .number) (r .place)
-      | answered x ↦ chosenText (sheetOf (x .tasks)) (choice (sheetOf (x .tasks)))
+      | answered x ↦ chosenText (sheetIn x) (choice (sheetIn x))
     ]
 
 -- the third program prints the choice for a text sheet, or a refusal with the line's number
@@ -60,8 +60,8 @@ unfoldable pub replayText : List ℕ → List ℕ
 replayText f =
     elim (decode f) [
       | refused r ↦ refusalText (r .number) (r .place)
-      | answered x ↦ listText (sheetOf (x .tasks)) (length (x .releases)) (tasksOf (x .releases)) (ticksOf (x .releases)) (costsOf (x .releases))
-          (choice (sheetOf (x .tasks)))
+      | answered x ↦ listText (sheetIn x) (length (x .releases)) (tasksOf (x .releases)) (ticksOf (x .releases)) (costsOf (x .releases))
+          (choice (sheetIn x))
     ]
 
 -- n bytes of a file were read into a buffer: the file's first bytes, to its end or until the buffer was full

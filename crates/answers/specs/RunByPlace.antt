@@ -8,7 +8,7 @@ use Rattle.model.specs.Refusal.{refused, answered}
 use Rattle.model.specs.Ready.{readyAt}
 use Rattle.model.specs.Run.{finishAt, responseAt}
 use Rattle.model.specs.Choice.{Choice, unfit, chosen, column, choice}
-use Rattle.fileformat.specs.File.{sheetOf, decode}
+use Rattle.fileformat.specs.File.{sheetIn, decode}
 use Rattle.text.specs.Text.{lines}
 use Rattle.answers.specs.Answers.{replayText}
 use Rattle.report.specs.Report.{runHeader, runFields, refusalText}
@@ -31,7 +31,7 @@ unfoldable pub replayByPlace : List ℕ → List ℕ
 replayByPlace f =
     elim (decode f) [
       | refused r ↦ refusalText (r .number) (r .place)
-      | answered x ↦ withChosen (sheetOf (x .tasks)) (x .releases) (choice (sheetOf (x .tasks)))
+      | answered x ↦ withChosen (sheetIn x) (x .releases) (choice (sheetIn x))
     ]
 
 -- `replay-by-place` (proofs/ByPlaceLaws.antt): what the second program prints is this text, for every file

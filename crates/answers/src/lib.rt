@@ -78,7 +78,7 @@ fn put_replayed(
 }
 
 // What the first program prints after a read of n bytes into its buffer: the choice, or a refusal.
-pub fn choose_text(file: &[u8; 14897], n: usize, out: &mut [u8]) -> usize
+pub fn choose_text(file: &[u8; 14899], n: usize, out: &mut [u8]) -> usize
     requires { ⌜ (n ≤ length (now file)) × (2560 ≤ length (now out)) ⌝ }
     ensures { λ r. ⌜ Printed chooseText 2560 (now (file .entry)) n (now (out .entry)) (now (out .exit)) r ⌝ }
 {
@@ -96,7 +96,7 @@ pub fn choose_text(file: &[u8; 14897], n: usize, out: &mut [u8]) -> usize
 }
 
 // What the second program prints after a read of n bytes into its buffer: the run with the chosen kept jitters, or a refusal.
-pub fn replay_text(file: &[u8; 14897], n: usize, out: &mut [u8]) -> usize
+pub fn replay_text(file: &[u8; 14899], n: usize, out: &mut [u8]) -> usize
     requires { ⌜ (n ≤ length (now file)) × (108608 ≤ length (now out)) ⌝ }
     ensures { λ r. ⌜ Printed replayText 108608 (now (file .entry)) n (now (out .entry)) (now (out .exit)) r ⌝ }
 {

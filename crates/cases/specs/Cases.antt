@@ -1,5 +1,5 @@
 -- Blocks of a case as numbers and as a task set.
-use Prim.Native.Nat.{ℕ, _+_, _*_, _/_, _<_, min}
+use Prim.Native.Nat.{ℕ, _+_, _*_, _/_, _%_, _<_, min}
 use mathlib.Core.Path.{_≡_}
 use mathlib.Core.List.{List}
 use lib.ListN.{length, getD, drop}
@@ -34,7 +34,8 @@ pub record Numbers (w : ℕ) (reading : List ℕ → ℕ → ℕ) (s held : List
   pub each : Filled (λ i. reading s (w * i)) 0 n column
   pub rest : drop n column ≡ drop n held
 
--- a task set is the one in a block of numbers: the count at 4, the 32 entries from 8 on
+-- a task set is the one in a block of numbers: the count at 4, the charge in the low byte of the number at 5, the 32 entries from 8 on
 pub record SetIn (head : List ℕ) (s : TaskSet) : Type 0 where
   pub count : s .count ≡ getD head 4 0
+  pub charge : s .charge ≡ getD head 5 0 % 256
   pub entries : Filled (entryOf head) noTask 32 (s .tasks)

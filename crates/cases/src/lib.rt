@@ -138,7 +138,7 @@ fn entry(head: &[u32; 136], i: usize) -> Task
     }
 }
 
-// The task set in a block of numbers: the count at 4, the entries from 8 on.
+// The task set in a block of numbers: the count at 4, the charge in the low byte of the number at 5, the entries from 8 on.
 pub fn task_set(head: &[u32; 136]) -> TaskSet
     ensures { λ r. ⌜ SetIn (now (head .entry)) r ⌝ }
 {
@@ -154,9 +154,11 @@ pub fn task_set(head: &[u32; 136]) -> TaskSet
         tasks[i] = entry(head, i);
         i += 1;
     }
+    let charge = (head[5] % 256) as u8;
     TaskSet {
         tasks: tasks,
         count: index(head[4]),
+        charge: charge,
     }
 }
 

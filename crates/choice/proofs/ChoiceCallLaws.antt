@@ -1,4 +1,4 @@
--- Laws of the call "choice": its refusals 5, 4, 6, 13 and 15, and its columns.
+-- Laws of the call "choice": its refusals 5, 4, 6, 17, 13 and 15, and its columns.
 use Prim.Native.Nat.{ℕ, _≤_, _<_}
 use mathlib.Core.Path.{_≡_, sym, ap, _∙_}
 use mathlib.Core.Option.{Option, some, none}
@@ -38,7 +38,7 @@ module _ (s : Tasks) (kept worst : List ℕ) where
   refuses : (r : Refusal) → some r ≡ refusalOf (choiceInputs s kept worst) → Answers (some r) kept worst
   refuses r h = (h, (column-kept _ r _ kept h, column-kept _ r _ worst h))
 
-  -- 5, 4, 6
+  -- 5, 4, 6, 17
   pub refuses-sheet : (r : Refusal) → some r ≡ checkTasks s → Answers (some r) kept worst
   refuses-sheet r h = refuses r (refused-tasks _ r h)
 

@@ -11,8 +11,9 @@ use lib.ListN.{length, take, set, replicate, length-set, getD-replicate}
 use lib.Seq.{take-suc-set, getD-set-same, getD-set-other}
 use lib.IntN.{pos}
 use Rattle.model.specs.Limits.{maxTasks, maxTime}
-use Rattle.model.specs.Tasks.{InRange, Valid}
+use Rattle.model.specs.Tasks.{InRange, Valid, load}
 use Rattle.model.specs.Choice.{column, chosen, choiceOf, choice}
+use Rattle.model.proofs.ChargeLaws.{absorbed-valid}
 use Rattle.taskset.specs.declared.TaskSet.{TaskSet}
 use Rattle.taskset.specs.TaskSet.{viewOf}
 use Rattle.response.proofs.ChoiceLaws.{least-keep}
@@ -56,10 +57,11 @@ module _ (s : TaskSet) (loads periods : List ℕ) where
       small : (m : ℕ) → m < i → Small (column loads m) (column periods m) (column keep m)
       small m h =
           let r = f .valid .in-range m (omega arith) in
+          let g = f .valid .carried m (omega arith) in
           let e = f .copied .load-is m (omega arith) in
           let d = f .copied .period-is m (omega arith) in
           record {
-            load-high = omega (arith, r .cost-period, r .period-high);
+            load-high = omega (arith, g .load-period, r .period-high);
             period-low = omega (arith, r .period-low);
             period-high = omega (arith, r .period-high);
             keep-high = f .kept-small m h;
@@ -83,13 +85,13 @@ module _ (s : TaskSet) (loads periods : List ℕ) where
               cost-high = omega (arith, own-load, own-range .cost-period, own-range .period-high);
             };
         periods-long = omega (arith, f .valid .few-tasks, f .copied .periods-long);
-        own = rw (f .copied .load-is i l, f .copied .period-is i l) (f .valid .in-range i l);
+        own = rw (f .copied .load-is i l, f .copied .period-is i l) own-range;
       }
         where
-          own-range : InRange (viewOf s .period i) (viewOf s .jitter i) (viewOf s .cost i) (viewOf s .deadline i)
-          own-range = f .valid .in-range i l
+          own-range : InRange (viewOf s .period i) (viewOf s .jitter i) (load (viewOf s) i) (viewOf s .deadline i)
+          own-range = absorbed-valid (viewOf s) (f .valid) .in-range i l
 
-          own-load : column loads i ≡ viewOf s .cost i
+          own-load : column loads i ≡ load (viewOf s) i
           own-load = f .copied .load-is i l
 
       flat-view : Flat (viewOf s) loads periods i (viewOf s .jitter i) (viewOf s .deadline i)

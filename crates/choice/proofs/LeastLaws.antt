@@ -5,6 +5,7 @@ use mathlib.Core.Logic.{dite}
 use mathlib.Core.Option.{Option, some, none}
 use mathlib.Core.List.{List}
 use native.Mathlib.Omega.{arith}
+use native.Mathlib.Nat.{add-zero}
 use native.Mathlib.Decide.{decLt}
 use native.Mathlib.Numerals.{add-one}
 use lib.ListN.{length, take, length-take}
@@ -46,7 +47,8 @@ module _ (loads periods keeps : List ℕ) (i J D : ℕ) (may : Walkable loads pe
 
   same : (s : Tasks) → Flat s loads periods i J D → (K q : ℕ) → window s (andKeep (take i keeps) K) i q ≡ windowAt loads periods keeps i q
   same s f K q =
-      window-same s (flat loads periods) (andKeep (take i keeps) K) (column keeps) i q (f .load-is)
+      window-same s (flat loads periods) (andKeep (take i keeps) K) (column keeps) i q
+      (λ m l. f .load-is m l ∙ sym (add-zero (column loads m)))
       (λ m l. f .period-is m (omega arith))
       (λ m l. keep-above (take i keeps) K m (omega (arith, above-long)) ∙ getD-take i keeps m 0 l)
 
@@ -75,7 +77,7 @@ module _ (loads periods keeps : List ℕ) (i J D : ℕ) (may : Walkable loads pe
       facts = window-some (flat loads periods) (column keeps) i q w (sym is)
 
       long : q < w
-      long = window-over (flat loads periods) (column keeps) i q w (may .own .cost-low) (sym is)
+      long = window-over (flat loads periods) (column keeps) i q w (omega (arith, may .own .cost-low)) (sym is)
 
       pub stepped : Stepped (column periods i) J D high q w
       stepped = record {

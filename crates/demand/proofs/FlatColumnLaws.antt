@@ -4,7 +4,7 @@ use mathlib.Core.Path.{_≡_, refl, sym, ap, _∙_}
 use mathlib.Core.Logic.{dite}
 use mathlib.Core.List.{List}
 use native.Mathlib.Omega.{arith}
-use native.Mathlib.Nat.{mul-le-mul, div-le-self}
+use native.Mathlib.Nat.{add-zero, mul-le-mul, div-le-self}
 use native.Mathlib.Decide.{decLt}
 use native.Mathlib.Numerals.{add-one}
 use lib.ListN.{length, set, replicate, length-set, getD-replicate}
@@ -12,6 +12,7 @@ use lib.Seq.{getD-set-same, getD-set-other}
 use Rattle.model.specs.Series.{sum}
 use Rattle.model.specs.Limits.{maxTasks}
 use Rattle.model.specs.Tasks.{load}
+use Rattle.model.specs.Arrival.{arrivals}
 use Rattle.model.specs.Demand.{aboveLoad}
 use Rattle.model.specs.Choice.{column}
 use Rattle.taskset.specs.declared.TaskSet.{TaskSet}
@@ -19,10 +20,15 @@ use Rattle.taskset.specs.TaskSet.{viewOf}
 use Rattle.demand.specs.Columns.{columnLoad, flatTasks, Small, Tried, IsTerm, IsLoad, IsOnce, Copied}
 use Rattle.demand.proofs.ArrivalCountLaws.{arrivals-at}
 
+-- the loads of a task set without a charge are its column
+pub flat-loads : (loads periods : List ℕ) (J D : ℕ) → load (flatTasks loads periods J D) ≡ column loads
+flat-loads loads periods J D = λ x j. add-zero (column loads j) x
+
 -- the sum over the columns is the load of the tasks above
 pub column-above : (loads periods keeps : List ℕ) (J D n t : ℕ) → columnLoad loads periods keeps n t ≡ aboveLoad (flatTasks loads periods J D) (column keeps) n t
 unfolding columnLoad aboveLoad
-column-above loads periods keeps J D n t = refl
+column-above loads periods keeps J D n t =
+    ap (λ f. sum (λ j. f j * arrivals (column periods j) (column keeps j) t) n) (sym (flat-loads loads periods J D))
 
 -- load × arrival count, as the code computes it, stays below 64 bits
 pub term-high : (E P K t : ℕ) → Small E P K → Tried t → E * ((t + K + P - 1) / P) ≤ 12000000000000

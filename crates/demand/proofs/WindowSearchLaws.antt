@@ -1,16 +1,17 @@
 -- Laws of the search for W(q) by a rising list, over the columns of a task and of those above it.
 use Prim.Native.Nat.{ℕ, suc, _+_, _*_, _≤_, _<_}
-use mathlib.Core.Path.{_≡_, ap₂, _∙_}
+use mathlib.Core.Path.{_≡_, sym, ap, ap₂, _∙_}
 use mathlib.Core.List.{List}
 use native.Mathlib.Omega.{arith}
-use native.Mathlib.Nat.{mul-le-mul}
+use native.Mathlib.Nat.{add-zero, mul-le-mul}
 use native.Mathlib.Numerals.{add-one}
 use Rattle.model.specs.Limits.{horizonTick}
+use Rattle.model.specs.Tasks.{load}
 use Rattle.model.specs.Choice.{column}
 use Rattle.model.specs.Demand.{demand}
 use Rattle.response.proofs.WindowLaws.{Window}
 use Rattle.demand.specs.Columns.{flatTasks, Searchable, IsLoad, IsOnce}
-use Rattle.demand.proofs.FlatColumnLaws.{column-above}
+use Rattle.demand.proofs.FlatColumnLaws.{flat-loads, column-above}
 use Rattle.demand.proofs.DemandLaws.{Periodic, short-start, short-next}
 use Rattle.demand.specs.Searching.{Search}
 
@@ -26,8 +27,8 @@ module _ (loads periods keeps : List ℕ) (i J D : ℕ) (c : Searchable loads pe
     pub own-high : own ≤ 10000001000000
     own-high = omega (arith, mul-le-mul {n₁ = q + 1} {n₂ = 10000001} {m₂ = 1000000} (omega arith) (c .cost-high))
 
-    own-suc : own ≡ suc q * column loads i
-    own-suc = rw add-one at is-own
+    own-suc : own ≡ suc q * load (flatTasks loads periods J D) i
+    own-suc = (rw add-one at is-own) ∙ ap (_*_ (suc q)) (sym (add-zero (column loads i)))
 
     -- the first member of the list
     pub search-start : (once : ℕ) → IsOnce loads i once → Search (flatTasks loads periods J D) (column keeps) i q (own + once)
@@ -35,7 +36,9 @@ module _ (loads periods keeps : List ℕ) (i J D : ℕ) (c : Searchable loads pe
         record {
           low = omega (arith, own-low);
           high = omega (arith, own-high);
-          short = rw (own-suc, o .is) (short-start (flatTasks loads periods J D) (column keeps) i periodic q);
+          short =
+              rw (own-suc, o .is)
+              (rw (flat-loads loads periods J D) at (short-start (flatTasks loads periods J D) (column keeps) i periodic q));
         }
 
     module _ (t a : ℕ) (load-is : IsLoad loads periods keeps i t a) where

@@ -15,7 +15,7 @@ use Rattle.taskset.specs.TaskSet.{viewOf}
 unfoldable pub columnLoad : List ℕ → List ℕ → List ℕ → ℕ → ℕ → ℕ
 columnLoad loads periods keeps n t = sum (λ j. column loads j * arrivals (column periods j) (column keeps j) t) n
 
--- a task set with these loads and periods, whose tasks have jitter J and deadline D
+-- a task set with these loads and periods and no charge, whose tasks have jitter J and deadline D
 abbrev pub flatTasks : List ℕ → List ℕ → ℕ → ℕ → Tasks
 flatTasks loads periods J D = record {
   count = 0;
@@ -23,6 +23,7 @@ flatTasks loads periods J D = record {
   jitter = λ j. J;
   cost = column loads;
   deadline = λ j. D;
+  charge = 0;
 }
 
 -- the numbers of a task are within document 01's limits

@@ -1,6 +1,7 @@
 // Arrival count and demand.
 ghost use mathlib.Core.Path.{_≡_};
 ghost use Prim.Native.Nat.{_≤_};
+ghost use Rattle.model.specs.Tasks.{Valid};
 ghost use Rattle.model.specs.Arrival as model_arrival;
 ghost use Rattle.model.specs.Checks.{refusalOf};
 ghost use Rattle.model.specs.Calls.{taskInputs, arrivalCall};
@@ -73,18 +74,19 @@ pub fn once_each(loads: &[u32], periods: &[u32], keeps: &[u32], n: usize) -> u64
     sum
 }
 
-// Loads and periods of the tasks of a sheet, copied once. Slots past the count are 0.
+// Loads and periods of the tasks of a sheet, worked out once: the load is E + S. Slots past the count are 0.
 pub fn columns_of(s: TaskSet) -> TaskColumns
-    requires { ⌜ s .count ≤ 32 ⌝ }
+    requires { ⌜ Valid (viewOf s) ⌝ }
     ensures { λ r. ⌜ Copied s (s .count) (r .loads) (r .periods) ⌝ }
 {
     let count = s.count;
+    let charge = s.charge as u32;
     let mut loads: [u32; 32] = [0; 32];
     let mut periods: [u32; 32] = [0; 32];
     let mut j = 0;
     while j < count {
         let t = s.tasks[j];
-        loads[j] = t.cost;
+        loads[j] = t.cost + charge;
         periods[j] = t.period;
         j += 1;
     }
@@ -94,7 +96,7 @@ pub fn columns_of(s: TaskSet) -> TaskColumns
     }
 }
 
-// The checks of a call about one task with kept jitters: the sheet (5, 4, 6), then 14, 13, 12.
+// The checks of a call about one task with kept jitters: the sheet (5, 4, 6, 17), then 14, 13, 12.
 pub fn check_call(s: TaskSet, task: usize, kept: &[u32]) -> Checked
     ensures { λ r. ⌜ refusalIn r ≡ refusalOf (taskInputs (viewOf s) task (now (kept .entry))) ⌝ }
 {

@@ -1,15 +1,17 @@
-// Entries of a sheet that is read or loaded: none yet, and the check of one task more.
+// Entries of a sheet that is read or loaded: none yet, and the check of the charge and of one task more; the bytes of records.
 use taskset::Checked;
 use taskset::Task;
 use taskset::TaskSet;
 ghost use mathlib.Core.Path.{_≡_};
+ghost use Prim.Native.Nat.{_+_, _*_, _≤_};
 ghost use mathlib.Core.List.{[]};
 ghost use Rattle.taskset.specs.TaskSet.{refusalIn};
-ghost use Rattle.releases.specs.Releases.{faultAt};
-ghost use Rattle.fileformat.specs.File.{taskFault};
-ghost use Rattle.fileformat.specs.FileCalls.{setOf};
+ghost use Rattle.model.specs.Checks.{faultAt};
+ghost use Rattle.fileformat.specs.Records.{widthIn, releaseSize};
+ghost use Rattle.fileformat.specs.File.{chargeFault, taskFault};
+ghost use Rattle.fileformat.specs.FileCalls.{setOf, chargeBytes};
 
-// No tasks; all entries are 0.
+// No tasks and no charge; all entries are 0.
 pub fn no_tasks() -> TaskSet
     ensures { λ r. ⌜ r ≡ setOf [] ⌝ }
 {
@@ -22,12 +24,66 @@ pub fn no_tasks() -> TaskSet
     TaskSet {
         tasks: [t; 32],
         count: 0,
+        charge: 0,
     }
 }
 
-// What is wrong with a task after so many tasks and releases: 3, 4 or 6, with the place given.
-pub fn check_task(tasks: usize, releases: usize, at: usize, t: Task) -> Checked
-    ensures { λ r. ⌜ refusalIn r ≡ faultAt at (taskFault tasks releases t) ⌝ }
+// What is wrong with a charge after so many tasks and releases, given the charge so far: 3 or 6, with the place given.
+pub fn check_charge(held: u8, tasks: usize, releases: usize, at: usize, charge: u8) -> Checked
+    ensures { λ r. ⌜ refusalIn r ≡ faultAt at (chargeFault held tasks releases charge) ⌝ }
+{
+    if 0 < held {
+        return Checked::Refused {
+            number: 3,
+            place: at,
+        };
+    }
+    if 0 < tasks {
+        return Checked::Refused {
+            number: 3,
+            place: at,
+        };
+    }
+    if 0 < releases {
+        return Checked::Refused {
+            number: 3,
+            place: at,
+        };
+    }
+    if charge == 0 {
+        return Checked::Refused {
+            number: 6,
+            place: at,
+        };
+    }
+    Checked::Fine
+}
+
+// The bytes of the record of a charge, which there is where it is not 0.
+pub fn charge_size(charge: u8) -> usize
+    ensures { λ r. ⌜ r ≡ chargeBytes charge ⌝ }
+{
+    if 0 < charge { 2 } else { 0 }
+}
+
+// The bytes of the records of a sheet: its charge and its tasks.
+pub fn sheet_size(charge: u8, count: usize) -> usize
+    requires { ⌜ count ≤ 32 ⌝ }
+    ensures { λ r. ⌜ r ≡ chargeBytes charge + 17 * count ⌝ }
+{
+    charge_size(charge) + 17 * count
+}
+
+// The bytes of a release record.
+pub fn release_size(long: bool) -> usize
+    ensures { λ r. ⌜ r ≡ releaseSize (widthIn long) ⌝ }
+{
+    if long { 14 } else { 10 }
+}
+
+// What is wrong with a task after so many tasks and releases, given the charge: 3, 4, 6 or 17, with the place given.
+pub fn check_task(charge: u8, tasks: usize, releases: usize, at: usize, t: Task) -> Checked
+    ensures { λ r. ⌜ refusalIn r ≡ faultAt at (taskFault charge tasks releases t) ⌝ }
 {
     if 0 < releases {
         return Checked::Refused {
@@ -41,11 +97,5 @@ pub fn check_task(tasks: usize, releases: usize, at: usize, t: Task) -> Checked
             place: at,
         };
     }
-    if !taskset::in_range(t) {
-        return Checked::Refused {
-            number: 6,
-            place: at,
-        };
-    }
-    Checked::Fine
+    taskset::check_entry(charge, at, t)
 }

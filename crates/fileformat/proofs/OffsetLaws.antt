@@ -10,9 +10,9 @@ use lib.Seq.{drop-cons}
 use Rattle.model.specs.Tasks.{Release}
 use Rattle.taskset.specs.declared.Task.{Task}
 use Rattle.fileformat.specs.Numbers.{field}
-use Rattle.fileformat.specs.Records.{Width, kindOf, tickBytes, Record, broken, taskRecord, releaseRecord, endRecord, taskFrom, releaseFrom, recordOf, releaseSize, sizeOf}
-use Rattle.fileformat.proofs.NumberLaws.{field-drop}
-use Rattle.fileformat.proofs.RecordLaws.{shape, size-in, record-due, record-unknown, record-task, record-task-cut, record-release, record-release-cut, record-end}
+use Rattle.fileformat.specs.Records.{Width, kindOf, tickBytes, Record, broken, taskRecord, releaseRecord, chargeRecord, endRecord, taskFrom, releaseFrom, chargeFrom, recordOf, releaseSize, sizeOf}
+use Rattle.fileformat.proofs.NumberLaws.{field-drop, field-one}
+use Rattle.fileformat.proofs.RecordLaws.{shape, size-in, record-due, record-unknown, record-task, record-task-cut, record-release, record-release-cut, record-charge, record-charge-cut, record-end}
 
 module _ (f : List ℕ) (at : ℕ) where
   pub at-due : length f ≤ at → broken 2 ≡ recordOf (drop at f)
@@ -39,11 +39,20 @@ module _ (f : List ℕ) (at : ℕ) where
       → releaseRecord w r ≡ recordOf (drop at f)
   at-release w r h e l q = ap (releaseRecord w) q ∙ sym (ap recordOf (from-kind (kindOf w) h e) ∙ record-release _ w (omega (arith, body)))
 
+  pub at-charge-cut : at < length f → getD f at 0 ≡ 5 → length f - at < 2 → broken 2 ≡ recordOf (drop at f)
+  at-charge-cut h e l = sym (ap recordOf (from-kind 5 h e) ∙ record-charge-cut _ (omega (arith, body)))
+
+  pub at-charge : (c : ℕ) → at < length f → getD f at 0 ≡ 5 → 2 ≤ length f - at → c ≡ getD f (at + 1) 0 → chargeRecord c ≡ recordOf (drop at f)
+  unfolding chargeFrom
+  at-charge c h e l q =
+      ap chargeRecord (q ∙ sym (field-drop (at + 1) 0 1 f ∙ ap (λ a. field a 1 f) (add-zero (at + 1)) ∙ field-one (at + 1) f (omega arith)))
+      ∙ sym (ap recordOf (from-kind 5 h e) ∙ record-charge _ (omega (arith, body)))
+
   pub at-end : at < length f → getD f at 0 ≡ 3 → endRecord ≡ recordOf (drop at f)
   at-end h e = sym (ap recordOf (from-kind 3 h e) ∙ record-end _)
 
-  pub at-unknown : at < length f → (getD f at 0 ≡ 1 → ⊥) → (getD f at 0 ≡ 2 → ⊥) → (getD f at 0 ≡ 3 → ⊥) → (getD f at 0 ≡ 4 → ⊥) → broken 1 ≡ recordOf (drop at f)
-  at-unknown h a b c d = sym (ap recordOf (from-kind (getD f at 0) h refl) ∙ record-unknown _ _ a b c d)
+  pub at-unknown : at < length f → (getD f at 0 ≡ 1 → ⊥) → (getD f at 0 ≡ 2 → ⊥) → (getD f at 0 ≡ 3 → ⊥) → (getD f at 0 ≡ 4 → ⊥) → (getD f at 0 ≡ 5 → ⊥) → broken 1 ≡ recordOf (drop at f)
+  at-unknown h a b c d e = sym (ap recordOf (from-kind (getD f at 0) h refl) ∙ record-unknown _ _ a b c d e)
 
   -- a record that is found ends within the file
   pub room : (r : Record) → at ≤ length f → r ≡ recordOf (drop at f) → at + sizeOf r ≤ length f

@@ -1,4 +1,4 @@
--- The answer of a read depends on the first 14,897 bytes only: 32 tasks, 1,024 releases and one task record more.
+-- The answer of a read depends on the first 14,899 bytes only: a charge, 32 tasks, 1,024 releases and one task record more.
 use Prim.Native.Nat.{ℕ, zero, suc, _+_, _*_, _-_, _≤_, _<_}
 use mathlib.Core.Path.{_≡_, refl, sym, ap, _∙_}
 use mathlib.Core.Bool.{Bool, true, false}
@@ -9,13 +9,15 @@ use lib.Dec.{eqb}
 use lib.ListN.{length, take, drop, length-take, length-drop, length-append}
 use lib.Seq.{take-take}
 use Rattle.model.specs.Limits.{maxTasks, maxReleases}
-use Rattle.fileformat.specs.Records.{Width, short, long, tickBytes, bodySize, Record, taskRecord, releaseRecord, taskFrom, releaseFrom, whole, recordOf, sizeOf}
-use Rattle.fileformat.specs.File.{State, Step, next, withTask, withRelease, advance, afterEnd, readFrom, empty, decode}
+use Rattle.fileformat.specs.Records.{Width, short, long, tickBytes, bodySize, Record, taskRecord, releaseRecord, chargeRecord, taskFrom, releaseFrom, chargeFrom, whole, recordOf, sizeOf}
+use Rattle.fileformat.specs.File.{State, Step, next, withCharge, withTask, withRelease, advance, afterEnd, readFrom, empty, decode}
+use Rattle.fileformat.specs.FileCalls.{chargeBytes}
 use Rattle.fileformat.specs.RoundTrips.{FirstBytesDecide}
 use Rattle.fileformat.proofs.NumberLaws.{by-order, drop-take, field-take}
 use Rattle.fileformat.proofs.RecordLaws.{shape, size-in, whole-is, whole-cut, record-unknown, tick-bytes}
 use Rattle.fileformat.proofs.WidthLaws.{size-high}
-use Rattle.fileformat.proofs.StepLaws.{Moves, stops, takes-task, takes-release, ends, moves, read-stop, read-next, read-last}
+use Rattle.fileformat.proofs.RoundTrips.{no-charge-bytes, some-charge-bytes, charge-bytes-high}
+use Rattle.fileformat.proofs.StepLaws.{Moves, stops, takes-charge, takes-task, takes-release, ends, moves, read-stop, read-next, read-last}
 
 whole-take : (n m : ℕ) (l : List ℕ) (r r′ : Record) → n ≤ m → r ≡ r′ → whole n (take m l) r ≡ whole n l r′
 whole-take n m l r r′ h e =
@@ -36,12 +38,16 @@ release-take w m l h =
 
 -- a record depends on the first 17 bytes only
 body-take : (k m : ℕ) (l : List ℕ) → 16 ≤ m → recordOf (k ∷ take m l) ≡ recordOf (k ∷ l)
-unfolding recordOf
+unfolding recordOf chargeFrom
 body-take k m l h = one (eqb k 1) refl
   where
+    five : (k ≡ 1 → ⊥) → (k ≡ 2 → ⊥) → (k ≡ 3 → ⊥) → (k ≡ 4 → ⊥) → (b : Bool) → eqb k 5 ≡ b → recordOf (k ∷ take m l) ≡ recordOf (k ∷ l)
+    five w x y z true e = rw (eqb-true k 5 e) (whole-take 1 m l _ _ (omega arith) (ap chargeRecord (field-take 0 1 m l (omega arith))))
+    five w x y z false e = record-unknown k (take m l) w x y z (eqb-false k 5 e) ∙ sym (record-unknown k l w x y z (eqb-false k 5 e))
+
     four : (k ≡ 1 → ⊥) → (k ≡ 2 → ⊥) → (k ≡ 3 → ⊥) → (b : Bool) → eqb k 4 ≡ b → recordOf (k ∷ take m l) ≡ recordOf (k ∷ l)
     four x y z true e = rw (eqb-true k 4 e) (whole-take (bodySize long) m l _ _ (omega arith) (ap (releaseRecord long) (release-take long m l h)))
-    four x y z false e = record-unknown k (take m l) x y z (eqb-false k 4 e) ∙ sym (record-unknown k l x y z (eqb-false k 4 e))
+    four x y z false e = five x y z (eqb-false k 4 e) (eqb k 5) refl
 
     three : (k ≡ 1 → ⊥) → (k ≡ 2 → ⊥) → (b : Bool) → eqb k 3 ≡ b → recordOf (k ∷ take m l) ≡ recordOf (k ∷ l)
     three x y true e = rw (eqb-true k 3 e) (whole-take 0 m l _ _ (omega arith) refl)
@@ -66,12 +72,12 @@ end-take s at zero l h = absurd (omega arith)
 end-take s at (suc m) [] h = refl
 end-take s at (suc m) (b ∷ l) h = refl
 
--- where a reading stands: so many bytes were read for the tasks and releases, and m more are looked at
+-- where a reading stands: so many bytes were read for the charge, the tasks and releases, and m more are looked at
 record Stands (s : State) (at m : ℕ) : Type 0 where
-  offset : at ≤ 17 * length (s .tasks) + 14 * length (s .releases)
+  offset : at ≤ chargeBytes (s .charge) + 17 * length (s .tasks) + 14 * length (s .releases)
   few-tasks : length (s .tasks) ≤ maxTasks
   few-releases : length (s .releases) ≤ maxReleases
-  ahead : m + at ≡ 14897
+  ahead : m + at ≡ 14899
 
 module _ (n n′ : ℕ) (s : State) (at m : ℕ) (f : List ℕ) (a : Stands s at m) (h : length f < suc n) (h′ : length (take m f) < suc n′) where
   abbrev Rest : ℕ → Type 0
@@ -80,7 +86,7 @@ module _ (n n′ : ℕ) (s : State) (at m : ℕ) (f : List ℕ) (a : Stands s at
       (take (m - k) (drop k f)) ≡ readFrom n s′ (at + k) (drop k f)
 
   long-enough : 17 ≤ m
-  long-enough = omega (arith, a .offset, a .few-tasks, a .few-releases, a .ahead)
+  long-enough = omega (arith, a .offset, charge-bytes-high (s .charge), a .few-tasks, a .few-releases, a .ahead)
 
   taken
       : (r : Record) (s′ : State) → recordOf f ≡ r → recordOf (take m f) ≡ r → advance s r ≡ next s′ → 1 ≤ sizeOf r → sizeOf r ≤ 17
@@ -97,7 +103,16 @@ module _ (n n′ : ℕ) (s : State) (at m : ℕ) (f : List ℕ) (a : Stands s at
   unfolding sizeOf
   one-step r t d e (stops q k) ih =
       read-stop n′ s at (take m f) r (record-take m f long-enough ∙ d) k e ∙ sym (read-stop n s at f r d k e)
-  one-step r t d e (takes-task t′ z l g) ih =
+  one-step r t d e (takes-charge c h y z l) ih =
+      taken r (withCharge s c) d (record-take m f long-enough ∙ d) e (omega arith) (omega arith)
+      (record {
+        offset = omega (arith, a .offset, ap chargeBytes h, no-charge-bytes, some-charge-bytes c l);
+        few-tasks = a .few-tasks;
+        few-releases = a .few-releases;
+        ahead = omega (arith, a .ahead, long-enough);
+      })
+      ih
+  one-step r t d e (takes-task t′ z l g q) ih =
       taken r (withTask s t′) d (record-take m f long-enough ∙ d) e (omega arith) (omega arith)
       (record {
         offset = omega (arith, a .offset, length-append (s .tasks) (t′ ∷ []));
@@ -129,12 +144,12 @@ prefix-from (suc n) (suc n′) s at m f a h h′ =
     (λ s′ b g g′. prefix-from n n′ s′ (at + sizeOf (recordOf f)) (m - sizeOf (recordOf f)) (drop (sizeOf (recordOf f)) f) b g g′)
 
 -- the bytes that decide a read
-pub decode-prefix : (f : List ℕ) → decode (take 14897 f) ≡ decode f
+pub decode-prefix : (f : List ℕ) → decode (take 14899 f) ≡ decode f
 unfolding decode
 decode-prefix f =
-    prefix-from (suc (length f)) (suc (length (take 14897 f))) empty 0 14897 f
-    (record { offset = omega arith; few-tasks = omega arith; few-releases = omega arith; ahead = refl }) (omega arith) (omega arith)
+    prefix-from (suc (length f)) (suc (length (take 14899 f))) empty 0 14899 f
+    (record { offset = omega (arith, no-charge-bytes); few-tasks = omega arith; few-releases = omega arith; ahead = refl }) (omega arith) (omega arith)
 
 -- and so do more bytes
 pub decode-first : FirstBytesDecide
-decode-first n f h = sym (decode-prefix (take n f)) ∙ ap decode (take-take 14897 n f h) ∙ decode-prefix f
+decode-first n f h = sym (decode-prefix (take n f)) ∙ ap decode (take-take 14899 n f h) ∙ decode-prefix f

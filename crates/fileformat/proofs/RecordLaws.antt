@@ -11,8 +11,8 @@ use lib.ListN.{length, take, drop, length-append, take-append-drop}
 use Rattle.model.specs.Tasks.{Release}
 use Rattle.taskset.specs.declared.Task.{Task}
 use Rattle.fileformat.specs.Numbers.{bytesOf, field, Bytes}
-use Rattle.fileformat.specs.Records.{Width, short, long, kindOf, tickBytes, bodySize, Record, broken, taskRecord, releaseRecord, endRecord, taskFrom, releaseFrom, whole, recordOf, taskBytes, releaseBytes, releaseSize, recordBytes, sizeOf}
-use Rattle.fileformat.proofs.NumberLaws.{length-bytes, field-here, field-after, bytes-field, take-part}
+use Rattle.fileformat.specs.Records.{Width, short, long, kindOf, tickBytes, bodySize, Record, broken, taskRecord, releaseRecord, chargeRecord, endRecord, taskFrom, releaseFrom, chargeFrom, whole, recordOf, taskBytes, releaseBytes, releaseSize, recordBytes, sizeOf}
+use Rattle.fileformat.proofs.NumberLaws.{length-bytes, field-here, field-after, bytes-field, take-part, field-one}
 
 -- a whole body gives the record, a cut one 2
 pub whole-is : (n : ℕ) (l : List ℕ) (r : Record) → n ≤ length l → whole n l r ≡ r
@@ -28,9 +28,9 @@ pub record-due : recordOf [] ≡ broken 2
 unfolding recordOf
 record-due = refl
 
-pub record-unknown : (k : ℕ) (l : List ℕ) → (k ≡ 1 → ⊥) → (k ≡ 2 → ⊥) → (k ≡ 3 → ⊥) → (k ≡ 4 → ⊥) → recordOf (k ∷ l) ≡ broken 1
+pub record-unknown : (k : ℕ) (l : List ℕ) → (k ≡ 1 → ⊥) → (k ≡ 2 → ⊥) → (k ≡ 3 → ⊥) → (k ≡ 4 → ⊥) → (k ≡ 5 → ⊥) → recordOf (k ∷ l) ≡ broken 1
 unfolding recordOf
-record-unknown k l a b c d = rw (recordOf, ne-eqb k 1 a, ne-eqb k 2 b, ne-eqb k 3 c, ne-eqb k 4 d)
+record-unknown k l a b c d e = rw (recordOf, ne-eqb k 1 a, ne-eqb k 2 b, ne-eqb k 3 c, ne-eqb k 4 d, ne-eqb k 5 e)
 
 module _ (l : List ℕ) where
   pub record-task : 16 ≤ length l → recordOf (1 ∷ l) ≡ taskRecord (taskFrom l)
@@ -51,6 +51,14 @@ module _ (l : List ℕ) where
   record-release-cut short h = whole-cut (bodySize short) l _ h
   record-release-cut long h = whole-cut (bodySize long) l _ h
 
+  pub record-charge : 1 ≤ length l → recordOf (5 ∷ l) ≡ chargeRecord (chargeFrom l)
+  unfolding recordOf
+  record-charge h = whole-is 1 l _ h
+
+  pub record-charge-cut : length l < 1 → recordOf (5 ∷ l) ≡ broken 2
+  unfolding recordOf
+  record-charge-cut h = whole-cut 1 l _ h
+
   pub record-end : recordOf (3 ∷ l) ≡ endRecord
   unfolding recordOf
   record-end = whole-is 0 l _ (omega arith)
@@ -60,6 +68,7 @@ pub data Shape : List ℕ → Record → Type 0 where
   is-broken : (f : List ℕ) (n : ℕ) → Shape f (broken n)
   is-task : (l : List ℕ) → 16 ≤ length l → Shape (1 ∷ l) (taskRecord (taskFrom l))
   is-release : (w : Width) (l : List ℕ) → bodySize w ≤ length l → Shape (kindOf w ∷ l) (releaseRecord w (releaseFrom w l))
+  is-charge : (l : List ℕ) → 1 ≤ length l → Shape (5 ∷ l) (chargeRecord (chargeFrom l))
   is-end : (l : List ℕ) → Shape (3 ∷ l) endRecord
 
 pub shape : (f : List ℕ) → Shape f (recordOf f)
@@ -70,9 +79,17 @@ shape (k ∷ l) = one (eqb k 1) refl
     release w true e = rw (record-release-cut l w (ltb-true _ _ e)) (is-broken (kindOf w ∷ l) 2)
     release w false e = rw (record-release l w (ltb-false _ _ e)) (is-release w l (ltb-false _ _ e))
 
+    charge : (b : Bool) → ltb (length l) 1 ≡ b → Shape (5 ∷ l) (recordOf (5 ∷ l))
+    charge true e = rw (record-charge-cut l (ltb-true _ _ e)) (is-broken (5 ∷ l) 2)
+    charge false e = rw (record-charge l (ltb-false _ _ e)) (is-charge l (ltb-false _ _ e))
+
+    five : (k ≡ 1 → ⊥) → (k ≡ 2 → ⊥) → (k ≡ 3 → ⊥) → (k ≡ 4 → ⊥) → (b : Bool) → eqb k 5 ≡ b → Shape (k ∷ l) (recordOf (k ∷ l))
+    five w x y z true e = rw (eqb-true k 5 e) (charge (ltb (length l) 1) refl)
+    five w x y z false e = rw (record-unknown k l w x y z (eqb-false k 5 e)) (is-broken (k ∷ l) 1)
+
     four : (k ≡ 1 → ⊥) → (k ≡ 2 → ⊥) → (k ≡ 3 → ⊥) → (b : Bool) → eqb k 4 ≡ b → Shape (k ∷ l) (recordOf (k ∷ l))
     four x y z true e = rw (eqb-true k 4 e) (release long (ltb (length l) (bodySize long)) refl)
-    four x y z false e = rw (record-unknown k l x y z (eqb-false k 4 e)) (is-broken (k ∷ l) 1)
+    four x y z false e = five x y z (eqb-false k 4 e) (eqb k 5) refl
 
     three : (k ≡ 1 → ⊥) → (k ≡ 2 → ⊥) → (b : Bool) → eqb k 3 ≡ b → Shape (k ∷ l) (recordOf (k ∷ l))
     three x y true e = rw (eqb-true k 3 e, record-end l) (is-end l)
@@ -101,6 +118,10 @@ pub length-release : (w : Width) (r : Release) → length (releaseBytes w r) ≡
 unfolding releaseBytes
 length-release w r =
     simp length-append (omega (arith, length-bytes 1 (r .task), length-bytes (tickBytes w) (r .tick), length-bytes 4 (r .cost)))
+
+pub length-charge : (c : ℕ) → length (recordBytes (chargeRecord c)) ≡ 2
+unfolding recordBytes
+length-charge c = ap suc (length-bytes 1 c)
 
 -- a tick has four bytes at least and eight at most
 pub tick-bytes : (w : Width) → (4 ≤ tickBytes w) × (tickBytes w ≤ 8)
@@ -161,6 +182,11 @@ release-read w r m f =
     whole-length : length (releaseBytes w r ++ m) ≡ releaseSize w + length m
     whole-length = length-append (releaseBytes w r) m ∙ ap (λ x. x + length m) (length-release w r)
 
+pub charge-read : (c : ℕ) (m : List ℕ) → c < 256 → recordOf (recordBytes (chargeRecord c) ++ m) ≡ chargeRecord c
+unfolding recordBytes chargeFrom
+charge-read c m f =
+    record-charge _ (omega (arith, length-append (bytesOf 1 c) m, length-bytes 1 c)) ∙ ap chargeRecord (field-here 1 c m f)
+
 -- the bytes that give a record are its bytes
 task-bytes : (l : List ℕ) → Bytes l → 16 ≤ length l → taskBytes (taskFrom l) ≡ 1 ∷ take 16 l
 unfolding taskBytes taskFrom
@@ -180,13 +206,26 @@ release-bytes w l b h =
     (ap (λ x. kindOf w ∷ x) (ap (λ x. take 1 l ++ x) (sym (take-part 1 k 4 l)) ∙ sym (take-part 0 1 (k + 4) l) ∙ ap (λ n. take n l) e))
 
 pub bytes-read : (f : List ℕ) (r : Record) → Shape f r → Bytes f → ((n : ℕ) → r ≡ broken n → ⊥) → recordBytes r ++ drop (sizeOf r) f ≡ f
-unfolding recordBytes sizeOf
+unfolding recordBytes sizeOf chargeFrom
 bytes-read f r (is-broken g n) b h = absurd (h n refl)
 bytes-read f r (is-task l g) b h =
     ap (λ x. x ++ drop 16 l) (task-bytes l (λ i. b (suc i)) g) ∙ ap (λ x. 1 ∷ x) (take-append-drop 16 l)
 bytes-read f r (is-release w l g) b h =
     ap (λ x. x ++ drop (releaseSize w) (kindOf w ∷ l)) (release-bytes w l (λ i. b (suc i)) g) ∙ ap (λ x. kindOf w ∷ x) (take-append-drop (bodySize w) l)
+bytes-read f r (is-charge l g) b h =
+    ap (λ x. 5 ∷ (x ++ drop 1 l)) (bytes-field 0 1 l (λ i. b (suc i)) g) ∙ ap (λ x. 5 ∷ x) (take-append-drop 1 l)
 bytes-read f r (is-end l) b h = refl
+
+-- a charge that some bytes give is a byte
+pub charge-byte : (f : List ℕ) (r : Record) → Shape f r → Bytes f → (c : ℕ) → r ≡ chargeRecord c → c < 256
+unfolding chargeFrom
+charge-byte f r (is-broken g n) b c e = let w : _≡_ {A = ℕ} 0 1 = cc in absurd (omega arith)
+charge-byte f r (is-task l g) b c e = let w : _≡_ {A = ℕ} 0 1 = cc in absurd (omega arith)
+charge-byte f r (is-release v l g) b c e = let w : _≡_ {A = ℕ} 0 1 = cc in absurd (omega arith)
+charge-byte f r (is-charge l g) b c e =
+    let w : field 0 1 l ≡ c = cc in
+    omega (arith, field-one 0 l g, b 1)
+charge-byte f r (is-end l) b c e = let w : _≡_ {A = ℕ} 0 1 = cc in absurd (omega arith)
 
 -- a record lies within the bytes that give it
 pub size-in : (f : List ℕ) (r : Record) → Shape f r → sizeOf r ≤ length f
@@ -194,4 +233,5 @@ unfolding sizeOf
 size-in f r (is-broken g n) = omega arith
 size-in f r (is-task l h) = omega arith
 size-in f r (is-release w l h) = omega arith
+size-in f r (is-charge l h) = omega arith
 size-in f r (is-end l) = omega arith

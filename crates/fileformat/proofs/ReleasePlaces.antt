@@ -1,32 +1,14 @@
 -- Where the releases of a file stand: after all tasks, each release in its own record.
 use Prim.Native.Nat.{ℕ, _+_, _≤_}
 use mathlib.Core.Path.{_≡_, refl, sym, ap, _∙_}
-use mathlib.Core.Bool.{Bool, true, false}
-use mathlib.Core.Option.{none}
 use mathlib.Core.List.{List}
 use native.Mathlib.Omega.{arith}
-use borrow.Author.Tests.{ltb-true, ltb-false}
-use lib.Dec.{ltb}
 use native.Mathlib.Nat.{add-zero}
 use lib.ListN.{length, getD, drop, length-drop}
 use lib.Seq.{drop-drop, getD-drop}
 use Rattle.model.specs.Tasks.{Release}
-use Rattle.taskset.specs.declared.Task.{Task}
 use Rattle.fileformat.specs.Records.{Width, kindOf, Record, releaseRecord, releaseFrom, releaseSize, recordOf}
-use Rattle.fileformat.specs.File.{taskFault}
-use Rattle.fileformat.proofs.RecordLaws.{Shape, is-broken, is-task, is-release, is-end, shape}
-use Rattle.fileformat.proofs.StepLaws.{task-after}
-
--- a task record without a fault comes before any release
-pub task-first : (tasks releases : ℕ) (t : Task) → taskFault tasks releases t ≡ none → releases ≡ 0
-task-first tasks releases t e = go (ltb 0 releases) refl
-  where
-    go : (b : Bool) → ltb 0 releases ≡ b → releases ≡ 0
-    go true h =
-        let w = sym (task-after tasks releases t (ltb-true _ _ h)) ∙ e in
-        let z : _≡_ {A = ℕ} 0 1 = cc in
-        absurd (omega arith)
-    go false h = omega (arith, ltb-false 0 releases h)
+use Rattle.fileformat.proofs.RecordLaws.{Shape, is-broken, is-task, is-release, is-charge, is-end, shape}
 
 -- bytes that begin with a release record
 record Begins (w : Width) (r : Release) (l : List ℕ) : Type 0 where
@@ -41,6 +23,7 @@ begins w r l q (is-release v m h) e =
     let s : v ≡ w = cc in
     let d : releaseFrom v m ≡ r = cc in
     record { room = omega (arith, ap releaseSize s); kind = ap kindOf s; body = sym d ∙ ap (λ x. releaseFrom x m) s }
+begins w r l q (is-charge m h) e = let z : _≡_ {A = ℕ} 0 1 = cc in absurd (omega arith)
 begins w r l q (is-end m) e = let z : _≡_ {A = ℕ} 0 1 = cc in absurd (omega arith)
 
 -- a release record at an offset: it ends within the file, its kind byte stands there, and its release is that of the bytes after the kind

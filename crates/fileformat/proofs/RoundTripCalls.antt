@@ -16,8 +16,8 @@ use Rattle.releases.proofs.ReleaseLaws.{length-releases, release-at}
 use Rattle.taskset.specs.declared.Task.{Task}
 use Rattle.taskset.specs.declared.TaskSet.{TaskSet}
 use Rattle.taskset.specs.TaskSet.{noTask, viewOf}
-use Rattle.fileformat.specs.File.{sheetOf, encode}
-use Rattle.fileformat.specs.FileCalls.{tasksIn, setOf, fileOf}
+use Rattle.fileformat.specs.File.{sheetWith, encode}
+use Rattle.fileformat.specs.FileCalls.{tasksIn, setWith, fileOf}
 use Rattle.fileformat.specs.RoundTrips.{WriteIsValid, WriteIsRead, ReadPasses, ReadWrites}
 use Rattle.fileformat.proofs.SheetLaws.{same-sheet}
 use Rattle.fileformat.proofs.RoundTrips.{decode-encode, encode-decode, decode-valid}
@@ -45,12 +45,12 @@ written-valid s n task tick cost room e =
     }
 
 pub written-read : WriteIsRead
-written-read s n task tick cost room e = decode-encode (fileOf s n task tick cost) (written-valid s n task tick cost room e)
+written-read s n task tick cost room b e = decode-encode (fileOf s n task tick cost) b (written-valid s n task tick cost room e)
 
 -- the tasks of the set that is returned
-pub tasks-of-set : (l : List Task) → tasksIn (setOf l) ≡ l
-unfolding tasksIn setOf
-tasks-of-set l = take-at l (replicate (maxTasks - length l) noTask) (length l) refl
+pub tasks-of-set : (c : ℕ) (l : List Task) → tasksIn (setWith c l) ≡ l
+unfolding tasksIn setWith
+tasks-of-set c l = take-at l (replicate (maxTasks - length l) noTask) (length l) refl
 
 -- entries past the count are no other than none
 pad : (l : List Task) (n i : ℕ) → getD (l ++ replicate n noTask) i noTask ≡ getD l i noTask
@@ -61,14 +61,15 @@ pad (t ∷ l) n zero = refl
 pad (t ∷ l) n (suc i) = pad l n i
 
 -- its sheet is that of the tasks
-pub view-set : (l : List Task) → viewOf (setOf l) ≡ sheetOf l
-unfolding setOf
-view-set l = λ t. record {
+pub view-set : (c : ℕ) (l : List Task) → viewOf (setWith c l) ≡ sheetWith c l
+unfolding setWith
+view-set c l = λ t. record {
   count = length l;
   period = λ i. pad l (maxTasks - length l) i t .period;
   jitter = λ i. pad l (maxTasks - length l) i t .jitter;
   cost = λ i. pad l (maxTasks - length l) i t .cost;
   deadline = λ i. pad l (maxTasks - length l) i t .deadline;
+  charge = c;
 }
 
 -- the releases of the columns that are written
@@ -104,17 +105,18 @@ read-passes f x a b c e =
     (arith, length-append (map g (x .releases)) y, length-map (x .releases) g) in
     accepts _
     (record {
-      tasks = rw (view-set (x .tasks)) (sym (v .tasks));
+      tasks = rw (view-set (x .charge) (x .tasks)) (sym (v .tasks));
       single = no-single _;
       count = count-few _ (v .few);
       lent = slots-none ∙ sym (slots-next _ _ (long (λ r. r .task) a) ∙ slots-next _ _ (long (λ r. r .tick) b) ∙ slots-next _ _ (long (λ r. r .cost) c));
       kept = no-kept _;
-      releases = rw (view-set (x .tasks), releases-of-columns (x .releases) a b c) (sym (v .releases));
+      releases = rw (view-set (x .charge) (x .tasks), releases-of-columns (x .releases) a b c) (sym (v .releases));
       unfit = no-unfit;
     })
 
 -- what is read and written again is the accepted file
 pub read-written : ReadWrites
+unfolding setWith
 read-written f x a b c h e =
-    ap encode (ap₂ (λ t l. record { tasks = t; releases = l }) (tasks-of-set (x .tasks)) (releases-of-columns (x .releases) a b c))
+    ap encode (ap₂ (λ t l. record { charge = x .charge; tasks = t; releases = l }) (tasks-of-set (x .charge) (x .tasks)) (releases-of-columns (x .releases) a b c))
     ∙ encode-decode f x h e

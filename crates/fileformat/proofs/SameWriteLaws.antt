@@ -1,6 +1,6 @@
 -- Task sets that agree on the tasks below the count are written alike.
 use Prim.Native.Nat.{ℕ, _≤_, _<_}
-use mathlib.Core.Path.{_≡_, refl, sym, ap, _∙_}
+use mathlib.Core.Path.{_≡_, refl, sym, ap, ap₂, _∙_}
 use mathlib.Core.Option.{some, none}
 use mathlib.Core.List.{List, [], _∷_}
 use native.Mathlib.Omega.{arith}
@@ -34,13 +34,14 @@ module _ (s s′ : TaskSet) (same : SameTasks (viewOf s) (viewOf s′)) where
     refused-alike : refusalOf (writeInputs (viewOf s) n task tick cost (length out)) ≡ refusalOf (writeInputs (viewOf s′) n task tick cost (length out))
     refused-alike =
         refusal-same (viewOf s) (viewOf s′) same none (some n) _ _ none (releasesOf n task tick cost) none none
-        (ap (λ c. lends n task ∷ lends n tick ∷ lends n cost ∷ record { needed = bytesNeeded c (releasesOf n task tick cost); slots = length out } ∷ []) (same .count))
+        (ap₂ (λ S c. lends n task ∷ lends n tick ∷ lends n cost ∷ record { needed = bytesNeeded S c (releasesOf n task tick cost); slots = length out } ∷ []) (same .charge)
+        (same .count))
         refl
 
     -- a set that is not refused has an entry for each of its tasks
     files-alike : none ≡ refusalOf (writeInputs (viewOf s) n task tick cost (length out)) → fileOf s n task tick cost ≡ fileOf s′ n task tick cost
     files-alike e =
-        ap (λ l. record { tasks = l; releases = releasesOf n task tick cost })
+        ap₂ (λ S l. record { charge = S; tasks = l; releases = releasesOf n task tick cost }) (same .charge)
         (tasks-alike (covers s (valid-of (viewOf s) (sym (accepted-of _ e .tasks)))) (covers s′ (valid-of (viewOf s′) (sym (accepted-of _ (e ∙ refused-alike) .tasks)))))
 
   -- entries past the count do not matter

@@ -1,6 +1,6 @@
 -- A task set and the list of its tasks give the same checks.
 use Prim.Native.Nat.{ℕ, _-_, _≤_}
-use mathlib.Core.Path.{_≡_, sym, ap, ap₂, _∙_}
+use mathlib.Core.Path.{_≡_, refl, sym, ap, ap₂, _∙_}
 use mathlib.Core.Bool.{true, false}
 use mathlib.Core.Option.{Option, some, none}
 use mathlib.Core.List.{_++_}
@@ -14,8 +14,8 @@ use Rattle.model.proofs.SameAnswers.{fault-same}
 use Rattle.taskset.specs.declared.TaskSet.{TaskSet}
 use Rattle.taskset.specs.TaskSet.{noTask, viewOf}
 use Rattle.fileformat.specs.Records.{Width}
-use Rattle.fileformat.specs.File.{sheetOf, lowTick, highTick, listFault}
-use Rattle.fileformat.specs.FileCalls.{tasksIn, setOf}
+use Rattle.fileformat.specs.File.{sheetWith, lowTick, highTick, listFault}
+use Rattle.fileformat.specs.FileCalls.{tasksIn, setWith}
 
 -- a release record is checked against the count and the release's own fault
 abbrev faults : ℕ → ℕ → Option ℕ → Option ℕ
@@ -35,7 +35,7 @@ module _ (s : TaskSet) (h : s .count ≤ length (s .tasks)) where
   unfolding tasksIn
   length-tasks = length-take-le (s .count) (s .tasks) h
 
-  pub same-sheet : SameTasks (viewOf s) (sheetOf (tasksIn s))
+  pub same-sheet : SameTasks (viewOf s) (sheetWith (s .charge) (tasksIn s))
   unfolding tasksIn
   same-sheet =
       record {
@@ -44,12 +44,13 @@ module _ (s : TaskSet) (h : s .count ≤ length (s .tasks)) where
         jitter = λ i l. ap (λ t. t .jitter) (sym (getD-take (s .count) (s .tasks) i noTask l));
         cost = λ i l. ap (λ t. t .cost) (sym (getD-take (s .count) (s .tasks) i noTask l));
         deadline = λ i l. ap (λ t. t .deadline) (sym (getD-take (s .count) (s .tasks) i noTask l));
+        charge = refl;
       }
 
   -- entries past the count that are 0 stand as in the set of its tasks
-  pub set-of-tasks : drop (s .count) (s .tasks) ≡ replicate (maxTasks - s .count) noTask → s ≡ setOf (tasksIn s)
-  unfolding tasksIn setOf
+  pub set-of-tasks : drop (s .count) (s .tasks) ≡ replicate (maxTasks - s .count) noTask → s ≡ setWith (s .charge) (tasksIn s)
+  unfolding tasksIn setWith
   set-of-tasks e =
       let c = length-take-le (s .count) (s .tasks) h in
       rw c
-      (ap (λ l. record { tasks = l; count = s .count }) (sym (take-append-drop (s .count) (s .tasks)) ∙ ap (λ x. take (s .count) (s .tasks) ++ x) e))
+      (ap (λ l. record { tasks = l; count = s .count; charge = s .charge }) (sym (take-append-drop (s .count) (s .tasks)) ∙ ap (λ x. take (s .count) (s .tasks) ++ x) e))

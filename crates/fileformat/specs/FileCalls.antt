@@ -1,7 +1,9 @@
 -- The calls "read" and "write": what each answers, as one equation with the definitions.
 use Prim.Native.Nat.{ℕ, _+_, _*_, _-_}
+use mathlib.Core.Bool.{true, false}
 use mathlib.Core.Option.{some, none}
 use mathlib.Core.List.{List, [], _∷_, _++_, map}
+use lib.Dec.{eqb}
 use lib.ListN.{length, take, replicate}
 use Rattle.model.specs.Limits.{maxTasks}
 use Rattle.model.specs.Tasks.{Tasks, Release}
@@ -18,9 +20,13 @@ use Rattle.fileformat.specs.File.{File, decode}
 unfoldable pub tasksIn : TaskSet → List Task
 tasksIn s = take (s .count) (s .tasks)
 
--- the task set of some tasks: entries past the count are 0
-unfoldable pub setOf : List Task → TaskSet
-setOf l = record { tasks = l ++ replicate (maxTasks - length l) noTask; count = length l }
+-- the task set of a charge and some tasks: entries past the count are 0
+unfoldable pub setWith : ℕ → List Task → TaskSet
+setWith c l = record { tasks = l ++ replicate (maxTasks - length l) noTask; count = length l; charge = c }
+
+-- without a charge
+abbrev pub setOf : List Task → TaskSet
+setOf = setWith 0
 
 -- read: the first refusal of the file, then 13 for the columns task, tick and cost, else what the file holds
 unfoldable pub readCall : List ℕ → List ℕ → List ℕ → List ℕ → Answer File
@@ -39,10 +45,10 @@ unfoldable pub readCount : Answer File → Answer ℕ
 readCount (refused q) = refused q
 readCount (answered x) = answered (length (x .releases))
 
--- the sheet that is returned; no task after a refusal
+-- the sheet that is returned; no task and no charge after a refusal
 unfoldable pub readSheet : Answer File → TaskSet
 readSheet (refused q) = setOf []
-readSheet (answered x) = setOf (x .tasks)
+readSheet (answered x) = setWith (x .charge) (x .tasks)
 
 -- what stands in a column afterwards
 unfoldable pub readColumn : (Release → ℕ) → Answer File → List ℕ → List ℕ
@@ -54,16 +60,20 @@ unfoldable pub listBytes : List Release → ℕ
 listBytes [] = 0
 listBytes (r ∷ l) = releaseSize (widthFor (r .tick)) + listBytes l
 
--- write: a sheet, a list of n releases in three columns, and room for bytes, of which 17 for each task, those of the releases and 1 are needed
-unfoldable pub bytesNeeded : ℕ → List Release → ℕ
-bytesNeeded tasks l = 17 * tasks + listBytes l + 1
+-- the bytes of a charge: 2 where it is written
+unfoldable pub chargeBytes : ℕ → ℕ
+chargeBytes c = elim (eqb c 0) [ true ↦ 0 | false ↦ 2 ]
+
+-- write: a sheet, a list of n releases in three columns, and room for bytes, of which those of the charge, 17 for each task, those of the releases and 1 are needed
+unfoldable pub bytesNeeded : ℕ → ℕ → List Release → ℕ
+bytesNeeded charge tasks l = chargeBytes charge + 17 * tasks + listBytes l + 1
 
 abbrev pub writeInputs : Tasks → ℕ → List ℕ → List ℕ → List ℕ → ℕ → Inputs
 writeInputs s n task tick cost room = record {
   tasks = s;
   single = none;
   count = some n;
-  lent = lends n task ∷ lends n tick ∷ lends n cost ∷ record { needed = bytesNeeded (s .count) (releasesOf n task tick cost); slots = room } ∷ [];
+  lent = lends n task ∷ lends n tick ∷ lends n cost ∷ record { needed = bytesNeeded (s .charge) (s .count) (releasesOf n task tick cost); slots = room } ∷ [];
   kept = none;
   releases = releasesOf n task tick cost;
   unfit = none;
@@ -71,4 +81,4 @@ writeInputs s n task tick cost room = record {
 
 -- the file that is written
 abbrev pub fileOf : TaskSet → ℕ → List ℕ → List ℕ → List ℕ → File
-fileOf s n task tick cost = record { tasks = tasksIn s; releases = releasesOf n task tick cost }
+fileOf s n task tick cost = record { charge = s .charge; tasks = tasksIn s; releases = releasesOf n task tick cost }

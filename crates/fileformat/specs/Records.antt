@@ -33,6 +33,7 @@ pub data Record : Type 0 where
   broken : ℕ → Record
   taskRecord : Task → Record
   releaseRecord : Width → Release → Record
+  chargeRecord : ℕ → Record
   endRecord : Record
 
 -- "kind 1, task: P, J, E, D, four bytes each"
@@ -46,6 +47,10 @@ releaseFrom w l = record { task = field 0 1 l; tick = field 1 (tickBytes w) l; c
 -- the bytes of its body: 9 or 13
 abbrev pub bodySize : Width → ℕ
 bodySize w = 1 + tickBytes w + 4
+
+-- "a kind 5 record has a one-byte charge S" (document 02, R-4)
+unfoldable pub chargeFrom : List ℕ → ℕ
+chargeFrom l = field 0 1 l
 
 -- a record whose body has n bytes, l being what follows the kind byte
 unfoldable pub whole : ℕ → List ℕ → Record → Record
@@ -63,7 +68,11 @@ recordOf (k ∷ l) =
             | false ↦
                 elim (eqb k 3) [
                   | true ↦ whole 0 l endRecord
-                  | false ↦ elim (eqb k 4) [ true ↦ whole (bodySize long) l (releaseRecord long (releaseFrom long l)) | false ↦ broken 1 ]
+                  | false ↦
+                      elim (eqb k 4) [
+                        | true ↦ whole (bodySize long) l (releaseRecord long (releaseFrom long l))
+                        | false ↦ elim (eqb k 5) [ true ↦ whole 1 l (chargeRecord (chargeFrom l)) | false ↦ broken 1 ]
+                      ]
                 ]
           ]
     ]
@@ -79,6 +88,7 @@ unfoldable pub recordBytes : Record → List ℕ
 recordBytes (broken n) = []
 recordBytes (taskRecord t) = taskBytes t
 recordBytes (releaseRecord w r) = releaseBytes w r
+recordBytes (chargeRecord c) = 5 ∷ bytesOf 1 c
 recordBytes endRecord = 3 ∷ []
 
 -- how many they are: of a release 10 or 14
@@ -89,6 +99,7 @@ unfoldable pub sizeOf : Record → ℕ
 sizeOf (broken n) = 0
 sizeOf (taskRecord t) = 17
 sizeOf (releaseRecord w r) = releaseSize w
+sizeOf (chargeRecord c) = 2
 sizeOf endRecord = 1
 
 -- "the writer uses kind 2 up to 1,000,000,000 and kind 4 above"

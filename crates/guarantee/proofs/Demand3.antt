@@ -16,18 +16,21 @@ use Rattle.guarantee.specs.RunBounds.{windowOf}
 use Rattle.guarantee.proofs.FitsOfVerdict.{walk-of, on-time}
 use Rattle.guarantee.proofs.LateOfVerdict.{late-of, late-end, missed}
 
--- demand 3 on the boards' processor: its pickup, load E and every tick ours
+-- demand 3 on the boards' processor: its pickup, load E + S and every tick ours
 pub demand3 : Demand3Holds
 unfolding late-of
-demand3 s v k kept i h = go (demand-on plain regular s (λ j g. v .in-range j g .period-low) (λ j g. v .in-range j g .cost-low) k kept i h)
+demand3 s v k kept i h =
+    go (demand-on (plain (s .charge)) (regular (s .charge)) s (λ j g. v .in-range j g .period-low) (λ j g. v .in-range j g .cost-low) k kept i h)
   where
-    kept-by : DemandOn plain regular s k i → Walked s k i → (l : List Release) → Trace s l → Legal s l i → MetOn plain s k i l
+    kept-by
+        : DemandOn (plain (s .charge)) (regular (s .charge)) s k i → Walked s k i → (l : List Release) → Trace s l → Legal s l i
+        → MetOn (plain (s .charge)) s k i l
     kept-by d n = d .if-fits (n .last) (windowOf s k i) (walk-of s k i n)
 
-    found : DemandOn plain regular s k i → (q : ℕ) → Missing s k i q → Missed s k i
+    found : DemandOn (plain (s .charge)) (regular (s .charge)) s k i → (q : ℕ) → Missing s k i q → Missed s k i
     found d q n = missed s k i _ (late-end s k i (v .in-range i h) q n) (d .if-late (late-of s k i q n))
 
-    go : DemandOn plain regular s k i → Demand3 s k i
+    go : DemandOn (plain (s .charge)) (regular (s .charge)) s k i → Demand3 s k i
     go d = record {
       limit = λ l tr. limit s k i l tr (d .limit l tr);
       share = λ l tr. share s k i l tr (d .share l tr);

@@ -4,21 +4,18 @@ use mathlib.Core.Path.{_≡_, refl}
 use mathlib.Core.List.{List}
 use native.Mathlib.Omega.{arith}
 use lib.ListN.{length}
-use Rattle.model.specs.Processor.{plain}
 use Rattle.model.specs.Tasks.{Tasks, Release, releaseAt}
 use Rattle.model.specs.Run.{jobs, finishAt, responseAt}
 use Rattle.model.specs.Claims.{Trace}
 use Rattle.trace.proofs.ReadyAtLaws.{ready-from}
 use Rattle.theory.proofs.FinishLaws.{finish-late}
-use Rattle.processor.proofs.PlainDemand.{regular}
-use Rattle.processor.proofs.JobLaws.{some-work}
-use Rattle.guarantee.proofs.PlainRun.{all-ours}
+use Rattle.guarantee.proofs.PlainRun.{all-ours, works}
 
 module _ (s : Tasks) (k : ℕ → ℕ) (l : List Release) (tr : Trace s l) (p : ℕ) (h : p < length l) where
   -- a job finishes after the first tick in which it may run
   pub start-first : jobs s k l .start p < finishAt s k l p
   unfolding finishAt
-  start-first = finish-late (jobs s k l) (all-ours s k l) p h (some-work plain regular s k l tr p h)
+  start-first = finish-late (jobs s k l) (all-ours s k l) p h (works s k l tr p h)
 
   -- release and response together are the finish
   pub response-exact : releaseAt l p .tick + responseAt s k l p ≡ finishAt s k l p

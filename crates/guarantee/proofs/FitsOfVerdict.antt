@@ -24,22 +24,22 @@ unfolding windowOf
 window-is s k i q w h = rw (windowOf, h)
 
 module _ (s : Tasks) (k : ℕ → ℕ) (i : ℕ) where
-  met : (q u : ℕ) → Passed s k i q → (t : ℕ) × (1 ≤ t) × (t ≤ windowOf s k i q) × (demandOn plain s k i q t ≤ supplyOn plain u t)
+  met : (q u : ℕ) → Passed s k i q → (t : ℕ) × (1 ≤ t) × (t ≤ windowOf s k i q) × (demandOn (plain (s .charge)) s k i q t ≤ supplyOn (plain (s .charge)) u t)
   met q u p =
       let g : Window s k i q (p .w) = window-some s k i q (p .w) (p .is) in (
         p .w,
         g .low,
         omega (arith, window-is s k i q (p .w) (p .is)),
-        omega (arith, g .met, demand-plain s k i q (p .w), supply-plain u (p .w)),
+        omega (arith, g .met, demand-plain s k i q (p .w), supply-plain (s .charge) u (p .w)),
       )
 
   in-time
       : (q : ℕ) → Passed s k i q
-      → windowOf s k i q + regular .pickup + (s .jitter i - (q * s .period i + k i)) ≤ s .deadline i + (q * s .period i - s .jitter i)
-  in-time q p = omega (arith, pickup-plain, window-is s k i q (p .w) (p .is), not-late s k i q (p .w) (p .in-time))
+      → windowOf s k i q + regular (s .charge) .pickup + (s .jitter i - (q * s .period i + k i)) ≤ s .deadline i + (q * s .period i - s .jitter i)
+  in-time q p = omega (arith, pickup-plain (s .charge), window-is s k i q (p .w) (p .is), not-late s k i q (p .w) (p .in-time))
 
   -- the walk of a verdict that is "fits"
-  pub walk-of : (d : Walked s k i) → WalkOn plain regular s k i (d .last) (windowOf s k i)
+  pub walk-of : (d : Walked s k i) → WalkOn (plain (s .charge)) (regular (s .charge)) s k i (d .last) (windowOf s k i)
   walk-of d = record {
     met = λ q u g. met q u (d .passed q g);
     in-time = λ q g. in-time q (d .passed q g);
@@ -50,7 +50,7 @@ module _ (s : Tasks) (k : ℕ → ℕ) (i : ℕ) where
       ends p = rw (window-is s k i (d .last) (p .w) (p .is)) (d .ends (p .w) (p .is))
 
   -- jobs that are finished D ticks after their release are not late
-  pub on-time : (l : List Release) → Trace s l → MetOn plain s k i l → OnTime s k i l
+  pub on-time : (l : List Release) → Trace s l → MetOn (plain (s .charge)) s k i l → OnTime s k i l
   unfolding responseAt
   on-time l tr h p g e late =
       let a : s .deadline i < responseAt s k l p = rw e at late in

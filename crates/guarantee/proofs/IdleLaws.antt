@@ -6,17 +6,14 @@ use mathlib.Core.List.{List}
 use native.Mathlib.Omega.{arith}
 use lib.ListN.{length}
 use Rattle.model.specs.Series.{most}
-use Rattle.model.specs.Processor.{plain}
 use Rattle.model.specs.Tasks.{Tasks, Release}
 use Rattle.model.specs.Run.{jobs, runs, finishAt}
 use Rattle.model.specs.Claims.{Trace}
 use Rattle.model.proofs.SeriesLaws.{le-by, most-ge, most-is}
 use Rattle.theory.proofs.RunLaws.{runs-some}
 use Rattle.theory.proofs.FinishLaws.{finish-ran, finish-over}
-use Rattle.processor.proofs.PlainDemand.{regular}
-use Rattle.processor.proofs.JobLaws.{some-work}
 use Rattle.guarantee.specs.Idle.{IdleAfterLast}
-use Rattle.guarantee.proofs.PlainRun.{all-ours}
+use Rattle.guarantee.proofs.PlainRun.{all-ours, works}
 
 -- a largest value that is not 0 is one of some values
 some-value : (f : ℕ → ℕ) (n t : ℕ) → most f n ≡ suc t → 1 ≤ n
@@ -33,7 +30,7 @@ module _ (s : Tasks) (k : ℕ → ℕ) (l : List Release) (tr : Trace s l) where
       go none e = e
       go (some p) e =
           let b : p < length l = runs-some (jobs s k l) t p e .in-list in
-          absurd (finish-over (jobs s k l) (all-ours s k l) p b (some-work plain regular s k l tr p b) t (h p b) e)
+          absurd (finish-over (jobs s k l) (all-ours s k l) p b (works s k l tr p b) t (h p b) e)
 
   -- in the tick before the last finish a job runs
   pub busy-last : (t : ℕ) → most (finishAt s k l) (length l) ≡ suc t → (p : ℕ) × (p < length l) × (runs (jobs s k l) t ≡ some p)
@@ -41,7 +38,7 @@ module _ (s : Tasks) (k : ℕ → ℕ) (l : List Release) (tr : Trace s l) where
   busy-last t e =
       let m : (p : ℕ) × (p < length l) × (most (finishAt s k l) (length l) ≡ finishAt s k l p) = most-is (finishAt s k l) (length l)
       (some-value (finishAt s k l) (length l) t e) in
-      let r = finish-ran (jobs s k l) (all-ours s k l) (m .0) (m .1) (some-work plain regular s k l tr (m .0) (m .1)) in
+      let r = finish-ran (jobs s k l) (all-ours s k l) (m .0) (m .1) (works s k l tr (m .0) (m .1)) in
       let u : r .0 ≡ t = omega (arith, r .1, m .2) in
       (m .0, m .1, rw u at (r .2 .0))
 

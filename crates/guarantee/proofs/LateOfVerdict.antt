@@ -16,16 +16,16 @@ use Rattle.guarantee.proofs.PlainRun.{none-left}
 
 module _ (s : Tasks) (k : ℕ → ℕ) (i : ℕ) where
   -- the late q of a verdict; the window begins just late enough
-  unfoldable pub late-of : (q : ℕ) → Missing s k i q → LateOn plain regular s k i
+  unfoldable pub late-of : (q : ℕ) → Missing s k i q → LateOn (plain (s .charge)) (regular (s .charge)) s k i
   late-of q d = record {
     q = q;
     w = d .w;
     some-tick = window-some s k i q (d .w) (d .is) .low;
     from = pickup + s .period i + s .jitter i;
-    room = omega (arith, pickup-plain);
+    room = omega (arith, pickup-plain (s .charge));
     unmet = λ t a b.
-        omega (arith, window-some s k i q (d .w) (d .is) .least t a b, demand-plain s k i q t, supply-plain (pickup + s .period i + s .jitter i) t);
-    over = omega (arith, pickup-plain, is-late s k i q (d .w) (d .over));
+        omega (arith, window-some s k i q (d .w) (d .is) .least t a b, demand-plain s k i q t, supply-plain (s .charge) (pickup + s .period i + s .jitter i) t);
+    over = omega (arith, pickup-plain (s .charge), is-late s k i q (d .w) (d .over));
   }
 
   -- the last tick of its list is within document 01's limit
@@ -35,7 +35,7 @@ module _ (s : Tasks) (k : ℕ → ℕ) (i : ℕ) where
   late-end r q d = omega (arith, r .period-high, r .jitter-high, window-some s k i q (d .w) (d .is) .high, is-late s k i q (d .w) (d .over))
 
   -- a job that is not finished D ticks after its release is late
-  pub missed : (end : ℕ) → end ≤ maxShortTick → MissedOn plain s k i end → Missed s k i
+  pub missed : (end : ℕ) → end ≤ maxShortTick → MissedOn (plain (s .charge)) s k i end → Missed s k i
   unfolding responseAt
   missed end h d = record {
     list = d .list;

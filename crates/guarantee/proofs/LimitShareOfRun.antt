@@ -16,13 +16,13 @@ use Rattle.processor.specs.ProcessorClaims.{LimitOn, ShareOn}
 use Rattle.guarantee.proofs.PlainRun.{clear}
 
 module _ (s : Tasks) (k : ℕ → ℕ) (i : ℕ) (l : List Release) (tr : Trace s l) where
-  -- "limit": from a tick at which its own jobs that may run before it are finished, a task runs at most E × σ(t) of the next t ticks
-  pub limit : LimitOn plain s k i l → Limit s k i l
+  -- "limit": from a tick at which its own jobs that may run before it are finished, a task runs at most load × σ(t) of the next t ticks
+  pub limit : LimitOn (plain (s .charge)) s k i l → Limit s k i l
   unfolding used usedBy
   limit h u t f = h u t (clear s k l tr (isTask i) u f)
 
   -- "share": from a tick at which every job of the tasks above that may run before it is finished, they leave over what the demand bound says
-  pub share : ShareOn plain s k i l → Share s k i l
+  pub share : ShareOn (plain (s .charge)) s k i l → Share s k i l
   unfolding leftOver spareBy
   share h u t f = most-le (λ n. n - aboveLoad s k i n) (suc t) (leftOver s k l (isAbove i) u t) enough
     where
@@ -31,7 +31,7 @@ module _ (s : Tasks) (k : ℕ → ℕ) (i : ℕ) (l : List Release) (tr : Trace 
           omega (
             arith,
             h u t n (omega arith) (clear s k l tr (isAbove i) u f),
-            supply-plain u n,
+            supply-plain (s .charge) u n,
             above-plain s k i n,
             idle-spare (jobs s k l) (isAbove i) u t,
           )

@@ -7,7 +7,7 @@ use mathlib.Core.List.{List}
 use native.Mathlib.Nat.{eq-zero-or-pos}
 use native.Mathlib.Omega.{arith}
 use lib.IntN.{ℤ, pos, _+ℤ_, _-ℤ_, +ℤ-assoc, +ℤ-comm}
-use Rattle.model.specs.Processor.{pickup, plain}
+use Rattle.model.specs.Processor.{pickup}
 use Rattle.model.specs.Tasks.{Tasks, Release}
 use Rattle.model.specs.Run.{jobsOn, jobs, leftAt, runs, finishAt}
 use Rattle.model.specs.Bound.{maxZ, minZ, offset, bound}
@@ -15,10 +15,8 @@ use Rattle.model.specs.Claims.{Trace}
 use Rattle.theory.proofs.RunLaws.{Picked, runs-some, runs-none}
 use Rattle.theory.proofs.FinishLaws.{finish-not}
 use Rattle.theory.proofs.LaterLaws.{finish-then}
-use Rattle.processor.proofs.PlainDemand.{regular}
-use Rattle.processor.proofs.JobLaws.{some-work}
 use Rattle.guarantee.specs.Pickup.{Waits, Picks, TickPicks, atOnce, FinishLater, BoundLater, ReadyFinished}
-use Rattle.guarantee.proofs.PlainRun.{all-ours, finished-by}
+use Rattle.guarantee.proofs.PlainRun.{all-ours, works, finished-by}
 
 module _ (s : Tasks) (k : ℕ → ℕ) (l : List Release) (tr : Trace s l) (t : ℕ) where
   -- a job that waits may run and has work left
@@ -35,7 +33,7 @@ module _ (s : Tasks) (k : ℕ → ℕ) (l : List Release) (tr : Trace s l) (t : 
   picked-waits p c = record {
     in-list = c .in-list;
     was-ready = omega (arith, c .started);
-    unfinished = finish-not (jobs s k l) (all-ours s k l) p (c .in-list) (some-work plain regular s k l tr p (c .in-list)) t (c .unfinished);
+    unfinished = finish-not (jobs s k l) (all-ours s k l) p (c .in-list) (works s k l tr p (c .in-list)) t (c .unfinished);
   }
 
 -- which job runs in a tick
@@ -51,7 +49,7 @@ tick-picks s k l tr t = go (runs (jobs s k l) t) refl
 -- each job finishes the pickup later than where a job may run in its ready tick
 pub finish-later : FinishLater
 unfolding finishAt
-finish-later s k l tr p h = finish-then (jobsOn atOnce s k l) pickup (λ t. refl) p h (some-work plain regular s k l tr p h)
+finish-later s k l tr p h = finish-then (jobsOn (atOnce (s .charge)) s k l) pickup (λ t. refl) p h (works s k l tr p h)
 
 -- R(q) is document 01's, and the pickup
 pub bound-later : BoundLater

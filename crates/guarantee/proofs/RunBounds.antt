@@ -18,13 +18,13 @@ task-bounds s v k kept i h l tr = record {
   limit = λ u t f. omega (arith, demand3 s v k kept i h .limit l tr u t f);
   share = λ u t n g f.
       omega (arith, most-ge (λ m. m - aboveLoad s k i m) (suc t) n (omega arith), demand3 s v k kept i h .share l tr u t f);
-  window = λ d p g e. go d p g (done-on plain regular s k i periods (d .last) (windowOf s k i) (walk-of s k i d) l tr p g e);
+  window = λ d p g e. go d p g (done-on (plain (s .charge)) (regular (s .charge)) s k i periods (d .last) (windowOf s k i) (walk-of s k i d) l tr p g e);
 }
   where
     periods : (j : ℕ) → j < i → 1 ≤ s .period j
     periods j n = v .in-range j (omega arith) .period-low
 
-    go : (d : Walked s k i) (p : ℕ) → p < length l → DoneOn plain s k i l (d .last) (windowOf s k i) p → InWindow s k i l (d .last) p
+    go : (d : Walked s k i) (p : ℕ) → p < length l → DoneOn (plain (s .charge)) s k i l (d .last) (windowOf s k i) p → InWindow s k i l (d .last) p
     go d p g c = record {
       q = c .q;
       q-le = c .q-le;

@@ -33,14 +33,14 @@ Picks s k l t (some p) = Waits s k l t p × ((q : ℕ) → Waits s k l t q → G
 abbrev pub TickPicks : Type 0
 TickPicks = (s : Tasks) (k : ℕ → ℕ) (l : List Release) → Trace s l → (t : ℕ) → Picks s k l t (runs (jobs s k l) t)
 
--- a processor on which a job may run in its ready tick, as before R-2
-abbrev pub atOnce : Processor
-atOnce = record { start = λ ready. ready; work = plain .work; ours = plain .ours }
+-- a processor with a charge on which a job may run in its ready tick, as before R-2
+abbrev pub atOnce : ℕ → Processor
+atOnce charge = record { start = λ ready. ready; work = plain charge .work; ours = plain charge .ours }
 
 -- each job finishes the pickup later than there
 abbrev pub FinishLater : Type 0
 FinishLater =
-    (s : Tasks) (k : ℕ → ℕ) (l : List Release) → Trace s l → (p : ℕ) → p < length l → finishAt s k l p ≡ finishOf (jobsOn atOnce s k l) p + pickup
+    (s : Tasks) (k : ℕ → ℕ) (l : List Release) → Trace s l → (p : ℕ) → p < length l → finishAt s k l p ≡ finishOf (jobsOn (atOnce (s .charge)) s k l) p + pickup
 
 -- R(q) is document 01's, and the pickup
 abbrev pub BoundLater : Type 0

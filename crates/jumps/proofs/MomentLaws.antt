@@ -8,6 +8,7 @@ use mathlib.Core.List.{List, _++_}
 use native.Mathlib.Omega.{arith}
 use lib.Dec.{leb}
 use lib.ListN.{getD, set, drop, length-append}
+use Rattle.model.specs.Limits.{maxTime}
 use Rattle.model.specs.Series.{table}
 use Rattle.model.specs.Stops.{has, different}
 use Rattle.model.specs.Run.{Jobs, leftAt, finishOf}
@@ -28,38 +29,39 @@ use Rattle.jumps.specs.Jumps.{stopsOf, Queued, Waking, Sinces}
 use Rattle.jumps.proofs.WakeLaws.{awake-start, waking-later, since-top, sinces-done}
 
 -- what holds at tick t, a stop or the beginning. The column of finish ticks held `held`
-pub record Moment (n tasks : ℕ) (task cost ready held : List ℕ) (t wake stops : ℕ) (head since left coming due finish : List ℕ) : Type 0 where
-  pub can : Runnable n tasks task cost ready held
-  pub heads : Heads (jobsOf n task cost ready) tasks t head
-  pub lefts : Lefts (jobsOf n task cost ready) tasks t head left
+pub record Moment (n tasks : ℕ) (task cost : List ℕ) (charge : ℕ) (ready held : List ℕ) (t wake stops : ℕ)
+    (head since left coming due finish : List ℕ) : Type 0 where
+  pub can : Runnable n tasks task cost charge ready held
+  pub heads : Heads (jobsOf n task cost charge ready) tasks t head
+  pub lefts : Lefts (jobsOf n task cost charge ready) tasks t head left
   pub sinces : Sinces n tasks ready head since
   pub waking : Waking n tasks task ready t wake coming due
-  pub written : Written (jobsOf n task cost ready) t finish held
-  pub counted : stops ≡ below (stopsOf (jobsOf n task cost ready)) (suc t)
+  pub written : Written (jobsOf n task cost charge ready) t finish held
+  pub counted : stops ≡ below (stopsOf (jobsOf n task cost charge ready)) (suc t)
   pub time : t ≤ maxFinish
 
 -- the job that runs from t on: the oldest unfinished one of task i. It ends at `end` at the earliest
-pub record Front (n tasks t : ℕ) (cost head left : List ℕ) (i end : ℕ) : Type 0 where
+pub record Front (n tasks t : ℕ) (head left : List ℕ) (i end : ℕ) : Type 0 where
   pub task-in : i < tasks
   pub inside : getD head i 0 < n
   pub some-left : 1 ≤ getD left i 0
-  pub cost-left : getD left i 0 ≤ getD cost (getD head i 0) 0
+  pub left-high : getD left i 0 ≤ maxTime
   pub end-is : end ≡ t + getD left i 0
   pub end-soon : end ≤ maxFinish
 
-module _ (n tasks : ℕ) (task cost ready held : List ℕ) (r : Runnable n tasks task cost ready held) where
+module _ (n tasks : ℕ) (task cost : List ℕ) (charge : ℕ) (ready held : List ℕ) (r : Runnable n tasks task cost charge ready held) where
   abbrev j : Jobs
-  j = jobsOf n task cost ready
+  j = jobsOf n task cost charge ready
 
   order : Ordered j tasks
-  order = ordered n tasks task cost ready held r
+  order = ordered n tasks task cost charge ready held r
 
   pub queued : Queued n tasks task ready
   queued =
       record {
         few-tasks = r .few-tasks;
         task-long = r .task-long;
-        timely = timely n tasks task cost ready held r;
+        timely = timely n tasks task cost charge ready held r;
         known = r .known;
         in-order = r .in-order;
       }
@@ -109,23 +111,23 @@ module _ (n tasks : ℕ) (task cost ready held : List ℕ) (r : Runnable n tasks
   pub moment-start : (head since left : List ℕ)
       → Holds (λ i. nextOf task n i 0) tasks 32 head
       → Holds (λ i. wakeOf ready n (getD head i 0)) tasks 32 since
-      → Holds (λ i. workOf cost n (getD head i 0)) tasks 32 left
-      → Moment n tasks task cost ready held 0 0 0 head since left head since held
+      → Holds (λ i. workOf cost charge n (getD head i 0)) tasks 32 left
+      → Moment n tasks task cost charge ready held 0 0 0 head since left head since held
   moment-start head since left a d b =
       record {
         can = r;
-        heads = heads-start n tasks task cost ready held r head a;
-        lefts = lefts-start n tasks task cost ready head left b;
+        heads = heads-start n tasks task cost charge ready held r head a;
+        lefts = lefts-start n tasks task cost charge ready head left b;
         sinces = record { long = d .long; each = d .each };
         waking = record { awake = awake-start n tasks task ready head since a d; next = λ l. absurd (omega arith) };
-        written = written-start j held (r .finish-long) (r .cost-low);
-        counted = sym (below-none (stopsOf j) 1 (λ x l h. stop-by x ⊥ h (λ p g e. omega arith) (λ p g e. omega (arith, finish-late j (order .all) p g (r .cost-low p g)))));
+        written = written-start j held (r .finish-long) (r .work-low);
+        counted = sym (below-none (stopsOf j) 1 (λ x l h. stop-by x ⊥ h (λ p g e. omega arith) (λ p g e. omega (arith, finish-late j (order .all) p g (r .work-low p g)))));
         time = omega arith;
       }
 
   -- a moment at which the next start tick after it is known, and the search for the job that runs was made
   module _ (t wake stops : ℕ) (head since left coming due finish : List ℕ)
-      (s : Moment n tasks task cost ready held t wake stops head since left coming due finish) (new : ℕ) (later soon : List ℕ)
+      (s : Moment n tasks task cost charge ready held t wake stops head since left coming due finish) (new : ℕ) (later soon : List ℕ)
       (w : Waking n tasks task ready t new later soon) (ahead : t < new) (i : ℕ) (found-first : i ≡ firstFrom (λ k. leb (getD since k 0) t) tasks 0) where
     e : i ≡ topReady head ready n tasks t
     e = since-top n tasks ready head since t i (s .sinces) found-first
@@ -158,7 +160,7 @@ module _ (n tasks : ℕ) (task cost ready held : List ℕ) (r : Runnable n tasks
     later-waking u h = waking-later n tasks task ready t u new later soon h ahead w
 
     -- no job may run: on to the next start tick
-    pub moment-wait : i ≡ tasks → (new ≡ never → ⊥) → Moment n tasks task cost ready held new new (stops + 1) head since left later soon finish
+    pub moment-wait : i ≡ tasks → (new ≡ never → ⊥) → Moment n tasks task cost charge ready held new new (stops + 1) head since left later soon finish
     moment-wait g h =
         record {
           can = r;
@@ -167,7 +169,7 @@ module _ (n tasks : ℕ) (task cost ready held : List ℕ) (r : Runnable n tasks
           sinces = s .sinces;
           waking = later-waking new (omega arith);
           written = written-rest j t finish held (s .written) new same;
-          counted = one-more new ahead (omega arith) (new-stop h .0) (λ q a b d. rests-none j (order .all) t q (new - t) a (r .cost-low q a) rest b (omega arith));
+          counted = one-more new ahead (omega arith) (new-stop h .0) (λ q a b d. rests-none j (order .all) t q (new - t) a (r .work-low q a) rest b (omega arith));
           time = new-stop h .1;
         }
       where
@@ -177,7 +179,7 @@ module _ (n tasks : ℕ) (task cost ready held : List ℕ) (r : Runnable n tasks
         rest : Rests j t (new - t)
         rest =
             rests j t (new - t) (no-start (new - t) (omega arith))
-            (head-none j tasks order t head (s .heads) (none-found n tasks task cost ready head t (s .time) i e g))
+            (head-none j tasks order t head (s .heads) (none-found n tasks task cost charge ready head t (s .time) i e g))
 
         same : (q : ℕ) → leftAt j new q ≡ leftAt j t q
         same q = rw to at (left-rests j t (new - t) rest q)
@@ -188,7 +190,7 @@ module _ (n tasks : ℕ) (task cost ready held : List ℕ) (r : Runnable n tasks
       no-later p a = le-by (j .start p) t (λ b. omega (arith, w .next ahead .low p a (r .known p a) b, start-soon j tasks order p a))
 
       done : (p : ℕ) → p < n → leftAt j t p ≡ 0
-      done p a = head-none j tasks order t head (s .heads) (none-found n tasks task cost ready head t (s .time) i e g) p a (no-later p a)
+      done p a = head-none j tasks order t head (s .heads) (none-found n tasks task cost charge ready head t (s .time) i e g) p a (no-later p a)
 
       pub moment-end : (finish ≡ table (finishOf j) n ++ drop n held) × (stops ≡ different (stopsOf j))
       moment-end = (
@@ -196,13 +198,13 @@ module _ (n tasks : ℕ) (task cost ready held : List ℕ) (r : Runnable n tasks
         s .counted
             ∙ below-all (stopsOf j) (suc t)
             (λ x y. stop-by x (x < suc t) y (λ p a z. omega (arith, no-later p a))
-            (λ p a z. omega (arith, finish-by j (order .all) p a (r .cost-low p a) t (done p a)))),
+            (λ p a z. omega (arith, finish-by j (order .all) p a (r .work-low p a) t (done p a)))),
       )
 
     -- some job may run
     module _ (g : i ≡ tasks → ⊥) where
       found : (i < tasks) × May j t head i
-      found = one-found n tasks task cost ready head t (s .time) i e g
+      found = one-found n tasks task cost charge ready head t (s .time) i e g
 
       unfinished : 0 < leftAt j t (getD head i 0)
       unfinished = s .heads .unfinished i (found .0) (found .1 .0)
@@ -214,28 +216,28 @@ module _ (n tasks : ℕ) (task cost ready held : List ℕ) (r : Runnable n tasks
       kept : (k : ℕ) → t + k ≤ new → k ≤ getD left i 0 → Keeps j t (getD head i 0) k
       kept k a b =
           keeps j t (getD head i 0) (found .1 .0) (found .1 .1)
-          (head-first j tasks order t head (s .heads) i (found .0) (found .1) (none-above n tasks task cost ready head t (s .time) i e))
+          (head-first j tasks order t head (s .heads) i (found .0) (found .1) (none-above n tasks task cost charge ready head t (s .time) i e))
           k (no-start k a) (omega (arith, supply-all j t (order .all) k, is-left))
 
-      pub front : (end : ℕ) → end ≡ t + getD left i 0 → Front n tasks t cost head left i end
+      pub front : (end : ℕ) → end ≡ t + getD left i 0 → Front n tasks t head left i end
       front end x =
           record {
             task-in = found .0;
             inside = found .1 .0;
             some-left = omega (arith, is-left, unfinished);
-            cost-left = omega (arith, is-left, left-le j t (getD head i 0));
+            left-high = omega (arith, is-left, left-le j t (getD head i 0), r .workable .high (getD head i 0) (found .1 .0));
             end-is = x;
             end-soon = omega (
               arith,
               is-left,
-              finish-soonest j (order .all) t (getD head i 0) (found .1 .0) (r .cost-low (getD head i 0) (found .1 .0)) unfinished,
+              finish-soonest j (order .all) t (getD head i 0) (found .1 .0) (r .work-low (getD head i 0) (found .1 .0)) unfinished,
               r .finish-high (getD head i 0) (found .1 .0),
             );
           }
 
       -- another job starts before it ends
       pub moment-cut : (end : ℕ) → end ≡ t + getD left i 0 → new < end
-          → Moment n tasks task cost ready held new new (stops + 1) head since (set left i (end - new)) later soon finish
+          → Moment n tasks task cost charge ready held new new (stops + 1) head since (set left i (end - new)) later soon finish
       moment-cut end x b =
           record {
             can = r;
@@ -271,8 +273,8 @@ module _ (n tasks : ℕ) (task cost ready held : List ℕ) (r : Runnable n tasks
           -- it does not finish before, nor does another
           none-ends : (q : ℕ) → q < n → t < finishOf j q → finishOf j q < new → ⊥
           none-ends q a c d =
-              let y : q ≡ getD head i 0 = keeps-only j (order .all) t (getD head i 0) q (new - t) a (r .cost-low q a) long c (omega arith) in
-              let z : leftAt j new q ≡ 0 = finish-done j (order .all) q a (r .cost-low q a) new (omega arith) in
+              let y : q ≡ getD head i 0 = keeps-only j (order .all) t (getD head i 0) q (new - t) a (r .work-low q a) long c (omega arith) in
+              let z : leftAt j new q ≡ 0 = finish-done j (order .all) q a (r .work-low q a) new (omega arith) in
               omega (arith, rest, ap (leftAt j new) y)
 
       -- it ends before another starts, or when it does
@@ -281,15 +283,15 @@ module _ (n tasks : ℕ) (task cost ready held : List ℕ) (r : Runnable n tasks
           → end ≤ new
           → next ≡ nextOf task n i (getD head i 0 + 1)
           → start ≡ wakeOf ready n next
-          → work ≡ workOf cost n next
-          → Moment n tasks task cost ready held end new (stops + 1) (set head i next) (set since i start) (set left i work) later soon
+          → work ≡ workOf cost charge n next
+          → Moment n tasks task cost charge ready held end new (stops + 1) (set head i next) (set since i start) (set left i work) later soon
           (set finish (getD head i 0) end)
       moment-done end next start work x b f a c =
           record {
             can = r;
             heads = heads-done j tasks order t head (s .heads) end i (getD head i 0) (found .0) refl (found .1 .0) other gone next f;
             lefts = lefts-done j tasks order t head left (s .heads) (s .lefts) end i (found .0) (found .1 .0) other gone next work f
-                (λ d. c ∙ work-in cost n next d);
+                (λ d. c ∙ work-in cost charge n next d);
             sinces = sinces-done n tasks ready head since (r .few-tasks) (s .heads .long) (s .sinces) i next start (found .0) a;
             waking = later-waking end (omega arith);
             written = written-done j t finish held (s .written) end (getD head i 0) other (found .1 .0) ends;
@@ -308,16 +310,16 @@ module _ (n tasks : ℕ) (task cost ready held : List ℕ) (r : Runnable n tasks
 
           ends : finishOf j (getD head i 0) ≡ end
           ends =
-              finish-keeps j (order .all) t (getD head i 0) (getD left i 0) (found .1 .0) (r .cost-low (getD head i 0) (found .1 .0))
+              finish-keeps j (order .all) t (getD head i 0) (getD left i 0) (found .1 .0) (r .work-low (getD head i 0) (found .1 .0))
               (omega (arith, is-left, unfinished))
               long
               (sym is-left)
               ∙ to
 
           gone : leftAt j end (getD head i 0) ≡ 0
-          gone = finish-done j (order .all) (getD head i 0) (found .1 .0) (r .cost-low (getD head i 0) (found .1 .0)) end (omega (arith, ends))
+          gone = finish-done j (order .all) (getD head i 0) (found .1 .0) (r .work-low (getD head i 0) (found .1 .0)) end (omega (arith, ends))
 
           none-ends : (q : ℕ) → q < n → t < finishOf j q → finishOf j q < end → ⊥
           none-ends q a b d =
-              let y : q ≡ getD head i 0 = keeps-only j (order .all) t (getD head i 0) q (getD left i 0) a (r .cost-low q a) long b (omega arith) in
+              let y : q ≡ getD head i 0 = keeps-only j (order .all) t (getD head i 0) q (getD left i 0) a (r .work-low q a) long b (omega arith) in
               omega (arith, ends, ap (finishOf j) y)

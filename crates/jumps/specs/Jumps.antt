@@ -8,10 +8,9 @@ use lib.ListN.{length, getD}
 use lib.Dec.{leb, eqb}
 use Rattle.model.specs.Limits.{maxTasks}
 use Rattle.model.specs.Series.{table}
-use Rattle.model.specs.Processor.{plain}
 use Rattle.model.specs.Run.{Jobs, finishOf}
 use Rattle.model.specs.Refusal.{Answer, refused, answered}
-use Rattle.queues.specs.Queues.{firstFrom, never, wakeOf, Timely}
+use Rattle.queues.specs.Queues.{startOf, firstFrom, never, wakeOf, Timely}
 use Rattle.jumps.specs.declared.JumpAnswer.{JumpAnswer}
 use Rattle.jumps.specs.declared.JumpAnswer.the-variants.{Ran, Refused}
 
@@ -42,7 +41,7 @@ pub record Queued (n tasks : ℕ) (task ready : List ℕ) : Type 0 where
 
 -- the first tick in which the job at p may run
 abbrev pub startAt : List ℕ → ℕ → ℕ
-startAt ready p = plain .start (getD ready p 0)
+startAt ready p = startOf (getD ready p 0)
 
 -- wake is the first start tick after t of the jobs of some tasks, or never
 pub record Next (n : ℕ) (task ready : List ℕ) (those : ℕ → Type 0) (t wake : ℕ) : Type 0 where

@@ -148,21 +148,22 @@ fn top_started(since: &[u64; 32], tasks: usize, t: u64) -> usize
 fn fill_finish(
     task: &[u32],
     cost: &[u32],
+    charge: u32,
     ready: &[u64],
     n: usize,
     tasks: usize,
     finish: &mut [u64],
 ) -> u32
-    requires { ⌜ Runnable n tasks (now task) (now cost) (now ready) (now finish) ⌝ }
+    requires { ⌜ Runnable n tasks (now task) (now cost) charge (now ready) (now finish) ⌝ }
     ensures finishes { λ _. ⌜
         now (finish .exit)
-        ≡ table (finishOf (jobsOf n (now (task .entry)) (now (cost .entry)) (now (ready .entry)))) n ++ drop n (now (finish .entry))
+        ≡ table (finishOf (jobsOf n (now (task .entry)) (now (cost .entry)) charge (now (ready .entry)))) n ++ drop n (now (finish .entry))
         ⌝ }
-    ensures stops { λ r. ⌜ r ≡ different (stopsOf (jobsOf n (now (task .entry)) (now (cost .entry)) (now (ready .entry)))) ⌝ }
+    ensures stops { λ r. ⌜ r ≡ different (stopsOf (jobsOf n (now (task .entry)) (now (cost .entry)) charge (now (ready .entry)))) ⌝ }
 {
     let mut head = first_jobs(task, n, tasks);
     let mut since = first_starts(&head, ready, n, tasks);
-    let mut left = first_work(&head, cost, n, tasks);
+    let mut left = first_work(&head, cost, charge, n, tasks);
     let mut coming = head;
     let mut due = since;
     let mut wake: u64 = 0;
@@ -191,7 +192,7 @@ fn fill_finish(
         let next = next_of(task, n, i as u32, p + 1);
         head[i] = next;
         since[i] = wake_of(ready, n, next);
-        left[i] = work_of(cost, n, next);
+        left[i] = work_of(cost, charge, n, next);
         t = end;
         stops += 1;
     }
@@ -234,6 +235,7 @@ pub fn run(
         };
     }
     let tasks = s.count;
-    let stops = fill_finish(task, cost, ready, count, tasks, finish);
+    let charge = s.charge as u32;
+    let stops = fill_finish(task, cost, charge, ready, count, tasks, finish);
     JumpAnswer::Ran { stops: stops }
 }

@@ -12,8 +12,8 @@ use Rattle.model.specs.Limits.{maxTasks}
 use Rattle.taskset.specs.declared.Task.{Task}
 use Rattle.taskset.specs.declared.TaskSet.{TaskSet}
 use Rattle.taskset.specs.declared.Checked.the-variants.{Fine, Refused}
-use Rattle.releases.specs.Releases.{faultAt}
-use Rattle.releases.proofs.ReleaseLaws.{fault-of, faultless-of}
+use Rattle.model.specs.Checks.{faultAt}
+use Rattle.model.proofs.CheckLaws.{fault-of, faultless-of}
 use Rattle.fileformat.specs.File.{taskFault}
 use Rattle.fileformat.proofs.StepLaws.{task-few}
 use Rattle.loader.specs.declared.LineSoFar.{LineSoFar}
@@ -68,7 +68,7 @@ module _ (l : Loader) (piece : List ℕ) (s : TaskSet) (m : LineSoFar) (i : ℕ)
   feeding-broken h e = sym (byte h Broken e ∙ fed-refused s m 16 (s .count) (drop (i + 1) piece))
 
   module _ (t : Task) (h : i < length piece) (e : Ends t ≡ taken m (getD piece i 0)) where
-    pub feeding-stops : (k p : ℕ) → refuse k p ≡ faultAt (s .count) (taskFault (s .count) 0 t) → stopped s m k p ≡ fed l piece
+    pub feeding-stops : (k p : ℕ) → refuse k p ≡ faultAt (s .count) (taskFault 0 (s .count) 0 t) → stopped s m k p ≡ fed l piece
     unfolding after halted
     feeding-stops k p g =
         let w = fault-of (s .count) _ (record { number = k; place = p }) g in
@@ -76,21 +76,21 @@ module _ (l : Loader) (piece : List ℕ) (s : TaskSet) (m : LineSoFar) (i : ℕ)
         ap (stopped s m k) (ap (λ (q : Refusal). q .place) (w .1))
         ∙ sym (byte h (Ends t) e ∙ ap (λ q. fed q (drop (i + 1) piece)) a ∙ fed-refused s m k (s .count) (drop (i + 1) piece))
 
-    pub feeding-few : none ≡ faultAt (s .count) (taskFault (s .count) 0 t) → s .count < maxTasks
-    feeding-few g = task-few _ _ t (faultless-of (s .count) _ g)
+    pub feeding-few : none ≡ faultAt (s .count) (taskFault 0 (s .count) 0 t) → s .count < maxTasks
+    feeding-few g = task-few _ _ _ t (faultless-of (s .count) _ g)
 
     pub feeding-pushes
-        : none ≡ faultAt (s .count) (taskFault (s .count) 0 t)
+        : none ≡ faultAt (s .count) (taskFault 0 (s .count) 0 t)
         → (m′ : LineSoFar)
         → m′ ≡ noLine
-        → Feeding l piece (record { tasks = set (s .tasks) (s .count) t; count = s .count + 1 }) m′ (i + 1)
+        → Feeding l piece (record { tasks = set (s .tasks) (s .count) t; count = s .count + 1; charge = s .charge }) m′ (i + 1)
     unfolding after pushed
     feeding-pushes g m′ z =
         let a : after (going s m) (Ends t) ≡ pushed (going s m) t = rw (after, faultless-of (s .count) _ g) in
         record {
           rest =
               byte h (Ends t) e
-              ∙ ap (λ q. fed q (drop (i + 1) piece)) (a ∙ ap (going (record { tasks = set (s .tasks) (s .count) t; count = s .count + 1 })) (sym z));
+              ∙ ap (λ q. fed q (drop (i + 1) piece)) (a ∙ ap (going (record { tasks = set (s .tasks) (s .count) t; count = s .count + 1; charge = s .charge })) (sym z));
           within = omega arith;
           long = simp length-set (f .long);
         }

@@ -17,7 +17,7 @@ use Rattle.taskset.specs.declared.Checked.{Checked}
 use Rattle.taskset.specs.declared.Checked.the-variants.{Fine, Refused}
 use Rattle.taskset.specs.TaskSet.{noTask}
 use Rattle.fileformat.specs.File.{taskFault, endFault}
-use Rattle.fileformat.specs.FileCalls.{tasksIn, setOf}
+use Rattle.fileformat.specs.FileCalls.{tasksIn, setWith, setOf}
 use Rattle.fileformat.proofs.StepLaws.{task-few, end-early, end-fine}
 use Rattle.fileformat.proofs.RoundTripCalls.{tasks-of-set}
 use Rattle.text.specs.Text.{lineFeed}
@@ -40,15 +40,15 @@ use Rattle.loader.proofs.PieceLaws.{pieces-join}
 use Rattle.loader.proofs.SeenLaws.{Seen, seen-nothing, some-byte, some-last, Steps, goes, breaks, seen-steps, Closes, forms, fails, seen-closes}
 
 -- one task more, in the first entry that is free
-set-more : (ts : List Task) (t : Task) → length ts < maxTasks → record { tasks = set (setOf ts .tasks) (length ts) t; count = length ts + 1 } ≡ setOf (ts ++ (t ∷ []))
-unfolding setOf
+set-more : (ts : List Task) (t : Task) → length ts < maxTasks → record { tasks = set (setOf ts .tasks) (length ts) t; count = length ts + 1; charge = 0 } ≡ setOf (ts ++ (t ∷ []))
+unfolding setWith
 set-more ts t h =
     let e : maxTasks - length ts ≡ suc (maxTasks - (length ts + 1)) = omega arith in
     let n : length (ts ++ (t ∷ [])) ≡ length ts + 1 = length-append ts (t ∷ []) in
     let a : set (ts ++ replicate (maxTasks - length ts) noTask) (length ts) t ≡ (ts ++ (t ∷ [])) ++ replicate (maxTasks - (length ts + 1)) noTask =
     ap (λ k. set (ts ++ replicate k noTask) (length ts) t) e ∙ set-append-seam ts noTask (replicate (maxTasks - (length ts + 1)) noTask) t
     ∙ sym (append-snoc ts t (replicate (maxTasks - (length ts + 1)) noTask)) in
-    rw n (ap (λ l. record { tasks = l; count = length ts + 1 }) a)
+    rw n (ap (λ l. record { tasks = l; count = length ts + 1; charge = 0 }) a)
 
 -- a refusal, and no task
 says-refused : (k n : ℕ) (a : Answer (List Task)) → a ≡ refused (record { number = k; place = n }) → LoadSays a (refusal k n)
@@ -64,17 +64,17 @@ stopped-says s m k n r a e = rw (fed-refused s m k n r) (says-refused k n a e)
 
 -- the end of the text
 no-line-more : (ts : List Task) (m : LineSoFar) → begun m ≡ false → LoadSays (loadFrom ts []) (closed (going (setOf ts) m))
-unfolding closed setOf loadSheet
+unfolding closed setWith loadSheet
 no-line-more ts m b = go (endFault (length ts)) refl
   where
     go : (o : Option ℕ) → endFault (length ts) ≡ o → LoadSays (loadFrom ts []) (closed (going (setOf ts) m))
     go (some k) e = rw (closed, b, e) (says-refused k (length ts) _ (load-none ts k e))
     go none e =
         rw (closed, b, e)
-        (record { answer = ap answered (tasks-of-set ts) ∙ sym (load-end ts e); sheet = ap loadSheet (sym (load-end ts e)) })
+        (record { answer = ap answered (tasks-of-set 0 ts) ∙ sym (load-end ts e); sheet = ap loadSheet (sym (load-end ts e)) })
 
 line-open : (ts : List Task) (m : LineSoFar) (x : Line) → begun m ≡ true → x .ended ≡ false → LoadSays (loadFrom ts (x ∷ [])) (closed (going (setOf ts) m))
-unfolding closed setOf hasForm
+unfolding closed setWith hasForm
 line-open ts m x b e = rw (closed, b) (says-refused 16 (length ts) _ (other-line ts x [] (rw e)))
 
 at-end : (ts : List Task) (m : LineSoFar) (p : List ℕ) → Seen m p → LoadSays (loadFrom ts (lastLine p)) (closed (going (setOf ts) m))
@@ -117,7 +117,7 @@ Rest r =
 module _ (r : List ℕ) (ih : Rest r) (ts : List Task) (m : LineSoFar) (p : List ℕ) (h : length ts ≤ maxTasks) where
   -- a byte that is no line feed
   on-byte : (b : ℕ) (t : Taken) → Steps p b t → LoadSays (loadFrom ts (linesFrom (p ++ (b ∷ [])) r)) (closed (fed (after (going (setOf ts) m) t) r))
-  unfolding after halted setOf hasForm
+  unfolding after halted setWith hasForm
   on-byte b _ (goes m′ s) = ih ts m′ (p ++ (b ∷ [])) s h
   on-byte b _ (breaks f) =
       let w = starts-with (p ++ (b ∷ [])) r (some-last p b) in
@@ -128,31 +128,31 @@ module _ (r : List ℕ) (ih : Rest r) (ts : List Task) (m : LineSoFar) (p : List
   abbrev line : Line
   line = record { bytes = p; ended = true }
 
-  four-fault : isFour (fieldsOf p) ≡ true → (o : Option ℕ) → taskFault (length ts) 0 (taskOf (fieldsOf p)) ≡ o → lineFault (length ts) line ≡ o
+  four-fault : isFour (fieldsOf p) ≡ true → (o : Option ℕ) → taskFault 0 (length ts) 0 (taskOf (fieldsOf p)) ≡ o → lineFault (length ts) line ≡ o
   unfolding lineFault hasForm taskIn
   four-fault f o g = rw (lineFault, f) g
 
   on-task
-      : (t : Task) → isFour (fieldsOf p) ≡ true → t ≡ cutAt cap (taskOf (fieldsOf p)) → (o : Option ℕ) → taskFault (length ts) 0 (taskOf (fieldsOf p)) ≡ o
+      : (t : Task) → isFour (fieldsOf p) ≡ true → t ≡ cutAt cap (taskOf (fieldsOf p)) → (o : Option ℕ) → taskFault 0 (length ts) 0 (taskOf (fieldsOf p)) ≡ o
       → LoadSays (loadFrom ts (line ∷ linesFrom [] r)) (closed (fed (after (going (setOf ts) m) (Ends t)) r))
-  unfolding after halted pushed setOf taskIn
+  unfolding after halted pushed setWith taskIn
   on-task t f e (some k) g =
-      let a : taskFault (length ts) 0 t ≡ some k = ap (taskFault (length ts) 0) e ∙ same-fault cap (omega arith) (length ts) (taskOf (fieldsOf p)) ∙ g in
+      let a : taskFault 0 (length ts) 0 t ≡ some k = ap (taskFault 0 (length ts) 0) e ∙ same-fault cap (omega arith) (length ts) (taskOf (fieldsOf p)) ∙ g in
       rw (after, a) (stopped-says (setOf ts) m k (length ts) r _ (load-stop ts line (linesFrom [] r) k (four-fault f (some k) g)))
   on-task t f e none g =
-      let a : taskFault (length ts) 0 t ≡ none = ap (taskFault (length ts) 0) e ∙ same-fault cap (omega arith) (length ts) (taskOf (fieldsOf p)) ∙ g in
+      let a : taskFault 0 (length ts) 0 t ≡ none = ap (taskFault 0 (length ts) 0) e ∙ same-fault cap (omega arith) (length ts) (taskOf (fieldsOf p)) ∙ g in
       let u : t ≡ taskOf (fieldsOf p) = e ∙ uncut cap (omega arith) (length ts) (taskOf (fieldsOf p)) g in
-      let few = task-few (length ts) 0 (taskOf (fieldsOf p)) g in
+      let few = task-few 0 (length ts) 0 (taskOf (fieldsOf p)) g in
       let s : pushed (going (setOf ts) m) t ≡ going (setOf (ts ++ (taskOf (fieldsOf p) ∷ []))) noLine =
-      ap (λ q. going q noLine) (ap (λ x. record { tasks = set (setOf ts .tasks) (length ts) x; count = length ts + 1 }) u ∙ set-more ts (taskOf (fieldsOf p)) few) in
+      ap (λ q. going q noLine) (ap (λ x. record { tasks = set (setOf ts .tasks) (length ts) x; count = length ts + 1; charge = 0 }) u ∙ set-more ts (taskOf (fieldsOf p)) few) in
       rw (after, a, s, load-next ts line (linesFrom [] r) (four-fault f none g))
       (ih (ts ++ (taskOf (fieldsOf p) ∷ [])) noLine [] seen-nothing (omega (arith, length-append ts (taskOf (fieldsOf p) ∷ []))))
 
   -- a line feed
   on-feed : (t : Taken) → Closes p t → LoadSays (loadFrom ts (record { bytes = p; ended = true } ∷ linesFrom [] r)) (closed (fed (after (going (setOf ts) m) t) r))
-  unfolding after halted setOf hasForm
+  unfolding after halted setWith hasForm
   on-feed _ (fails f) = stopped-says (setOf ts) m 16 (length ts) r _ (other-line ts _ (linesFrom [] r) f)
-  on-feed _ (forms t f e) = on-task t f e (taskFault (length ts) 0 (taskOf (fieldsOf p))) refl
+  on-feed _ (forms t f e) = on-task t f e (taskFault 0 (length ts) 0 (taskOf (fieldsOf p))) refl
 
 rest-says : (r : List ℕ) → Rest r
 unfolding fed stepped linesFrom
@@ -164,7 +164,7 @@ rest-says (b ∷ r) ts m p s h = go (eqb b lineFeed) refl (rest-says r)
     go false e ih = rw (line-stays p b r e) (on-byte r ih ts m p h b (taken m b) (seen-steps m p b s (eqb-false b lineFeed e)))
 
 pub closed-says : ClosedSays
-unfolding load linesOf setOf
+unfolding load linesOf setWith
 closed-says text =
     let h = rest-says text [] noLine [] seen-nothing (omega arith) in
     record { answer = h .answer; sheet = h .sheet }

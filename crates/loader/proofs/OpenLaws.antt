@@ -2,6 +2,7 @@
 use Prim.Native.Nat.{ℕ, zero, suc, _+_, _-_, _≤_, _<_}
 use mathlib.Core.Path.{_≡_, refl, sym, ap, subst, _∙_}
 use mathlib.Core.Bool.{Bool, true, false, true≢false}
+use mathlib.Core.Logic.{⊎-elim}
 use mathlib.Core.Option.{Option, some, none}
 use mathlib.Core.List.{List, [], _∷_, _++_}
 use native.Mathlib.Omega.{arith}
@@ -13,11 +14,11 @@ use Rattle.taskset.specs.declared.TaskSet.{TaskSet}
 use Rattle.taskset.specs.declared.Checked.{Checked}
 use Rattle.taskset.specs.declared.Checked.the-variants.{Fine, Refused}
 use Rattle.fileformat.specs.File.{taskFault}
-use Rattle.fileformat.proofs.FilePlaces.{task-number}
 use Rattle.text.specs.Text.{lineFeed}
 use Rattle.textformat.specs.Numerals.{isDigit}
 use Rattle.textformat.specs.Lines.{comma}
 use Rattle.textformat.specs.TextSheet.{load}
+use Rattle.textformat.proofs.TextPlaces.{task-number}
 use Rattle.loader.specs.declared.LineSoFar.{LineSoFar}
 use Rattle.loader.specs.declared.Taken.{Taken}
 use Rattle.loader.specs.declared.Taken.the-variants.{Goes, Ends, Broken}
@@ -57,9 +58,9 @@ unfolding after halted pushed withDigit withComma
 after-few s b _ breaks h = h
 after-few s b _ counts h = h
 after-few s b _ (parts l) h = omega arith
-after-few s b _ ends h = go (taskFault (s .tasks .count) 0 (taskSoFar (s .line))) refl
+after-few s b _ ends h = go (taskFault 0 (s .tasks .count) 0 (taskSoFar (s .line))) refl
   where
-    go : (o : Option ℕ) → taskFault (s .tasks .count) 0 (taskSoFar (s .line)) ≡ o → after s (Ends (taskSoFar (s .line))) .line .commas ≤ 3
+    go : (o : Option ℕ) → taskFault 0 (s .tasks .count) 0 (taskSoFar (s .line)) ≡ o → after s (Ends (taskSoFar (s .line))) .line .commas ≤ 3
     go (some k) e = rw (after, e) h
     go none e = rw (after, e) (omega arith)
 
@@ -87,10 +88,10 @@ formed-answered ts n e = let z : _≡_ {A = ℕ} 0 1 = cc in omega arith
 -- a line feed after four numbers
 formed-end : (s : TaskSet) (m : LineSoFar) → m .digit ≡ true → m .commas ≡ 3 → Formed (loadedIn (closed (fed (going s m) (lineFeed ∷ []))))
 unfolding fed stepped isDigit closed begun after halted pushed
-formed-end s m d c = subst (λ t. Formed (loadedIn (closed (after (going s m) t)))) (taken-end m lineFeed refl refl d c) (go (taskFault (s .count) 0 (taskSoFar m)) refl)
+formed-end s m d c = subst (λ t. Formed (loadedIn (closed (after (going s m) t)))) (taken-end m lineFeed refl refl d c) (go (taskFault 0 (s .count) 0 (taskSoFar m)) refl)
   where
-    go : (o : Option ℕ) → taskFault (s .count) 0 (taskSoFar m) ≡ o → Formed (loadedIn (closed (after (going s m) (Ends (taskSoFar m)))))
-    go (some k) e = rw (after, e) (formed-refused k (s .count) (λ z. omega (arith, task-number (s .count) 0 (taskSoFar m) k e .high)))
+    go : (o : Option ℕ) → taskFault 0 (s .count) 0 (taskSoFar m) ≡ o → Formed (loadedIn (closed (after (going s m) (Ends (taskSoFar m)))))
+    go (some k) e = rw (after, e) (formed-refused k (s .count) (λ z. ⊎-elim (λ f. omega arith) (λ f. omega arith) (task-number (s .count) (taskSoFar m) k e)))
     go none e =
         rw (after, e) (subst (λ r. Formed (loadedIn r)) (closed-fine (pushed (going s m) (taskSoFar m)) refl refl (omega arith)) (formed-answered _))
 

@@ -75,16 +75,16 @@ halted s k = record { tasks = s .tasks; line = s .line; answer = Refused k (s .t
 -- one task more, and a new line
 unfoldable pub pushed : Loader → Task → Loader
 pushed s t = record {
-  tasks = record { tasks = set (s .tasks .tasks) (s .tasks .count) t; count = s .tasks .count + 1 };
+  tasks = record { tasks = set (s .tasks .tasks) (s .tasks .count) t; count = s .tasks .count + 1; charge = s .tasks .charge };
   line = noLine;
   answer = Fine;
 }
 
--- what a byte does: 16 as soon as the line has another form, and at its end 4, then 6
+-- what a byte does: 16 as soon as the line has another form, and at its end 4, then 6, as for a task without a charge
 unfoldable pub after : Loader → Taken → Loader
 after s Broken = halted s 16
 after s (Goes m) = record { tasks = s .tasks; line = m; answer = Fine }
-after s (Ends t) = elim (taskFault (s .tasks .count) 0 t) [ some k ↦ halted s k | none ↦ pushed s t ]
+after s (Ends t) = elim (taskFault 0 (s .tasks .count) 0 t) [ some k ↦ halted s k | none ↦ pushed s t ]
 
 -- once refused, nothing that follows changes the answer
 unfoldable pub stepped : Loader → ℕ → Loader
@@ -127,7 +127,7 @@ closed s =
 abbrev pub loadedIn : Loaded → Answer (List Task)
 loadedIn r = elim (r .answer) [ Fine ↦ answered (tasksIn (r .tasks)) | Refused n p ↦ refused (record { number = n; place = p }) ]
 
--- what a load promises of its answer, given the definition's: it is the same, and so is the sheet, with 0 past its count and no task after a refusal
+-- what a load promises of its answer, given the definition's: it is the same, and so is the sheet, with 0 past its count, no charge, and no task after a refusal
 pub record LoadSays (a : Answer (List Task)) (r : Loaded) : Type 0 where
   pub answer : loadedIn r ≡ a
   pub sheet : r .tasks ≡ loadSheet a

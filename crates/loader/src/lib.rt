@@ -36,7 +36,7 @@ pub struct Loader {
     pub answer: Checked,
 }
 
-// The answer of a load, and the sheet: no task after a refusal. Entries past the count are 0 where the loader was fed from `start` on.
+// The answer of a load, and the sheet: no task after a refusal. Entries past the count and the charge are 0 where the loader was fed from `start` on.
 pub struct Loaded {
     pub answer: Checked,
     pub tasks: TaskSet,
@@ -189,7 +189,7 @@ pub fn feed(l: Loader, piece: &[u8]) -> Loader
                 i += 1;
             }
             Taken::Ends { task } => {
-                let k = entries::check_task(n, 0, n, task);
+                let k = entries::check_task(0, n, 0, n, task);
                 if let Checked::Refused { number, place } = k {
                     return Loader {
                         tasks: tasks,

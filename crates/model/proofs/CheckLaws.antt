@@ -1,22 +1,24 @@
 -- Laws of each check by itself: what it refuses, and what holds where it passes.
-use Prim.Native.Nat.{ℕ, _≤_, _<_}
+use Prim.Native.Nat.{ℕ, _+_, _≤_, _<_}
 use mathlib.Core.Path.{_≡_, refl, sym, _∙_, ap}
-use mathlib.Core.Bool.{Bool, true, false, _&&_, not, and-eq-true-iff}
+use mathlib.Core.Logic.{_⊎_, inl, inr}
+use mathlib.Core.Bool.{Bool, true, false, _&&_, and-eq-true-iff}
 use mathlib.Core.Option.{Option, some, none}
 use mathlib.Core.List.{List, [], _∷_, _++_}
 use native.Mathlib.Omega.{arith}
 use native.Mathlib.Nat.{lt-of-not-le, le-of-suc-le-suc}
-use borrow.Author.Tests.{le-leb, lt-leb, leb-true, leb-false, ne-eqb, lt-ltb, le-ltb, ltb-true, ltb-false, not-false}
+use borrow.Author.Tests.{le-leb, lt-leb, leb-true, leb-false, ne-eqb, lt-ltb, le-ltb, ltb-true, ltb-false}
 use lib.Dec.{leb, ltb}
 use lib.IntN.{ℤ}
 use Rattle.model.specs.Limits.{maxTasks, maxTime, maxReleases}
 use Rattle.model.specs.Search.{first}
-use Rattle.model.specs.Tasks.{Tasks, InRange, Valid}
+use Rattle.model.specs.Processor.{plain}
+use Rattle.model.specs.Tasks.{Tasks, InRange, Carried, Valid, load}
 use Rattle.model.specs.Choice.{Choice, unfit, chosen}
 use Rattle.model.specs.Refusal.{Refusal, refuse, firstOf}
-use Rattle.model.specs.Checks.{Lent, inRange, refuseAt, refuseIf, checkRanges, checkTasks, checkTask, checkCount, checkSlots, checkKept, checkChoice}
+use Rattle.model.specs.Checks.{Lent, inRange, carries, entryFault, faultOf, faultAt, isFault, refuseAt, refuseIf, refuseBy, checkEntries, checkTasks, checkTask, checkCount, checkSlots, checkKept, checkChoice}
 use Rattle.model.specs.Calls.{unfitOf}
-use Rattle.model.proofs.SearchLaws.{first-none, first-nothing}
+use Rattle.model.proofs.SearchLaws.{first-none, first-found, first-nothing}
 
 -- a test that cannot hold does not
 pub is-false : (b : Bool) → (b ≡ true → ⊥) → b ≡ false
@@ -63,9 +65,93 @@ in-range-of P J E D h =
 pub in-range-no : (P J E D : ℕ) → (InRange P J E D → ⊥) → inRange P J E D ≡ false
 in-range-no P J E D h = is-false _ (λ e. h (in-range-of P J E D e))
 
--- the search of 6
-abbrev pub outside : Tasks → ℕ → Bool
-outside s i = not (inRange (s .period i) (s .jitter i) (s .cost i) (s .deadline i))
+pub carries-yes : (S P E D : ℕ) → Carried P D (plain S .work E) → carries S P E D ≡ true
+unfolding carries
+carries-yes S P E D h = rw (le-leb (E + S) P (h .load-period), le-leb (E + S) D (h .load-deadline))
+
+pub carries-of : (S P E D : ℕ) → carries S P E D ≡ true → Carried P D (plain S .work E)
+unfolding carries
+carries-of S P E D h =
+    let t = both (leb (E + S) P) (leb (E + S) D) h in
+    record { load-period = leb-true _ _ (t .0); load-deadline = leb-true _ _ (t .1) }
+
+pub carries-no : (S P E D : ℕ) → (Carried P D (plain S .work E) → ⊥) → carries S P E D ≡ false
+carries-no S P E D h = is-false _ (λ e. h (carries-of S P E D e))
+
+-- what is wrong with a task: 6, then 17
+module _ (S P J E D : ℕ) where
+  pub entry-outside : inRange P J E D ≡ false → entryFault S P J E D ≡ some 6
+  unfolding entryFault
+  entry-outside h = rw (entryFault, h)
+
+  pub entry-heavy : inRange P J E D ≡ true → (Carried P D (plain S .work E) → ⊥) → entryFault S P J E D ≡ some 17
+  unfolding entryFault
+  entry-heavy h g = rw (entryFault, h, carries-no S P E D g)
+
+  pub entry-fine : inRange P J E D ≡ true → Carried P D (plain S .work E) → entryFault S P J E D ≡ none
+  unfolding entryFault
+  entry-fine h g = rw (entryFault, h, carries-yes S P E D g)
+
+  -- where nothing is wrong
+  pub entry-of : entryFault S P J E D ≡ none → InRange P J E D × Carried P D (plain S .work E)
+  unfolding entryFault
+  entry-of e = go (inRange P J E D) (carries S P E D) refl refl
+    where
+      go : (a b : Bool) → inRange P J E D ≡ a → carries S P E D ≡ b → InRange P J E D × Carried P D (plain S .work E)
+      go false b f g = let w : _≡_ {A = Option ℕ} (some 6) none = rw (entryFault, f) at e in let z : _≡_ {A = ℕ} 0 1 = cc in absurd (omega arith)
+      go true false f g = let w : _≡_ {A = Option ℕ} (some 17) none = rw (entryFault, f, g) at e in let z : _≡_ {A = ℕ} 0 1 = cc in absurd (omega arith)
+      go true true f g = (in-range-of P J E D f, carries-of S P E D g)
+
+  -- the numbers
+  pub entry-number : (n : ℕ) → entryFault S P J E D ≡ some n → (n ≡ 6) ⊎ (n ≡ 17)
+  unfolding entryFault
+  entry-number n e = go (inRange P J E D) (carries S P E D) refl refl
+    where
+      go : (a b : Bool) → inRange P J E D ≡ a → carries S P E D ≡ b → (n ≡ 6) ⊎ (n ≡ 17)
+      go false b f g = let w : _≡_ {A = Option ℕ} (some 6) (some n) = rw (entryFault, f) at e in inl (cc)
+      go true false f g = let w : _≡_ {A = Option ℕ} (some 17) (some n) = rw (entryFault, f, g) at e in inr (cc)
+      go true true f g = let w : _≡_ {A = Option ℕ} none (some n) = rw (entryFault, f, g) at e in let z : _≡_ {A = ℕ} 0 1 = cc in absurd (omega arith)
+
+-- a number as a refusal
+pub faulty : (p n : ℕ) (o : Option ℕ) → o ≡ some n → refuse n p ≡ faultAt p o
+unfolding faultAt
+faulty p n o e = rw (faultAt, e)
+
+pub faultless : (p : ℕ) (o : Option ℕ) → o ≡ none → none ≡ faultAt p o
+unfolding faultAt
+faultless p o e = rw (faultAt, e)
+
+-- the number of a refusal
+pub fault-of : (p : ℕ) (o : Option ℕ) (q : Refusal) → some q ≡ faultAt p o → (o ≡ some (q .number)) × (q ≡ record { number = q .number; place = p })
+unfolding faultAt
+fault-of p none q e = let z : _≡_ {A = ℕ} 0 1 = cc in absurd (omega arith)
+fault-of p (some n) q e =
+    let w : _≡_ {A = Refusal} q (record { number = n; place = p }) = cc in
+    let v : n ≡ q .number = sym (ap (λ (x : Refusal). x .number) w) in
+    (ap some v, w ∙ ap (λ m. record { number = m; place = p }) v)
+
+pub faultless-of : (p : ℕ) (o : Option ℕ) → none ≡ faultAt p o → o ≡ none
+unfolding faultAt
+faultless-of p none e = refl
+faultless-of p (some n) e = let z : _≡_ {A = ℕ} 0 1 = cc in absurd (omega arith)
+
+-- whether there is one
+pub is-fault : (o : Option ℕ) (n : ℕ) → o ≡ some n → isFault o ≡ true
+unfolding isFault
+is-fault o n e = rw e
+
+pub no-fault : (o : Option ℕ) → o ≡ none → isFault o ≡ false
+unfolding isFault
+no-fault o e = rw e
+
+is-none : (o : Option ℕ) → isFault o ≡ false → o ≡ none
+unfolding isFault
+is-none none e = refl
+is-none (some n) e = let z : _≡_ {A = ℕ} 0 1 = cc in absurd (omega arith)
+
+-- the search of 6 and 17
+abbrev pub wrong : Tasks → ℕ → Bool
+wrong s i = isFault (faultOf s i)
 
 -- 5: no task
 pub refuses-none : (s : Tasks) → s .count ≡ 0 → refuse 5 0 ≡ checkTasks s
@@ -77,23 +163,25 @@ pub refuses-many : (s : Tasks) → maxTasks < s .count → refuse 4 maxTasks ≡
 unfolding checkTasks refuseIf firstOf
 refuses-many s h = rw (checkTasks, ne-eqb (s .count) 0 (λ e. omega arith), lt-ltb maxTasks (s .count) h)
 
-ranges : (s : Tasks) → 1 ≤ s .count → s .count ≤ maxTasks → checkTasks s ≡ firstOf (checkRanges s ∷ [])
+entries : (s : Tasks) → 1 ≤ s .count → s .count ≤ maxTasks → checkTasks s ≡ firstOf (checkEntries s ∷ [])
 unfolding checkTasks refuseIf firstOf
-ranges s l h = rw (checkTasks, ne-eqb (s .count) 0 (λ e. omega arith), le-ltb maxTasks (s .count) h)
+entries s l h = rw (checkTasks, ne-eqb (s .count) 0 (λ e. omega arith), le-ltb maxTasks (s .count) h)
 
--- 6: the first task outside its ranges
-pub refuses-range : (s : Tasks) (i : ℕ) → 1 ≤ s .count → s .count ≤ maxTasks → first (outside s) (s .count) 0 ≡ some i → refuse 6 i ≡ checkTasks s
-unfolding checkRanges refuseAt firstOf
-refuses-range s i l h e = sym (ranges s l h ∙ rw (checkRanges, e))
+-- 6, 17: the first task with which something is wrong
+pub refuses-entry
+    : (s : Tasks) (i : ℕ) (r : Refusal) → 1 ≤ s .count → s .count ≤ maxTasks → first (wrong s) (s .count) 0 ≡ some i → some r ≡ faultAt i (faultOf s i)
+    → some r ≡ checkTasks s
+unfolding checkEntries refuseBy firstOf
+refuses-entry s i r l h e f = sym (entries s l h ∙ rw (checkEntries, e, refuseBy, ← f))
 
 -- a sheet within the limits
-pub passes : (s : Tasks) → 1 ≤ s .count → s .count ≤ maxTasks → first (outside s) (s .count) 0 ≡ none → none ≡ checkTasks s
-unfolding checkRanges refuseAt firstOf
-passes s l h e = sym (ranges s l h ∙ rw (checkRanges, e))
+pub passes : (s : Tasks) → 1 ≤ s .count → s .count ≤ maxTasks → first (wrong s) (s .count) 0 ≡ none → none ≡ checkTasks s
+unfolding checkEntries refuseBy firstOf
+passes s l h e = sym (entries s l h ∙ rw (checkEntries, e))
 
--- a sheet that passes its check is within document 01's limits
+-- a sheet that passes its check is within the limits
 pub valid-of : (s : Tasks) → checkTasks s ≡ none → Valid s
-valid-of s h = record { some-task = low; few-tasks = high; in-range = ranged }
+valid-of s h = record { some-task = low; few-tasks = high; in-range = λ i l. fine i l .0; carried = λ i l. fine i l .1 }
   where
     no-refusal : {r : Refusal} → some r ≡ checkTasks s → ⊥
     no-refusal e = let e′ = e ∙ h in let z : _≡_ {A = ℕ} 0 1 = cc in omega arith
@@ -104,21 +192,30 @@ valid-of s h = record { some-task = low; few-tasks = high; in-range = ranged }
     high : s .count ≤ maxTasks
     high = le-of-suc-le-suc (lt-of-not-le (λ l. no-refusal (refuses-many s l)))
 
-    nothing : first (outside s) (s .count) 0 ≡ none
-    nothing = go (first (outside s) (s .count) 0) refl
+    nothing : first (wrong s) (s .count) 0 ≡ none
+    nothing = go (first (wrong s) (s .count) 0) refl
       where
-        go : (o : Option ℕ) → first (outside s) (s .count) 0 ≡ o → o ≡ none
-        go none e = refl
-        go (some i) e = absurd (no-refusal (refuses-range s i low high e))
+        there : (i : ℕ) (o : Option ℕ) → faultOf s i ≡ o → first (wrong s) (s .count) 0 ≡ some i → ⊥
+        there i (some n) g e = no-refusal (refuses-entry s i (record { number = n; place = i }) low high e (faulty i n (faultOf s i) g))
+        there i none g e =
+            let w : false ≡ true = sym (no-fault (faultOf s i) g) ∙ first-found (wrong s) (s .count) 0 i e .holds in
+            let z : _≡_ {A = ℕ} 0 1 = cc in omega arith
 
-    ranged : (i : ℕ) → i < s .count → InRange (s .period i) (s .jitter i) (s .cost i) (s .deadline i)
-    ranged i l = in-range-of _ _ _ _ (not-false _ (first-nothing (outside s) (s .count) 0 nothing i (omega arith) (omega arith)))
+        go : (o : Option ℕ) → first (wrong s) (s .count) 0 ≡ o → o ≡ none
+        go none e = refl
+        go (some i) e = absurd (there i (faultOf s i) refl e)
+
+    fine : (i : ℕ) → i < s .count → InRange (s .period i) (s .jitter i) (s .cost i) (s .deadline i) × Carried (s .period i) (s .deadline i) (load s i)
+    fine i l =
+        entry-of (s .charge) (s .period i) (s .jitter i) (s .cost i) (s .deadline i)
+        (is-none (faultOf s i) (first-nothing (wrong s) (s .count) 0 nothing i (omega arith) (omega arith)))
 
 -- and a sheet within them passes
 pub valid-passes : (s : Tasks) → Valid s → none ≡ checkTasks s
 valid-passes s v =
     passes s (v .some-task) (v .few-tasks)
-    (first-none (outside s) (s .count) 0 (λ i l g. ap not (in-range-yes _ _ _ _ (v .in-range i (omega arith)))))
+    (first-none (wrong s) (s .count) 0
+    (λ i l g. no-fault (faultOf s i) (entry-fine _ _ _ _ _ (in-range-yes _ _ _ _ (v .in-range i (omega arith))) (v .carried i (omega arith)))))
 
 -- the search of 12
 abbrev pub over : Tasks → (ℕ → ℕ) → ℕ → Bool

@@ -9,5 +9,8 @@ pub mod StopLaws
 pub mod SameVerdict
 pub mod TraceLaws
 pub mod OldListLaws
+pub mod ChargeLaws
+pub mod SameJobs
+pub mod ChargedRunLaws
 pub mod SameAnswers
 pub mod Sums

@@ -2,6 +2,7 @@
 use Prim.Native.Nat.{ℕ, zero, suc, _+_, _≤_, _<_}
 use mathlib.Core.Path.{_≡_, refl, sym, ap, _∙_}
 use mathlib.Core.Bool.{Bool, true, false, _||_}
+use mathlib.Core.Logic.{_⊎_, inl, inr}
 use mathlib.Core.Option.{Option, some, none}
 use mathlib.Core.List.{List, [], _∷_}
 use native.Mathlib.Omega.{arith}
@@ -12,16 +13,16 @@ use Rattle.model.specs.Limits.{maxTasks, maxReleases, maxTick}
 use Rattle.model.specs.Tasks.{Tasks, Release}
 use Rattle.model.specs.Choice.{Choice, unfit, chosen, leastKeep, choiceNext, choiceOf, choice}
 use Rattle.model.specs.Refusal.{Refusal, refuse, refused, answered, firstOf}
-use Rattle.model.specs.Checks.{Lent, Inputs, refuseAt, refuseIf, checkRanges, checkTasks, checkTask, checkCount, checkSlots, checkKept, releaseFault, checkReleases, checkChoice, refusalOf, answerOf}
+use Rattle.model.specs.Checks.{Lent, Inputs, refuseAt, refuseIf, faultOf, faultAt, refuseBy, checkEntries, checkTasks, checkTask, checkCount, checkSlots, checkKept, releaseFault, checkReleases, checkChoice, refusalOf, answerOf}
 use Rattle.model.specs.Calls.{releasesOf, taskInputs, choiceInputs, unfitOf, listInputs, readyInputs, runInputs}
 use Rattle.model.proofs.SearchLaws.{first-found}
 use Rattle.model.proofs.TableLaws.{length-table}
-use Rattle.model.proofs.CheckLaws.{valid-of, count-of}
+use Rattle.model.proofs.CheckLaws.{entry-number, valid-of, count-of}
 use Rattle.model.proofs.OrderLaws.{answers, refuses}
 
--- the largest number of a refusal: 15 in document 01; 16 is that of a text's line
+-- the largest number of a refusal: 15 in document 01; 16 is that of a text's line, 17 of a load over P or D
 abbrev pub largestNumber : ℕ
-largestNumber = 16
+largestNumber = 17
 
 -- a refusal with one of these numbers and a place of at most B
 pub record Within (B : ℕ) (r : Refusal) : Type 0 where
@@ -51,6 +52,20 @@ unfolding refuseAt
 within-at B n none r h g l e = let z : _≡_ {A = ℕ} 0 1 = cc in absurd (omega arith)
 within-at B n (some p) r h g l e = within-known B n p r h g (l p refl) e
 
+-- a search whose place tells the number: 6 or 17
+within-entry : (s : Tasks) (o : Option ℕ) (r : Refusal) → ((p : ℕ) → o ≡ some p → p ≤ maxTasks) → some r ≡ refuseBy (faultOf s) o → Within maxTasks r
+unfolding refuseBy faultAt
+within-entry s none r l e = let z : _≡_ {A = ℕ} 0 1 = cc in absurd (omega arith)
+within-entry s (some p) r l e = go (faultOf s p) refl
+  where
+    numbered : (n : ℕ) → (n ≡ 6) ⊎ (n ≡ 17) → some r ≡ refuse n p → Within maxTasks r
+    numbered n (inl h) f = within-known maxTasks n p r (omega arith) (omega arith) (l p refl) f
+    numbered n (inr h) f = within-known maxTasks n p r (omega arith) (omega arith) (l p refl) f
+
+    go : (f : Option ℕ) → faultOf s p ≡ f → Within maxTasks r
+    go none h = let w : some r ≡ none = rw (refuseBy, h) at e in let z : _≡_ {A = ℕ} 0 1 = cc in absurd (omega arith)
+    go (some n) h = numbered n (entry-number _ _ _ _ _ n h) (rw (refuseBy, h) at e)
+
 -- checks in order: the first refuses, or it passes and a later one refuses
 by-first
     : {A : Type 0} (c : Option Refusal) (l : List (Option Refusal)) (r : Refusal) → (some r ≡ c → A) → (none ≡ c → some r ≡ firstOf l → A) → some r ≡ firstOf (c ∷ l) → A
@@ -70,14 +85,14 @@ passes false n p e = refl
 
 -- the sheet: a task below the count, which is at most 32
 pub tasks-within : (s : Tasks) (r : Refusal) → some r ≡ checkTasks s → Within maxTasks r
-unfolding checkTasks checkRanges
+unfolding checkTasks checkEntries
 tasks-within s r =
     by-first _ _ r (within-if maxTasks _ 5 0 r (omega arith) (omega arith) (omega arith))
     (λ _.
     by-first _ _ r (within-if maxTasks _ 4 maxTasks r (omega arith) (omega arith) (omega arith))
     (λ n.
     by-last _ r
-    (within-at maxTasks 6 _ r (omega arith) (omega arith)
+    (within-entry s _ r
     (λ i f. omega (arith, first-found _ (s .count) 0 i f .high, ltb-false maxTasks (s .count) (passes _ 4 maxTasks n))))))
 
 -- every lent slice needs at most B slots

@@ -2,7 +2,7 @@
 use Prim.Native.Nat.{ℕ, zero, suc, _+_, _≤_, _<_}
 use mathlib.Core.Path.{_≡_, refl, sym, ap, ap₂, _∙_}
 use mathlib.Core.Logic.{_⊎_, inl, inr}
-use mathlib.Core.Bool.{Bool, true, false, not, _||_}
+use mathlib.Core.Bool.{Bool, true, false, _||_}
 use mathlib.Core.Option.{Option, some, none}
 use mathlib.Core.List.{List, [], _∷_, _++_, map}
 use native.Mathlib.Omega.{arith}
@@ -23,10 +23,11 @@ use Rattle.model.specs.Stops.{different, stopTicks, stopCount}
 use Rattle.model.specs.Verdict.{verdict}
 use Rattle.model.specs.Choice.{Choice, unfit, chosen, column, andKeep, isFits, worstOf, leastKeep, choiceNext, choiceOf, choice}
 use Rattle.model.specs.Refusal.{Refusal, answered, firstOf}
-use Rattle.model.specs.Checks.{Lent, Inputs, inRange, refuseAt, refuseIf, checkRanges, checkTasks, checkTask, checkCount, checkSlots, checkKept, releaseFault, checkReleases, checkChoice, refusalOf, answerOf}
+use Rattle.model.specs.Checks.{Lent, Inputs, entryFault, faultOf, faultAt, isFault, refuseAt, refuseIf, refuseBy, checkEntries, checkTasks, checkTask, checkCount, checkSlots, checkKept, releaseFault, checkReleases, checkChoice, refusalOf, answerOf}
 use Rattle.model.specs.Calls.{lends, releasesOf, columnAfter, taskInputs, arrivalCall, verdictCall, unfitOf, choiceInputs, keptColumn, worstColumn, listInputs, traceCall, readyInputs, runInputs, jumpCall}
 use Rattle.model.specs.SameTasks.{SameTasks, SameAnswers, SameTasksAnswerSame}
 use Rattle.model.proofs.SeriesLaws.{le-or-lt}
+use Rattle.model.proofs.SearchLaws.{first-found}
 use Rattle.model.proofs.CheckLaws.{valid-of, task-of}
 use Rattle.model.proofs.OrderLaws.{accepted-of, column-kept, answers, refuses}
 use Rattle.model.proofs.TraceLaws.{fault-task, trace-of}
@@ -70,22 +71,30 @@ fault-known s s′ low high r n c = λ x.
 module _ (s s′ : Tasks) (same : SameTasks s s′) where
   -- the sheet
   pub tasks-same : checkTasks s ≡ checkTasks s′
-  unfolding checkTasks checkRanges
+  unfolding checkTasks checkEntries refuseBy
   tasks-same = λ x.
       firstOf
       (refuseIf (eqb (same .count x) 0) 5 0
       ∷ refuseIf (ltb maxTasks (same .count x)) 4 maxTasks
-      ∷ refuseAt 6 (ranges x)
+      ∷ entries x
       ∷ [])
     where
-      ranges
-          : first (λ i. not (inRange (s .period i) (s .jitter i) (s .cost i) (s .deadline i))) (s .count) 0
-          ≡ first (λ i. not (inRange (s′ .period i) (s′ .jitter i) (s′ .cost i) (s′ .deadline i))) (s′ .count) 0
-      ranges =
-          first-eq _ _ (s .count) 0
-          (λ i l h. λ x. not (inRange (same .period i (omega arith) x) (same .jitter i (omega arith) x) (same .cost i (omega arith) x)
-          (same .deadline i (omega arith) x)))
-          ∙ ap (λ n. first (λ i. not (inRange (s′ .period i) (s′ .jitter i) (s′ .cost i) (s′ .deadline i))) n 0) (same .count)
+      each : (i : ℕ) → i < s .count → faultOf s i ≡ faultOf s′ i
+      each i h = λ x. entryFault (same .charge x) (same .period i h x) (same .jitter i h x) (same .cost i h x) (same .deadline i h x)
+
+      search : first (λ i. isFault (faultOf s i)) (s .count) 0 ≡ first (λ i. isFault (faultOf s′ i)) (s′ .count) 0
+      search =
+          first-eq _ _ (s .count) 0 (λ i l h. ap isFault (each i (omega arith)))
+          ∙ ap (λ n. first (λ i. isFault (faultOf s′ i)) n 0) (same .count)
+
+      there : (o : Option ℕ) → first (λ i. isFault (faultOf s i)) (s .count) 0 ≡ o → refuseBy (faultOf s) o ≡ refuseBy (faultOf s′) o
+      there none e = refl
+      there (some p) e = ap (faultAt p) (each p (omega (arith, first-found _ (s .count) 0 p e .high)))
+
+      entries
+          : refuseBy (faultOf s) (first (λ i. isFault (faultOf s i)) (s .count) 0)
+          ≡ refuseBy (faultOf s′) (first (λ i. isFault (faultOf s′ i)) (s′ .count) 0)
+      entries = there _ refl ∙ ap (refuseBy (faultOf s′)) search
 
   -- 14
   single-same : (o : Option ℕ) → checkTask s o ≡ checkTask s′ o
@@ -138,7 +147,7 @@ module _ (s s′ : Tasks) (same : SameTasks s s′) where
   judged-same k i h =
       verdict-same s s′ k k i
       (record {
-        loads = λ j l. same .cost j (omega arith);
+        loads = λ j l. ap₂ _+_ (same .cost j (omega arith)) (same .charge);
         periods = λ j l. same .period j (omega arith);
         keeps = λ j l. refl;
         jitter = same .jitter i h;
@@ -186,18 +195,19 @@ module _ (s s′ : Tasks) (same : SameTasks s s′) where
     finish-list-same : (k : ℕ → ℕ) → finishList s k l ≡ finishList s′ k l
     unfolding finishList finishAt
     finish-list-same k =
-        ap
-        (λ (f : ℕ → ℕ). table
+        ap₂
+        (λ (f : ℕ → ℕ) (S : ℕ). table
         (finishOf
         (record {
           count = length l;
           task = λ p. releaseAt l p .task;
-          start = λ p. plain .start (f p);
-          work = λ p. plain .work (releaseAt l p .cost);
-          ours = plain .ours;
+          start = λ p. plain S .start (f p);
+          work = λ p. plain S .work (releaseAt l p .cost);
+          ours = plain S .ours;
         }))
         (length l))
         (ready-same k)
+        (same .charge)
 
     stop-count-same : (k : ℕ → ℕ) → stopCount s k l ≡ stopCount s′ k l
     unfolding stopCount stopTicks

@@ -20,6 +20,8 @@ use Rattle.model.specs.Demand.{aboveLoad, demand, meets, window}
 use Rattle.model.specs.Bound.{maxZ, minZ, offset, bound}
 use Rattle.model.specs.Verdict.{horizon, boundOf, isLate, isLast, stops, boundAt, peak, judge, verdict}
 use Rattle.model.specs.Choice.{column, isFits, worstOf, leastKeep, choiceNext, choiceOf}
+use Rattle.model.specs.Refusal.{firstOf}
+use Rattle.model.specs.Checks.{inRange, carries, entryFault, faultAt, isFault, refuseIf, refuseBy, checkEntries, checkTasks}
 use Rattle.model.proofs.SearchLaws.{first-hit, first-none}
 use Rattle.model.specs.Sums.{AllSums, busy, pad, sheet, task}
 
@@ -45,7 +47,7 @@ unfolding window
 full = at-zero _ _ 1 (first-none (meets (sheet (busy ∷ busy ∷ [])) (column (0 ∷ 0 ∷ [])) 1 0) horizonTick 1 (λ m l g. never m l))
 
 pub sums : AllSums pad
-unfolding arrivals ceilDiv gap after readyNext readyFrom readyAt readyList own table window meets demand aboveLoad sum most on first verdict stops judge isLate isLast boundOf boundAt bound offset maxZ minZ peak pending prefer top pick less leftAt runs runsIn endOf finishOf finishAt finishList has different stopTicks stopCount isFits worstOf leastKeep choiceNext choiceOf
+unfolding arrivals ceilDiv gap after readyNext readyFrom readyAt readyList own table window meets demand aboveLoad sum most on first verdict stops judge isLate isLast boundOf boundAt bound offset maxZ minZ peak pending prefer top pick less leftAt runs runsIn endOf finishOf finishAt finishList has different stopTicks stopCount isFits worstOf leastKeep choiceNext choiceOf inRange carries entryFault faultAt isFault refuseIf refuseBy checkEntries checkTasks firstOf
 sums = (
   (refl, tt),
   (
@@ -68,7 +70,7 @@ sums = (
                     (refl, tt),
                     (
                       (refl, (full, tt)),
-                      (((refl, refl), ((refl, refl), tt)), ((refl, (refl, (refl, ((refl, refl), (refl, (refl, tt)))))), ((refl, (refl, (refl, (refl, (refl, (refl, ((refl, refl), tt))))))), tt))),
+                      (((refl, refl), ((refl, refl), tt)), ((refl, (refl, (refl, ((refl, refl), (refl, (refl, tt)))))), ((refl, (refl, (refl, (refl, (refl, (refl, ((refl, refl), tt))))))), ((refl, (refl, (refl, (refl, (refl, (refl, (refl, (refl, (refl, (refl, (refl, tt))))))))))), tt)))),
                     ),
                   ),
                 ),

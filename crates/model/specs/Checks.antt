@@ -1,17 +1,40 @@
 -- The checks of a call on values, and their order.
 use Prim.Native.Nat.{ℕ, suc}
-use mathlib.Core.Bool.{Bool, true, false, _&&_, _||_, not}
+use mathlib.Core.Bool.{Bool, true, false, _&&_, _||_}
 use mathlib.Core.Option.{Option, some, none}
 use mathlib.Core.List.{List, [], _∷_}
 use lib.Dec.{leb, ltb, eqb}
 use Rattle.model.specs.Search.{first}
 use Rattle.model.specs.Limits.{maxTasks, maxTime, maxReleases, maxTick}
+use Rattle.model.specs.Processor.{plain}
 use Rattle.model.specs.Tasks.{Tasks, Release}
 use Rattle.model.specs.Refusal.{Refusal, refuse, Answer, refused, answered, firstOf}
 
 -- P, J, E and D are within their ranges
 unfoldable pub inRange : ℕ → ℕ → ℕ → ℕ → Bool
 inRange P J E D = leb 1 P && leb P maxTime && leb J maxTime && leb 1 E && leb E P && leb E D && leb D maxTime
+
+-- E + S is within P and D
+unfoldable pub carries : ℕ → ℕ → ℕ → ℕ → Bool
+carries S P E D = leb (plain S .work E) P && leb (plain S .work E) D
+
+-- what is wrong with a task, given the charge, the lower number first: 6, P, J, E or D outside its range; 17, E + S over P or D
+unfoldable pub entryFault : ℕ → ℕ → ℕ → ℕ → ℕ → Option ℕ
+entryFault S P J E D = elim (inRange P J E D) [ false ↦ some 6 | true ↦ elim (carries S P E D) [ false ↦ some 17 | true ↦ none ] ]
+
+-- with task i of a sheet
+abbrev pub faultOf : Tasks → ℕ → Option ℕ
+faultOf s i = entryFault (s .charge) (s .period i) (s .jitter i) (s .cost i) (s .deadline i)
+
+-- a number, if any, as a refusal at a place
+unfoldable pub faultAt : ℕ → Option ℕ → Option Refusal
+faultAt p none = none
+faultAt p (some n) = refuse n p
+
+-- some number
+unfoldable pub isFault : Option ℕ → Bool
+isFault none = false
+isFault (some n) = true
 
 -- a place that a search found, as a refusal
 unfoldable pub refuseAt : ℕ → Option ℕ → Option Refusal
@@ -23,13 +46,18 @@ unfoldable pub refuseIf : Bool → ℕ → ℕ → Option Refusal
 refuseIf true n p = refuse n p
 refuseIf false n p = none
 
--- 6: the first task with P, J, E or D outside its range
-unfoldable pub checkRanges : Tasks → Option Refusal
-checkRanges s = refuseAt 6 (first (λ i. not (inRange (s .period i) (s .jitter i) (s .cost i) (s .deadline i))) (s .count) 0)
+-- a refusal at the place that a search found, with the number of that place
+unfoldable pub refuseBy : (ℕ → Option ℕ) → Option ℕ → Option Refusal
+refuseBy f none = none
+refuseBy f (some p) = faultAt p (f p)
 
--- the sheet: 5, 4, then 6 by task
+-- 6 and 17 by task: the first task with which something is wrong
+unfoldable pub checkEntries : Tasks → Option Refusal
+checkEntries s = refuseBy (faultOf s) (first (λ i. isFault (faultOf s i)) (s .count) 0)
+
+-- the sheet: 5, 4, then 6 and 17 by task
 unfoldable pub checkTasks : Tasks → Option Refusal
-checkTasks s = firstOf (refuseIf (eqb (s .count) 0) 5 0 ∷ refuseIf (ltb maxTasks (s .count)) 4 maxTasks ∷ checkRanges s ∷ [])
+checkTasks s = firstOf (refuseIf (eqb (s .count) 0) 5 0 ∷ refuseIf (ltb maxTasks (s .count)) 4 maxTasks ∷ checkEntries s ∷ [])
 
 -- 14: no such task
 unfoldable pub checkTask : Tasks → Option ℕ → Option Refusal
@@ -88,7 +116,7 @@ pub record Inputs : Type 0 where
   pub releases : List Release
   pub unfit : Option ℕ
 
--- the order of checks: the sheet (5, 4, then 6 by task), 14, the list's count (10), 13, 12, the releases in order (7, 8, 9), then 15
+-- the order of checks: the sheet (5, 4, then 6 and 17 by task), 14, the list's count (10), 13, 12, the releases in order (7, 8, 9), then 15
 unfoldable pub refusalOf : Inputs → Option Refusal
 refusalOf c =
     firstOf

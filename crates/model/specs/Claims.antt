@@ -52,12 +52,12 @@ used s k l us u t = sum (λ n. on (ofTasks us (jobs s k l) (runs (jobs s k l) (u
 unfoldable pub leftOver : Tasks → (ℕ → ℕ) → List Release → (ℕ → Bool) → ℕ → ℕ → ℕ
 leftOver s k l us u t = sum (λ n. on (not (ofTasks us (jobs s k l) (runs (jobs s k l) (u + n)))) 1) t
 
--- "limit": from a tick at which its own jobs that may run before it are finished, a task runs at most E × σ(t) of the next t ticks
+-- "limit": from a tick at which its own jobs that may run before it are finished, a task runs at most (E + S) × σ(t) of the next t ticks
 abbrev pub Limit : Tasks → (ℕ → ℕ) → ℕ → List Release → Type 0
 Limit s k i l = (u t : ℕ) → Finished s k l (isTask i) u → used s k l (isTask i) u t ≤ load s i * arrivals (s .period i) (k i) t
 
 -- "share": from a tick at which every job of the tasks above that may run before it is finished, the next t ticks leave over
--- at least the largest of n − (sum of E_j × σ_j(n)), n from 0 to t
+-- at least the largest of n − (sum of (E_j + S) × σ_j(n)), n from 0 to t
 abbrev pub Share : Tasks → (ℕ → ℕ) → ℕ → List Release → Type 0
 Share s k i l = (u t : ℕ) → Finished s k l (isAbove i) u → most (λ n. n - aboveLoad s k i n) (suc t) ≤ leftOver s k l (isAbove i) u t
 

@@ -9,11 +9,11 @@ use Rattle.model.specs.Limits.{horizonTick}
 use Rattle.model.specs.Tasks.{Tasks, load}
 use Rattle.model.specs.Arrival.{arrivals}
 
--- the sum over the tasks above i of E_j × σ_j(t), with kept jitters k
+-- the sum over the tasks above i of (E_j + S) × σ_j(t), with kept jitters k (document 02, R-4: "E + S for E")
 unfoldable pub aboveLoad : Tasks → (ℕ → ℕ) → ℕ → ℕ → ℕ
 aboveLoad s k i t = sum (λ j. load s j * arrivals (s .period j) (k j) t) i
 
--- the "demand" in t ticks: (q + 1) × E and what the tasks above bring
+-- the "demand" in t ticks: (q + 1) × (E + S) and what the tasks above bring
 unfoldable pub demand : Tasks → (ℕ → ℕ) → ℕ → ℕ → ℕ → ℕ
 demand s k i q t = suc q * load s i + aboveLoad s k i t
 

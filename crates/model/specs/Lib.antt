@@ -19,5 +19,6 @@ pub mod Refusal
 pub mod Checks
 pub mod Calls
 pub mod OldLists
+pub mod Charge
 pub mod SameTasks
 pub mod Sums

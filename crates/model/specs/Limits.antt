@@ -21,6 +21,10 @@ maxTick = 1000000000000000
 abbrev pub maxShortTick : ℕ
 maxShortTick = 1000000000
 
+-- "charge": the ticks that each job takes beside its cost, one byte (document 02, R-4)
+abbrev pub maxCharge : ℕ
+maxCharge = 255
+
 -- "horizon H"
 abbrev pub horizonTick : ℕ
 horizonTick = 10000000

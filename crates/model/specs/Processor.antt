@@ -13,6 +13,7 @@ pub record Processor : Type 0 where
 abbrev pub pickup : ℕ
 pickup = 1
 
--- the boards': a job may run from the tick after its ready tick and takes its cost, and every tick is ours
-abbrev pub plain : Processor
-plain = record { start = λ ready. ready + pickup; work = λ cost. cost; ours = λ t. true }
+-- the boards', with a charge S for each switch: a job may run from the tick after its ready tick and "takes its cost plus S" (document 02, R-4), and every
+-- tick is ours
+abbrev pub plain : ℕ → Processor
+plain charge = record { start = λ ready. ready + pickup; work = λ cost. cost + charge; ours = λ t. true }

@@ -79,7 +79,7 @@ jobsOn m s k l = record {
 
 -- the jobs of a list of releases
 abbrev pub jobs : Tasks → (ℕ → ℕ) → List Release → Jobs
-jobs s k l = jobsOn plain s k l
+jobs s k l = jobsOn (plain (s .charge)) s k l
 
 -- the finish of the release at p in "the run" of a list
 unfoldable pub finishAt : Tasks → (ℕ → ℕ) → List Release → ℕ → ℕ

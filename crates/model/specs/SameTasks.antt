@@ -11,13 +11,14 @@ use Rattle.model.specs.Choice.{column, choice}
 use Rattle.model.specs.Checks.{refusalOf}
 use Rattle.model.specs.Calls.{releasesOf, columnAfter, arrivalCall, verdictCall, choiceInputs, keptColumn, worstColumn, traceCall, readyInputs, runInputs, jumpCall}
 
--- the same count, and the same P, J, E and D of every task below it
+-- the same count and charge, and the same P, J, E and D of every task below the count
 pub record SameTasks (s s′ : Tasks) : Type 0 where
   pub count : s .count ≡ s′ .count
   pub period : (i : ℕ) → i < s .count → s .period i ≡ s′ .period i
   pub jitter : (i : ℕ) → i < s .count → s .jitter i ≡ s′ .jitter i
   pub cost : (i : ℕ) → i < s .count → s .cost i ≡ s′ .cost i
   pub deadline : (i : ℕ) → i < s .count → s .deadline i ≡ s′ .deadline i
+  pub charge : s .charge ≡ s′ .charge
 
 -- of each call on values, whatever else goes in: the same refusal, the same value, and the same in every lent column afterwards
 pub record SameAnswers (s s′ : Tasks) : Type 0 where

@@ -3,7 +3,7 @@
 use Prim.Native.Nat.{ℕ}
 use mathlib.Core.Path.{_≡_}
 use mathlib.Core.Bool.{Bool, true, false}
-use mathlib.Core.Option.{some}
+use mathlib.Core.Option.{Option, some, none}
 use mathlib.Core.List.{List, [], _∷_, map}
 use lib.ListN.{length, getD}
 use lib.IntN.{pos}
@@ -16,6 +16,8 @@ use Rattle.model.specs.Stops.{stopCount}
 use Rattle.model.specs.Demand.{window}
 use Rattle.model.specs.Verdict.{Verdict, horizon, late, fits, stops, verdict}
 use Rattle.model.specs.Choice.{column, Choice, unfit, chosen, choice}
+use Rattle.model.specs.Refusal.{Refusal, refuse}
+use Rattle.model.specs.Checks.{checkTasks}
 
 -- P, J, E and D of a task, as document 01 prints them
 pub record Entry : Type 0 where
@@ -30,14 +32,19 @@ task p j e d = record { P = p; J = j; E = e; D = d }
 abbrev pub entry : List Entry → ℕ → Entry
 entry l i = getD l i (task 0 0 0 0)
 
-abbrev pub sheet : List Entry → Tasks
-sheet l = record {
+-- the sheet of some entries with a charge, and without one
+abbrev pub charged : ℕ → List Entry → Tasks
+charged S l = record {
   count = length l;
   period = λ i. entry l i .P;
   jitter = λ i. entry l i .J;
   cost = λ i. entry l i .E;
   deadline = λ i. entry l i .D;
+  charge = S;
 }
+
+abbrev pub sheet : List Entry → Tasks
+sheet = charged 0
 
 -- one line of a sum
 pub data Row : Type 0 where
@@ -59,6 +66,14 @@ pub data Row : Type 0 where
   ran : List Entry → List ℕ → List Release → List ℕ → List ℕ → Row
   -- sheet, kept jitters and releases: how often the run that jumps stops
   halts : List Entry → List ℕ → List Release → ℕ → Row
+  -- charge, sheet, kept jitters and task: the verdict
+  judgedAt : ℕ → List Entry → List ℕ → ℕ → Verdict → Row
+  -- charge and sheet: the choice
+  choseAt : ℕ → List Entry → Choice → Row
+  -- charge, sheet, kept jitters and releases: finish ticks of the run
+  ranAt : ℕ → List Entry → List ℕ → List Release → List ℕ → Row
+  -- charge and sheet: the refusal of its check, if any
+  checked : ℕ → List Entry → Option Refusal → Row
 
 abbrev pub Holds : Row → Type 0
 Holds (counts P K ts ns) = map (arrivals P K) ts ≡ ns
@@ -70,6 +85,10 @@ Holds (stopped l ks i qs bs) = map (stops (sheet l) (column ks) i) qs ≡ bs
 Holds (chose l c) = choice (sheet l) ≡ c
 Holds (ran l ks rs es fs) = (readyList (sheet l) (column ks) rs ≡ es) × (finishList (sheet l) (column ks) rs ≡ fs)
 Holds (halts l ks rs n) = stopCount (sheet l) (column ks) rs ≡ n
+Holds (judgedAt S l ks i v) = verdict (charged S l) (column ks) i ≡ v
+Holds (choseAt S l c) = choice (charged S l) ≡ c
+Holds (ranAt S l ks rs fs) = finishList (charged S l) (column ks) rs ≡ fs
+Holds (checked S l o) = checkTasks (charged S l) ≡ o
 
 abbrev pub AllRows : List Row → Type 0
 AllRows [] = Unit
@@ -86,6 +105,10 @@ printed d = task 6 5 2 6 ∷ task 8 7 2 8 ∷ task 10 0 2 d ∷ []
 abbrev pub busy : Entry
 busy = task 1 0 1 1
 
+-- two tasks for a charge: with S = 1 the loads are 3 and 3, with S = 2 they are 4 and 4
+abbrev pub pair : List Entry
+pair = task 10 0 2 6 ∷ task 20 0 2 8 ∷ []
+
 -- task, tick and cost of a release
 abbrev pub release : ℕ → ℕ → ℕ → Release
 release i a c = record { task = i; tick = a; cost = c }
@@ -97,7 +120,9 @@ printedReleases = release 0 0 2 ∷ release 2 0 2 ∷ release 0 1 2 ∷ []
 -- the sums, in document 01's order, 7 to 12 with the pickup of document 02's R-2; then R-2's own figures: the choice on the printed sheet, which ends in 15 at task 2,
 -- of its tasks 0 and 1 alone and with D 11, the run with D 11, and the stop of the walk, which has no pickup: W(0) = d_K(1), W(0) = d_K(1) + 1;
 -- then stops of R-5: no release, one, two with the same ready tick, a finish that is another's ready tick plus 1, a job that another interrupts, and the printed list;
--- and a run in which the job of the higher task, though later in the list, goes before one with the same ready tick
+-- and a run in which the job of the higher task, though later in the list, goes before one with the same ready tick;
+-- then charges of R-4: R is 2 + 2 + 1 below one task without a charge, 3 + 3 + 1 with S = 1, 4 + 4 + 1 with S = 2; a run of two jobs, the second of cost 1, with S = 1: ticks 1 to
+-- 3 and 4 to 5; and 17: not with E + S = P = D; with E + S over D alone, over P alone; 17 of task 0 before 6 of task 1; 6 of task 0 before its own 17
 abbrev pub pad : List (List Row)
 pad =
     (counts 6 5 (0 ∷ 1 ∷ 2 ∷ 7 ∷ 8 ∷ []) (0 ∷ 1 ∷ 2 ∷ 2 ∷ 3 ∷ []) ∷ [])
@@ -132,5 +157,17 @@ pad =
     ∷ halts (printed 11) (2 ∷ 4 ∷ 0 ∷ []) (release 2 0 2 ∷ release 0 1 2 ∷ []) 4
     ∷ halts (printed 11) (2 ∷ 4 ∷ 0 ∷ []) printedReleases 4
     ∷ ran (printed 11) (2 ∷ 4 ∷ 0 ∷ []) (release 2 0 2 ∷ release 0 0 2 ∷ []) (0 ∷ 0 ∷ []) (5 ∷ 3 ∷ [])
+    ∷ [])
+    ∷ (judgedAt 0 pair (0 ∷ 0 ∷ []) 1 (fits (pos 5) 0)
+    ∷ judgedAt 1 pair (0 ∷ 0 ∷ []) 1 (fits (pos 7) 0)
+    ∷ judgedAt 2 pair (0 ∷ 0 ∷ []) 1 (late 0 (pos 9))
+    ∷ choseAt 1 pair (chosen (0 ∷ 0 ∷ []) (pos 4 ∷ pos 7 ∷ []))
+    ∷ choseAt 2 pair (unfit 1)
+    ∷ ranAt 1 pair (0 ∷ 0 ∷ []) (release 0 0 2 ∷ release 1 0 1 ∷ []) (4 ∷ 6 ∷ [])
+    ∷ checked 1 (task 3 0 2 3 ∷ []) none
+    ∷ checked 1 (task 3 0 2 2 ∷ []) (refuse 17 0)
+    ∷ checked 1 (task 2 0 2 3 ∷ []) (refuse 17 0)
+    ∷ checked 1 (task 2 0 2 2 ∷ task 2 0 3 2 ∷ []) (refuse 17 0)
+    ∷ checked 1 (task 2 0 3 2 ∷ task 2 0 2 2 ∷ []) (refuse 6 0)
     ∷ [])
     ∷ []

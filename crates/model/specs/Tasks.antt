@@ -5,13 +5,18 @@ use lib.ListN.{getD}
 use Rattle.model.specs.Limits.{maxTasks, maxTime}
 use Rattle.model.specs.Processor.{plain}
 
--- "sheet": a count, and P, J, E and D of each task; task 0 has the highest priority
+-- "sheet": a count, P, J, E and D of each task, and the charge S; task 0 has the highest priority
 pub record Tasks : Type 0 where
   pub count : ℕ
   pub period : ℕ → ℕ
   pub jitter : ℕ → ℕ
   pub cost : ℕ → ℕ
   pub deadline : ℕ → ℕ
+  pub charge : ℕ
+
+-- the ticks that a job of full cost takes: E + S
+abbrev pub load : Tasks → ℕ → ℕ
+load s i = plain (s .charge) .work (s .cost i)
 
 -- P, J, E and D of a task are within document 01's limits
 pub record InRange (P J E D : ℕ) : Type 0 where
@@ -23,15 +28,17 @@ pub record InRange (P J E D : ℕ) : Type 0 where
   pub cost-deadline : E ≤ D
   pub deadline-high : D ≤ maxTime
 
--- a task set within document 01's limits
+-- the load of a task is within its P and D
+pub record Carried (P D load : ℕ) : Type 0 where
+  pub load-period : load ≤ P
+  pub load-deadline : load ≤ D
+
+-- a task set within the limits
 pub record Valid (s : Tasks) : Type 0 where
   pub some-task : 1 ≤ s .count
   pub few-tasks : s .count ≤ maxTasks
   pub in-range : (i : ℕ) → i < s .count → InRange (s .period i) (s .jitter i) (s .cost i) (s .deadline i)
-
--- the ticks that a job of full cost takes
-abbrev pub load : Tasks → ℕ → ℕ
-load s i = plain .work (s .cost i)
+  pub carried : (i : ℕ) → i < s .count → Carried (s .period i) (s .deadline i) (load s i)
 
 -- a release: its task, tick and cost
 pub record Release : Type 0 where

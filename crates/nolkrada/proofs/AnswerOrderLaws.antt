@@ -10,7 +10,7 @@ use lib.Dec.{leb, ltb, eqb}
 use Rattle.model.specs.Limits.{maxTick}
 use Rattle.model.specs.Tasks.{Tasks, Release}
 use Rattle.model.specs.Refusal.{Refusal, Answer, refused, answered, firstOf}
-use Rattle.model.specs.Checks.{Lent, Inputs, refuseAt, refuseIf, checkRanges, checkTasks, checkTask, checkCount, checkSlots, checkKept, releaseFault, checkReleases, checkChoice, refusalOf, answerOf}
+use Rattle.model.specs.Checks.{Lent, Inputs, inRange, carries, entryFault, faultOf, faultAt, refuseAt, refuseIf, refuseBy, checkEntries, checkTasks, checkTask, checkCount, checkSlots, checkKept, releaseFault, checkReleases, checkChoice, refusalOf, answerOf}
 use Rattle.model.proofs.CheckLaws.{slots-short, slots-next, slots-none, slots-first, slots-rest}
 use Rattle.nolkrada.specs.Interface.{afterSlots, tooFew, withSlots}
 use Rattle.nolkrada.specs.SlotsLast.{alsoLends, SlotsLast}
@@ -40,11 +40,26 @@ side-none : (b : Bool) → Side b (firstOf [])
 unfolding firstOf
 side-none b = omega arith
 
+-- 6 and 17 of a task
+side-entry : (S P J E D p : ℕ) → Side false (faultAt p (entryFault S P J E D))
+unfolding entryFault faultAt afterSlots
+side-entry S P J E D p = go (inRange P J E D) (carries S P E D)
+  where
+    go : (a b : Bool) → Side false (faultAt p (elim a [ false ↦ some 6 | true ↦ elim b [ false ↦ some 17 | true ↦ none ] ]))
+    go false b = refl
+    go true false = refl
+    go true true = omega arith
+
+side-by : (s : Tasks) (o : Option ℕ) → Side false (refuseBy (faultOf s) o)
+unfolding refuseBy
+side-by s none = omega arith
+side-by s (some p) = side-entry _ _ _ _ _ p
+
 -- on which side each check stands
 tasks-side : (s : Tasks) → Side false (checkTasks s)
-unfolding checkTasks checkRanges afterSlots
+unfolding checkTasks checkEntries afterSlots
 tasks-side s =
-    side-first false _ _ (side-if false _ 5 _ refl) (side-first false _ _ (side-if false _ 4 _ refl) (side-first false _ _ (side-at false 6 _ refl) (side-none false)))
+    side-first false _ _ (side-if false _ 5 _ refl) (side-first false _ _ (side-if false _ 4 _ refl) (side-first false _ _ (side-by s _) (side-none false)))
 
 task-side : (s : Tasks) (o : Option ℕ) → Side false (checkTask s o)
 unfolding checkTask afterSlots

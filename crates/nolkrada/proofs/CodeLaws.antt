@@ -104,12 +104,12 @@ slotted x (some q) r e = let i : q ≡ r = cc in sym (ap some i)
 -- a read: the file's refusal, or 13 for at most 1,024 slots
 lent-needs : (m sheet task tick cost answer : ℕ) → m ≤ maxReleases → Needs maxReleases (readLent m sheet task tick cost answer)
 lent-needs m sheet task tick cost answer h =
-    let a : 128 ≤ maxReleases = omega arith in let b : 2 ≤ maxReleases = omega arith in needs a (needs h (needs h (needs h (needs b needs-none))))
+    let a : 128 ≤ maxReleases = omega arith in let b : 3 ≤ maxReleases = omega arith in needs a (needs h (needs h (needs h (needs b needs-none))))
 
 read-within
     : (f : List ℕ) (a : Answer File) (sheet task tick cost answer : ℕ) (r : Refusal) → decode f ≡ a → readWithin a sheet task tick cost answer ≡ refused r → Within top r
 unfolding readWithin
-read-within f (refused q) sheet task tick cost answer r d e = within-more 14881 top r (omega arith) (decode-within f r (d ∙ e))
+read-within f (refused q) sheet task tick cost answer r d e = within-more 14883 top r (omega arith) (decode-within f r (d ∙ e))
 read-within f (answered x) sheet task tick cost answer r d e =
     within-more maxReleases top r (omega arith)
     (slots-within maxReleases _ r (lent-needs (length (x .releases)) sheet task tick cost answer (decode-valid f x d .few)) (slotted x _ r e))
@@ -127,32 +127,32 @@ load-slots text (answered ts) sheet answer r d e =
 pub codes-tell : CodesTell
 unfolding arrivalCall verdictCall traceCall jumpCall jumpAnswer readAnswer loadAnswer writeAnswer
 codes-tell = record {
-  arrival = λ sheet count task kept t answer h.
+  arrival = λ sheet count charge task kept t answer h.
       words-told 1 (length answer) oneWord _ (omega arith)
-      (λ r. answer-within top _ _ r (task-limited (viewOf (sheetFrom sheet count)) top task kept (omega arith) (omega arith)));
-  verdict = λ sheet count task kept answer h.
+      (λ r. answer-within top _ _ r (task-limited (viewOf (sheetFrom sheet count charge)) top task kept (omega arith) (omega arith)));
+  verdict = λ sheet count charge task kept answer h.
       words-told 3 (length answer) verdictWords _ (omega arith)
-      (λ r. answer-within top _ _ r (task-limited (viewOf (sheetFrom sheet count)) top task kept (omega arith) (omega arith)));
-  choice = λ sheet count kept worst.
-      tells _ (λ r e. within-more maxReleases top r (omega arith) (refusal-within maxReleases _ (choice-limited (viewOf (sheetFrom sheet count)) kept worst) r e));
-  trace = λ sheet count n task tick cost answer.
+      (λ r. answer-within top _ _ r (task-limited (viewOf (sheetFrom sheet count charge)) top task kept (omega arith) (omega arith)));
+  choice = λ sheet count charge kept worst.
+      tells _ (λ r e. within-more maxReleases top r (omega arith) (refusal-within maxReleases _ (choice-limited (viewOf (sheetFrom sheet count charge)) kept worst) r e));
+  trace = λ sheet count charge n task tick cost answer.
       words-told 2 (length answer) traceWords _ (omega arith)
-      (λ r e. within-more maxReleases top r (omega arith) (answer-within maxReleases _ _ r (list-limited (viewOf (sheetFrom sheet count)) n task tick cost) e));
-  ready = λ sheet count kept n task tick cost ready.
+      (λ r e. within-more maxReleases top r (omega arith) (answer-within maxReleases _ _ r (list-limited (viewOf (sheetFrom sheet count charge)) n task tick cost) e));
+  ready = λ sheet count charge kept n task tick cost ready.
       tells _ (λ r e. within-more maxReleases top r (omega arith)
-      (refusal-within maxReleases _ (ready-limited (viewOf (sheetFrom sheet count)) kept n task tick cost ready) r e));
-  run = λ sheet count kept n task tick cost ready finish.
+      (refusal-within maxReleases _ (ready-limited (viewOf (sheetFrom sheet count charge)) kept n task tick cost ready) r e));
+  run = λ sheet count charge kept n task tick cost ready finish.
       tells _ (λ r e. within-more maxReleases top r (omega arith)
-      (refusal-within maxReleases _ (run-limited (viewOf (sheetFrom sheet count)) kept n task tick cost ready finish) r e));
-  jump = λ sheet count kept n task tick cost ready finish answer.
+      (refusal-within maxReleases _ (run-limited (viewOf (sheetFrom sheet count charge)) kept n task tick cost ready finish) r e));
+  jump = λ sheet count charge kept n task tick cost ready finish answer.
       slots-told 1 (length answer) _ (omega arith)
       (λ r e. within-more maxReleases top r (omega arith)
-      (answer-within maxReleases _ _ r (run-limited (viewOf (sheetFrom sheet count)) kept n task tick cost ready finish) e));
+      (answer-within maxReleases _ _ r (run-limited (viewOf (sheetFrom sheet count charge)) kept n task tick cost ready finish) e));
   read =
       λ file sheet task tick cost answer. tells-of _
       (λ r. read-within file (decode file) (length sheet) (length task) (length tick) (length cost) (length answer) r refl);
   load = λ text sheet answer. tells-of _ (λ r. load-slots text (load text) (length sheet) (length answer) r refl);
-  write = λ sheet count n task tick cost out answer.
+  write = λ sheet count charge n task tick cost out answer.
       slots-told 1 (length answer) _ (omega arith)
-      (λ r e. within-more 14881 top r (omega arith) (answer-within 14881 _ _ r (write-limited (viewOf (sheetFrom sheet count)) n task tick cost (length out)) e));
+      (λ r e. within-more 14883 top r (omega arith) (answer-within 14883 _ _ r (write-limited (viewOf (sheetFrom sheet count charge)) n task tick cost (length out)) e));
 }

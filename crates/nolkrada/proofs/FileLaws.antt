@@ -12,7 +12,7 @@ use Rattle.taskset.specs.declared.Task.{Task}
 use Rattle.taskset.specs.declared.TaskSet.{TaskSet}
 use Rattle.taskset.specs.TaskSet.{noTask}
 use Rattle.fileformat.specs.File.{File, decode}
-use Rattle.fileformat.specs.FileCalls.{setOf, readCall, readCount, readSheet, readColumn}
+use Rattle.fileformat.specs.FileCalls.{setWith, readCall, readCount, readSheet, readColumn}
 use Rattle.writer.specs.Writer.{stored}
 use Rattle.writer.proofs.StoreLaws.{stored-at}
 use Rattle.nolkrada.specs.Interface.{refusalCode, codeIn, wordsAfter, asWords, Ends}
@@ -86,7 +86,7 @@ module _ (f sheet task tick cost answer : List ℕ) where
   abbrev ended : Answer File
   ended = readAnswer f sheet task tick cost answer
 
-  as-called : 2 ≤ length answer → 128 ≤ length sheet → ended ≡ readCall f task tick cost
+  as-called : 3 ≤ length answer → 128 ≤ length sheet → ended ≡ readCall f task tick cost
   unfolding readAnswer
   as-called h g = within-enough (decode f) (length sheet) (length answer) task tick cost g h ∙ sym (call-told task tick cost f)
 
@@ -110,7 +110,7 @@ module _ (f sheet task tick cost answer : List ℕ) where
 
   pub read-refused
       : (r number place : ℕ) (task′ tick′ cost′ : List ℕ)
-      → 2 ≤ length answer
+      → 3 ≤ length answer
       → 128 ≤ length sheet
       → refused (record { number = number; place = place }) ≡ readCount (readCall f task tick cost)
       → r ≡ refusalCode number place
@@ -130,8 +130,8 @@ module _ (f sheet task tick cost answer : List ℕ) where
     read-code (refused p) e = let z : _≡_ {A = ℕ} 0 1 = cc in absurd (omega arith)
     read-code (answered x) e = refl
 
-    read-words : (a : Answer File) → answered n ≡ readCount a → s ≡ readSheet a → s .count ∷ n ∷ drop 2 answer ≡ wordsAfter (asWords fileWords a) answer
-    unfolding readCount readSheet wordsAfter asWords fileWords setOf
+    read-words : (a : Answer File) → answered n ≡ readCount a → s ≡ readSheet a → s .count ∷ n ∷ s .charge ∷ drop 3 answer ≡ wordsAfter (asWords fileWords a) answer
+    unfolding readCount readSheet wordsAfter asWords fileWords setWith
     read-words (refused p) e i = let z : _≡_ {A = ℕ} 0 1 = cc in absurd (omega arith)
     read-words (answered x) e i = let m : n ≡ length (x .releases) = cc in rw (i, m) refl
 
@@ -140,25 +140,25 @@ module _ (f sheet task tick cost answer : List ℕ) where
         → answered n ≡ readCount a
         → s ≡ readSheet a
         → numbersOf (s .tasks) ++ drop (length (numbersOf (s .tasks))) sheet ≡ wordsAfter (asWords sheetNumbers a) sheet
-    unfolding readCount readSheet wordsAfter asWords entryNumbers sheetNumbers
+    unfolding readCount readSheet wordsAfter asWords entryNumbers sheetNumbers setWith
     read-numbers (refused p) e i = let z : _≡_ {A = ℕ} 0 1 = cc in absurd (omega arith)
     read-numbers (answered x) e i = rw i refl
 
   pub read-answered
       : (n r : ℕ) (s : TaskSet) (sheet′ task′ tick′ cost′ answer′ : List ℕ)
-      → 2 ≤ length answer
+      → 3 ≤ length answer
       → 128 ≤ length sheet
       → answered n ≡ readCount (readCall f task tick cost)
       → s ≡ readSheet (readCall f task tick cost)
       → sheet′ ≡ numbersOf (s .tasks) ++ drop (length (numbersOf (s .tasks))) sheet
-      → Ends 2 (answered (s .count ∷ n ∷ [])) answer r answer′
+      → Ends 3 (answered (s .count ∷ n ∷ s .charge ∷ [])) answer r answer′
       → task′ ≡ readColumn (λ q. q .task) (readCall f task tick cost) task
       → tick′ ≡ readColumn (λ q. q .tick) (readCall f task tick cost) tick
       → cost′ ≡ readColumn (λ q. q .cost) (readCall f task tick cost) cost
       → ReadEnds ended sheet task tick cost answer r sheet′ task′ tick′ cost′ answer′
   read-answered n r s sheet′ task′ tick′ cost′ answer′ h g e i se an ta ti co =
       let a = readCall f task tick cost in
-      let w = words-put 2 (s .count ∷ n ∷ []) answer r answer′ h an in
+      let w = words-put 3 (s .count ∷ n ∷ s .charge ∷ []) answer r answer′ h an in
       rw (as-called h g) (record {
         code = w .0 ∙ read-code n s a e;
         words = w .1 ∙ read-words n s a e i;

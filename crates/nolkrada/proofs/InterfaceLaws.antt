@@ -45,12 +45,12 @@ entries-next l used tasks i t f h e =
     }
 
 pub entries-sheet
-    : (l : List ℕ) (n used : ℕ) (tasks : List Task) (i : ℕ) → Entries l used tasks i → used ≡ min n 32 → used ≤ i
-    → _≡_ {A = TaskSet} (record { tasks = tasks; count = n }) (sheetFrom l n)
-entries-sheet l n used tasks i f u h =
+    : (l : List ℕ) (n c used : ℕ) (tasks : List Task) (i : ℕ) → Entries l used tasks i → used ≡ min n 32 → used ≤ i
+    → _≡_ {A = TaskSet} (record { tasks = tasks; count = n; charge = c }) (sheetFrom l n c)
+entries-sheet l n c used tasks i f u h =
     let e : i ≡ min n 32 = omega (arith, f .within) in
     let k : 32 - i ≡ 32 - n = omega arith in
-    ap (λ (ts : List Task). record { tasks = ts; count = n })
+    ap (λ (ts : List Task). record { tasks = ts; count = n; charge = c })
     (sym (take-append-drop i tasks)
     ∙ ap₂ _++_ (f .front ∙ ap (table (taskAt l)) e) (f .padded ∙ ap (λ m. replicate m noTask) k))
 

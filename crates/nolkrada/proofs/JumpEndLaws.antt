@@ -38,20 +38,20 @@ column-refused c x q l held out e h = go (refusalOf c) refl
         let z : _≡_ {A = ℕ} 0 1 = cc in absurd (omega arith)
     go (some p) g = rw g at h
 
-module _ (sheet : List ℕ) (count : ℕ) (kept : List ℕ) (n : ℕ) (task tick cost ready finish answer : List ℕ) where
+module _ (sheet : List ℕ) (count charge : ℕ) (kept : List ℕ) (n : ℕ) (task tick cost ready finish answer : List ℕ) where
   abbrev ended : Answer ℕ
-  ended = jumpAnswer sheet count kept n task tick cost ready finish answer
+  ended = jumpAnswer sheet count charge kept n task tick cost ready finish answer
 
   abbrev inputs : Inputs
-  inputs = runInputs (viewOf (sheetFrom sheet count)) kept n task tick cost ready finish
+  inputs = runInputs (viewOf (sheetFrom sheet count charge)) kept n task tick cost ready finish
 
   abbrev readies : List ℕ
-  readies = readyList (viewOf (sheetFrom sheet count)) (column kept) (releasesOf n task tick cost)
+  readies = readyList (viewOf (sheetFrom sheet count charge)) (column kept) (releasesOf n task tick cost)
 
   abbrev finishes : List ℕ
-  finishes = finishList (viewOf (sheetFrom sheet count)) (column kept) (releasesOf n task tick cost)
+  finishes = finishList (viewOf (sheetFrom sheet count charge)) (column kept) (releasesOf n task tick cost)
 
-  as-called : 1 ≤ length answer → ended ≡ jumpCall (viewOf (sheetFrom sheet count)) kept n task tick cost ready finish
+  as-called : 1 ≤ length answer → ended ≡ jumpCall (viewOf (sheetFrom sheet count charge)) kept n task tick cost ready finish
   unfolding jumpAnswer
   as-called h = with-enough 1 (length answer) _ h
 
@@ -74,14 +74,14 @@ module _ (sheet : List ℕ) (count : ℕ) (kept : List ℕ) (n : ℕ) (task tick
         jumpCall,
         answerOf,
         ← g,
-        with-few 1 (length answer) (stopCount (viewOf (sheetFrom sheet count)) (column kept) (releasesOf n task tick cost)) h,
+        with-few 1 (length answer) (stopCount (viewOf (sheetFrom sheet count charge)) (column kept) (releasesOf n task tick cost)) h,
       )
       (record { code = e; words = refl; ready-column = refl; finish-column = refl })
 
   pub jump-refused
       : (r number place : ℕ) (ready′ finish′ : List ℕ)
       → 1 ≤ length answer
-      → refused (record { number = number; place = place }) ≡ jumpCall (viewOf (sheetFrom sheet count)) kept n task tick cost ready finish
+      → refused (record { number = number; place = place }) ≡ jumpCall (viewOf (sheetFrom sheet count charge)) kept n task tick cost ready finish
       → r ≡ refusalCode number place
       → ready′ ≡ columnAfter (refusalOf inputs) readies ready
       → finish′ ≡ columnAfter (refusalOf inputs) finishes finish
@@ -99,7 +99,7 @@ module _ (sheet : List ℕ) (count : ℕ) (kept : List ℕ) (n : ℕ) (task tick
   pub jump-ran
       : (k r : ℕ) (ready′ finish′ answer′ : List ℕ)
       → 1 ≤ length answer
-      → answered k ≡ jumpCall (viewOf (sheetFrom sheet count)) kept n task tick cost ready finish
+      → answered k ≡ jumpCall (viewOf (sheetFrom sheet count charge)) kept n task tick cost ready finish
       → ready′ ≡ columnAfter (refusalOf inputs) readies ready
       → finish′ ≡ columnAfter (refusalOf inputs) finishes finish
       → Ends 1 (answered (k ∷ [])) answer r answer′

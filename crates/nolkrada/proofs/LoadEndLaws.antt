@@ -9,7 +9,7 @@ use Rattle.model.specs.Checks.{checkSlots}
 use Rattle.model.proofs.CheckLaws.{slots-short, slots-next, slots-none}
 use Rattle.taskset.specs.declared.Task.{Task}
 use Rattle.taskset.specs.declared.TaskSet.{TaskSet}
-use Rattle.fileformat.specs.FileCalls.{setOf}
+use Rattle.fileformat.specs.FileCalls.{setOf, setWith}
 use Rattle.textformat.specs.TextSheet.{load}
 use Rattle.nolkrada.specs.Interface.{refusalCode, codeIn, wordsAfter, asWords, tooFew, Ends}
 use Rattle.nolkrada.specs.Files.{numbersOf, entryNumbers}
@@ -69,7 +69,7 @@ module _ (text sheet answer : List ℕ) where
       → sheet′ ≡ numbersOf (s .tasks) ++ drop (length (numbersOf (s .tasks))) sheet
       → Ends 1 (answered (s .count ∷ [])) answer r answer′
       → LoadEnds ended sheet answer r sheet′ answer′
-  unfolding codeIn wordsAfter asWords textWord entryNumbers setOf
+  unfolding codeIn wordsAfter asWords textWord entryNumbers setWith
   load-answered ts s r sheet′ answer′ e d h g se an =
       let w = words-put 1 (s .count ∷ []) answer r answer′ g an in
       let a : ended ≡ answered ts = ended-slots ts none e (slots-next _ _ h ∙ slots-next _ _ g ∙ sym slots-none) in

@@ -1,5 +1,5 @@
--- Laws of a read that lends too few slots: what is wrong with a file has a number below 12, so that a 13 tells how many releases it has.
-use Prim.Native.Nat.{ℕ, zero, suc, _+_, _≤_, _<_}
+-- Laws of a read that lends too few slots: what is wrong with a file is never 13, so that a 13 tells how many releases it has.
+use Prim.Native.Nat.{ℕ, zero, suc, _+_, _-_, _≤_, _<_}
 use mathlib.Core.Path.{_≡_, refl, ap, _∙_}
 use mathlib.Core.Bool.{Bool, true, false, _||_}
 use mathlib.Core.Option.{Option, some, none}
@@ -10,12 +10,12 @@ use lib.ListN.{length, drop}
 use Rattle.model.specs.Limits.{maxTasks, maxReleases}
 use Rattle.model.specs.Tasks.{Tasks, Release}
 use Rattle.model.specs.Refusal.{Refusal, Answer, refused, answered}
-use Rattle.model.specs.Checks.{Lent, inRange, checkSlots, releaseFault}
+use Rattle.model.specs.Checks.{Lent, inRange, carries, entryFault, checkSlots, releaseFault}
 use Rattle.model.specs.Calls.{lends}
 use Rattle.model.proofs.CheckLaws.{slots-next, slot-of}
 use Rattle.taskset.specs.declared.Task.{Task}
-use Rattle.fileformat.specs.Records.{bodySize, long, short, Width, Record, broken, taskRecord, releaseRecord, endRecord, recordOf, whole, sizeOf}
-use Rattle.fileformat.specs.File.{File, State, Step, stop, next, last, taskFault, lowTick, highTick, listFault, endFault, unless, advance, afterEnd, readBy, readFrom, decode}
+use Rattle.fileformat.specs.Records.{bodySize, long, short, Width, Record, broken, taskRecord, releaseRecord, chargeRecord, endRecord, recordOf, whole, sizeOf}
+use Rattle.fileformat.specs.File.{File, State, Step, stop, next, last, chargeFault, taskFault, lowTick, highTick, listFault, endFault, unless, advance, afterEnd, readBy, readFrom, decode}
 use Rattle.fileformat.specs.FileCalls.{readCall, readCount}
 use Rattle.nolkrada.specs.Interface.{refusalCode, codeOf, codeIn, tooFew}
 use Rattle.nolkrada.proofs.AnswerOrderLaws.{slots-extra}
@@ -26,94 +26,112 @@ either : {A : Type 0} (P : A → Type 0) (b : Bool) (x y : A) → P x → P y �
 either P true x y p q = p
 either P false x y p q = q
 
--- a number below 12, where there is one
-abbrev LowFault : Option ℕ → Type 0
-LowFault none = 0 ≤ 0
-LowFault (some n) = n < 12
+-- a number that differs from 13 by at least 1
+abbrev NotSlots : ℕ → Type 0
+NotSlots n = 1 ≤ (n - 13) + (13 - n)
 
-abbrev LowRecord : Record → Type 0
-LowRecord (broken n) = n < 12
-LowRecord (taskRecord t) = 0 ≤ 0
-LowRecord (releaseRecord w r) = 0 ≤ 0
-LowRecord endRecord = 0 ≤ 0
+-- of a fault, a record, a step or an answer, where it has a number
+abbrev OtherFault : Option ℕ → Type 0
+OtherFault none = 0 ≤ 0
+OtherFault (some n) = NotSlots n
 
-abbrev LowStep : Step → Type 0
-LowStep (stop n) = n < 12
-LowStep (next s) = 0 ≤ 0
-LowStep last = 0 ≤ 0
+abbrev OtherRecord : Record → Type 0
+OtherRecord (broken n) = NotSlots n
+OtherRecord (taskRecord t) = 0 ≤ 0
+OtherRecord (releaseRecord w r) = 0 ≤ 0
+OtherRecord (chargeRecord c) = 0 ≤ 0
+OtherRecord endRecord = 0 ≤ 0
 
-abbrev LowAnswer : Answer File → Type 0
-LowAnswer (refused q) = q .number < 12
-LowAnswer (answered x) = 0 ≤ 0
+abbrev OtherStep : Step → Type 0
+OtherStep (stop n) = NotSlots n
+OtherStep (next s) = 0 ≤ 0
+OtherStep last = 0 ≤ 0
 
-whole-low : (n : ℕ) (l : List ℕ) (r : Record) → LowRecord r → LowRecord (whole n l r)
+abbrev OtherAnswer : Answer File → Type 0
+OtherAnswer (refused q) = NotSlots (q .number)
+OtherAnswer (answered x) = 0 ≤ 0
+
+whole-other : (n : ℕ) (l : List ℕ) (r : Record) → OtherRecord r → OtherRecord (whole n l r)
 unfolding whole
-whole-low n l r h = either LowRecord (ltb (length l) n) _ _ (omega arith) h
+whole-other n l r h = either OtherRecord (ltb (length l) n) _ _ (omega arith) h
 
-record-low : (f : List ℕ) → LowRecord (recordOf f)
+record-other : (f : List ℕ) → OtherRecord (recordOf f)
 unfolding recordOf
-record-low [] = omega arith
-record-low (k ∷ l) =
-    either LowRecord (eqb k 1) _ _ (whole-low 16 l _ (omega arith))
-    (either LowRecord (eqb k 2) _ _ (whole-low (bodySize short) l _ (omega arith))
-    (either LowRecord (eqb k 3) _ _ (whole-low 0 l _ (omega arith))
-    (either LowRecord (eqb k 4) _ _ (whole-low (bodySize long) l _ (omega arith)) (omega arith))))
+record-other [] = omega arith
+record-other (k ∷ l) =
+    either OtherRecord (eqb k 1) _ _ (whole-other 16 l _ (omega arith))
+    (either OtherRecord (eqb k 2) _ _ (whole-other (bodySize short) l _ (omega arith))
+    (either OtherRecord (eqb k 3) _ _ (whole-other 0 l _ (omega arith))
+    (either OtherRecord (eqb k 4) _ _ (whole-other (bodySize long) l _ (omega arith))
+    (either OtherRecord (eqb k 5) _ _ (whole-other 1 l _ (omega arith)) (omega arith)))))
 
-task-low : (a b : ℕ) (t : Task) → LowFault (taskFault a b t)
-unfolding taskFault
-task-low a b t =
-    either LowFault (ltb 0 b) _ _ (omega arith)
-    (either LowFault (leb maxTasks a) _ _ (omega arith)
-    (either LowFault (inRange (t .period) (t .jitter) (t .cost) (t .deadline)) _ _ (omega arith) (omega arith)))
+charge-other : (a b c d : ℕ) → OtherFault (chargeFault a b c d)
+unfolding chargeFault
+charge-other a b c d =
+    either OtherFault (ltb 0 a || ltb 0 b || ltb 0 c) _ _ (omega arith) (either OtherFault (eqb d 0) _ _ (omega arith) (omega arith))
 
-release-low : (s : Tasks) (low high : ℕ) (r : Release) → LowFault (releaseFault s low high r)
+-- both ways of a test whose first answer is that of false
+neither : {A : Type 0} (P : A → Type 0) (b : Bool) (x y : A) → P x → P y → P (elim b [ false ↦ x | true ↦ y ])
+neither P true x y p q = q
+neither P false x y p q = p
+
+task-other : (c a b : ℕ) (t : Task) → OtherFault (taskFault c a b t)
+unfolding taskFault entryFault
+task-other c a b t =
+    either OtherFault (ltb 0 b) _ _ (omega arith)
+    (either OtherFault (leb maxTasks a) _ _ (omega arith)
+    (neither OtherFault (inRange (t .period) (t .jitter) (t .cost) (t .deadline)) _ _ (omega arith)
+    (neither OtherFault (carries c (t .period) (t .cost) (t .deadline)) _ _ (omega arith) (omega arith))))
+
+release-other : (s : Tasks) (low high : ℕ) (r : Release) → OtherFault (releaseFault s low high r)
 unfolding releaseFault
-release-low s low high r =
-    either LowFault (leb (s .count) (r .task)) _ _ (omega arith)
-    (either LowFault (ltb (r .tick) low || ltb high (r .tick)) _ _ (omega arith)
-    (either LowFault (eqb (r .cost) 0 || ltb (s .cost (r .task)) (r .cost)) _ _ (omega arith) (omega arith)))
+release-other s low high r =
+    either OtherFault (leb (s .count) (r .task)) _ _ (omega arith)
+    (either OtherFault (ltb (r .tick) low || ltb high (r .tick)) _ _ (omega arith)
+    (either OtherFault (eqb (r .cost) 0 || ltb (s .cost (r .task)) (r .cost)) _ _ (omega arith) (omega arith)))
 
-list-low : (s : Tasks) (n before : ℕ) (w : Width) (r : Release) → LowFault (listFault s n before w r)
+list-other : (s : Tasks) (n before : ℕ) (w : Width) (r : Release) → OtherFault (listFault s n before w r)
 unfolding listFault
-list-low s n before w r =
-    either LowFault (eqb (s .count) 0) _ _ (omega arith) (go (releaseFault s (lowTick w before) (highTick w) r) (release-low s (lowTick w before) (highTick w) r))
+list-other s n before w r =
+    either OtherFault (eqb (s .count) 0) _ _ (omega arith) (go (releaseFault s (lowTick w before) (highTick w) r) (release-other s (lowTick w before) (highTick w) r))
   where
-    go : (o : Option ℕ) → LowFault o → LowFault (elim o [ some k ↦ some k | none ↦ elim (leb maxReleases n) [ true ↦ some 10 | false ↦ none ] ])
-    go none h = either LowFault (leb maxReleases n) _ _ (omega arith) (omega arith)
+    go : (o : Option ℕ) → OtherFault o → OtherFault (elim o [ some k ↦ some k | none ↦ elim (leb maxReleases n) [ true ↦ some 10 | false ↦ none ] ])
+    go none h = either OtherFault (leb maxReleases n) _ _ (omega arith) (omega arith)
     go (some k) h = h
 
-end-low : (n : ℕ) → LowFault (endFault n)
+end-other : (n : ℕ) → OtherFault (endFault n)
 unfolding endFault
-end-low n = either LowFault (eqb n 0) _ _ (omega arith) (omega arith)
+end-other n = either OtherFault (eqb n 0) _ _ (omega arith) (omega arith)
 
-unless-low : (o : Option ℕ) (t : Step) → LowFault o → LowStep t → LowStep (unless o t)
+unless-other : (o : Option ℕ) (t : Step) → OtherFault o → OtherStep t → OtherStep (unless o t)
 unfolding unless
-unless-low none t h g = g
-unless-low (some n) t h g = h
+unless-other none t h g = g
+unless-other (some n) t h g = h
 
-advance-low : (s : State) (r : Record) → LowRecord r → LowStep (advance s r)
+advance-other : (s : State) (r : Record) → OtherRecord r → OtherStep (advance s r)
 unfolding advance
-advance-low s (broken n) h = h
-advance-low s (taskRecord t) h = unless-low _ _ (task-low _ _ t) (omega arith)
-advance-low s (releaseRecord w r) h = unless-low _ _ (list-low _ _ _ w r) (omega arith)
-advance-low s endRecord h = unless-low _ _ (end-low _) (omega arith)
+advance-other s (broken n) h = h
+advance-other s (taskRecord t) h = unless-other _ _ (task-other _ _ _ t) (omega arith)
+advance-other s (releaseRecord w r) h = unless-other _ _ (list-other _ _ _ w r) (omega arith)
+advance-other s (chargeRecord c) h = unless-other _ _ (charge-other _ _ _ c) (omega arith)
+advance-other s endRecord h = unless-other _ _ (end-other _) (omega arith)
 
-end-of-low : (s : State) (at : ℕ) (f : List ℕ) → LowAnswer (afterEnd s at f)
+end-of-other : (s : State) (at : ℕ) (f : List ℕ) → OtherAnswer (afterEnd s at f)
 unfolding afterEnd
-end-of-low s at [] = omega arith
-end-of-low s at (b ∷ l) = omega arith
+end-of-other s at [] = omega arith
+end-of-other s at (b ∷ l) = omega arith
 
-from-low : (n : ℕ) (s : State) (at : ℕ) (f : List ℕ) → LowAnswer (readFrom n s at f)
+from-other : (n : ℕ) (s : State) (at : ℕ) (f : List ℕ) → OtherAnswer (readFrom n s at f)
 unfolding readBy
-from-low zero s at f = omega arith
-from-low (suc n) s at f =
-    go (advance s (recordOf f)) (advance-low s (recordOf f) (record-low f)) (λ s′. from-low n s′ (at + sizeOf (recordOf f)) (drop (sizeOf (recordOf f)) f))
+from-other zero s at f = omega arith
+from-other (suc n) s at f =
+    go (advance s (recordOf f)) (advance-other s (recordOf f) (record-other f)) (λ s′. from-other n s′ (at + sizeOf (recordOf f)) (drop (sizeOf (recordOf f)) f))
   where
     go
         : (t : Step)
-        → LowStep t
-        → ((s′ : State) → LowAnswer (readFrom n s′ (at + sizeOf (recordOf f)) (drop (sizeOf (recordOf f)) f)))
-        → LowAnswer
+        → OtherStep t
+        → ((s′ : State) → OtherAnswer (readFrom n s′ (at + sizeOf (recordOf f)) (drop (sizeOf (recordOf f)) f)))
+        → OtherAnswer
         (elim t [
           | stop k ↦ refused (record { number = k; place = at })
           | next s′ ↦ readFrom n s′ (at + sizeOf (recordOf f)) (drop (sizeOf (recordOf f)) f)
@@ -121,12 +139,12 @@ from-low (suc n) s at f =
         ])
     go (stop k) h g = h
     go (next s′) h g = g s′
-    go last h g = end-of-low s (at + sizeOf (recordOf f)) (drop (sizeOf (recordOf f)) f)
+    go last h g = end-of-other s (at + sizeOf (recordOf f)) (drop (sizeOf (recordOf f)) f)
 
--- what is wrong with a file has a number below 12
-pub decode-low : (f : List ℕ) → LowAnswer (decode f)
+-- what is wrong with a file has a number other than 13
+pub decode-other : (f : List ℕ) → OtherAnswer (decode f)
 unfolding decode
-decode-low f = from-low (suc (length f)) _ 0 f
+decode-other f = from-other (suc (length f)) _ 0 f
 
 -- three columns that need as many slots each are enough, or 13 tells how many slots
 three-slots : (n : ℕ) (a b c : List ℕ) (q : Refusal) → checkSlots (lends n a ∷ lends n b ∷ lends n c ∷ []) ≡ some q → q ≡ tooFew n
@@ -167,7 +185,7 @@ module _ (a b c : List ℕ) where
       go none e = e
       go (some q) e = let z : _≡_ {A = ℕ} 0 1 = cc in absurd (omega arith)
 
-  told-few : (d : Answer File) (m : ℕ) → LowAnswer d → refused (tooFew m) ≡ readCount (told d) → answered m ≡ readCount d
+  told-few : (d : Answer File) (m : ℕ) → OtherAnswer d → refused (tooFew m) ≡ readCount (told d) → answered m ≡ readCount d
   unfolding readCount
   told-few (refused q) m l e = let g : tooFew m ≡ q = cc in absurd (omega (arith, ap (λ (r : Refusal). r .number) g))
   told-few (answered x) m l e = go (three x) refl e
@@ -214,7 +232,7 @@ module _ (f a b c : List ℕ) where
       → answered m ≡ readCount (decode f)
   count-few number m h e =
       let e′ : refused (tooFew m) ≡ readCount (readCall f a b c) = rw h at e in
-      told-few a b c (decode f) m (decode-low f) (e′ ∙ ap readCount (call-told a b c f))
+      told-few a b c (decode f) m (decode-other f) (e′ ∙ ap readCount (call-told a b c f))
 
   pub count-refused
       : (number place : ℕ)
@@ -240,7 +258,7 @@ module _ (sheet task tick cost answer : ℕ) where
   sheet-enough : (m : ℕ) → none ≡ lent m → 128 ≤ sheet
   sheet-enough m e = slot-of _ _ e .0
 
-  answer-enough : (m : ℕ) → none ≡ lent m → 2 ≤ answer
+  answer-enough : (m : ℕ) → none ≡ lent m → 3 ≤ answer
   answer-enough m e = slot-of _ _ (slot-of _ _ (slot-of _ _ (slot-of _ _ (slot-of _ _ e .1) .1) .1) .1) .0
 
   pub sheet-halts : (a : Answer File) → sheet < 128 → Halts (readWithin a sheet task tick cost answer)
@@ -248,7 +266,7 @@ module _ (sheet task tick cost answer : ℕ) where
   sheet-halts (refused q) h = omega arith
   sheet-halts (answered x) h = halting (lent (length (x .releases))) x (λ e. omega (arith, sheet-enough (length (x .releases)) e))
 
-  pub answer-halts : (a : Answer File) → answer < 2 → Halts (readWithin a sheet task tick cost answer)
+  pub answer-halts : (a : Answer File) → answer < 3 → Halts (readWithin a sheet task tick cost answer)
   unfolding readWithin
   answer-halts (refused q) h = omega arith
   answer-halts (answered x) h = halting (lent (length (x .releases))) x (λ e. omega (arith, answer-enough (length (x .releases)) e))
@@ -284,13 +302,13 @@ module _ (sheet task tick cost answer : ℕ) where
 pub within-enough
     : (d : Answer File) (sheet answer : ℕ) (task tick cost : List ℕ)
     → 128 ≤ sheet
-    → 2 ≤ answer
+    → 3 ≤ answer
     → readWithin d sheet (length task) (length tick) (length cost) answer ≡ told task tick cost d
 unfolding readWithin
 within-enough (refused q) sheet answer task tick cost g h = refl
 within-enough (answered x) sheet answer task tick cost g h =
     let m = length (x .releases) in
     let columns = lends m task ∷ lends m tick ∷ lends m cost ∷ [] in
-    let words : Lent = record { needed = 2; slots = answer } in
+    let words : Lent = record { needed = 3; slots = answer } in
     ap (λ (o : Option Refusal). elim o [ none ↦ answered x | some q ↦ refused q ])
     (slots-next (record { needed = 128; slots = sheet }) (columns ++ (words ∷ [])) g ∙ slots-extra columns words h)

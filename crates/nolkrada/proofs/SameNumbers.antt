@@ -10,10 +10,10 @@ use Rattle.taskset.specs.TaskSet.{noTask}
 use Rattle.nolkrada.specs.Interface.{taskAt, sheetFrom}
 
 -- numbers that agree below 4 × the count are the same sheet to every call for C
-pub same-numbers : (l l′ : List ℕ) (n : ℕ) → ((j : ℕ) → j < 4 * n → getD l j 0 ≡ getD l′ j 0) → sheetFrom l n ≡ sheetFrom l′ n
+pub same-numbers : (l l′ : List ℕ) (n c : ℕ) → ((j : ℕ) → j < 4 * n → getD l j 0 ≡ getD l′ j 0) → sheetFrom l n c ≡ sheetFrom l′ n c
 unfolding taskAt
-same-numbers l l′ n same =
-    ap (λ (t : List Task). record { tasks = t ++ replicate (32 - n) noTask; count = n }) (table-agree (taskAt l) (taskAt l′) (min n 32) entry)
+same-numbers l l′ n c same =
+    ap (λ (t : List Task). record { tasks = t ++ replicate (32 - n) noTask; count = n; charge = c }) (table-agree (taskAt l) (taskAt l′) (min n 32) entry)
   where
     entry : (i : ℕ) → i < min n 32 → taskAt l i ≡ taskAt l′ i
     entry i h = λ x. record {

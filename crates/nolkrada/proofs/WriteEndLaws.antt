@@ -51,15 +51,15 @@ module _ (c : Inputs) (file out answer : List ℕ) where
       let h′ : answered k ≡ refused q = rw (answerOf, e) at h in
       let z : _≡_ {A = ℕ} 0 1 = cc in absurd (omega arith)
 
-module _ (sheet : List ℕ) (count n : ℕ) (task tick cost out answer : List ℕ) where
+module _ (sheet : List ℕ) (count charge n : ℕ) (task tick cost out answer : List ℕ) where
   abbrev ended : Answer (List ℕ)
-  ended = writeAnswer sheet count n task tick cost out answer
+  ended = writeAnswer sheet count charge n task tick cost out answer
 
   abbrev inputs : Inputs
-  inputs = writeInputs (viewOf (sheetFrom sheet count)) n task tick cost (length out)
+  inputs = writeInputs (viewOf (sheetFrom sheet count charge)) n task tick cost (length out)
 
   abbrev file : List ℕ
-  file = encode (fileOf (sheetFrom sheet count) n task tick cost)
+  file = encode (fileOf (sheetFrom sheet count charge) n task tick cost)
 
   as-called : 1 ≤ length answer → ended ≡ answerOf inputs file
   unfolding writeAnswer

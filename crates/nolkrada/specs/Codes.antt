@@ -34,26 +34,26 @@ TellsOf a = told (codeIn a) ≡ refusalFrom a
 -- the codes that the calls for C return, whatever goes in; a task number is one of 32 bits
 pub record CodesTell : Type 0 where
   pub arrival
-      : (sheet : List ℕ) (count task : ℕ) (kept : List ℕ) (t : ℕ) (answer : List ℕ)
+      : (sheet : List ℕ) (count charge task : ℕ) (kept : List ℕ) (t : ℕ) (answer : List ℕ)
       → task < 4294967296
-      → TellsOf (withSlots 1 (length answer) (asWords oneWord (arrivalCall (viewOf (sheetFrom sheet count)) task kept t)))
+      → TellsOf (withSlots 1 (length answer) (asWords oneWord (arrivalCall (viewOf (sheetFrom sheet count charge)) task kept t)))
   pub verdict
-      : (sheet : List ℕ) (count task : ℕ) (kept answer : List ℕ)
+      : (sheet : List ℕ) (count charge task : ℕ) (kept answer : List ℕ)
       → task < 4294967296
-      → TellsOf (withSlots 3 (length answer) (asWords verdictWords (verdictCall (viewOf (sheetFrom sheet count)) task kept)))
-  pub choice : (sheet : List ℕ) (count : ℕ) (kept worst : List ℕ) → Tells (refusalOf (choiceInputs (viewOf (sheetFrom sheet count)) kept worst))
+      → TellsOf (withSlots 3 (length answer) (asWords verdictWords (verdictCall (viewOf (sheetFrom sheet count charge)) task kept)))
+  pub choice : (sheet : List ℕ) (count charge : ℕ) (kept worst : List ℕ) → Tells (refusalOf (choiceInputs (viewOf (sheetFrom sheet count charge)) kept worst))
   pub trace
-      : (sheet : List ℕ) (count n : ℕ) (task tick cost answer : List ℕ)
-      → TellsOf (withSlots 2 (length answer) (asWords traceWords (traceCall (viewOf (sheetFrom sheet count)) n task tick cost)))
+      : (sheet : List ℕ) (count charge n : ℕ) (task tick cost answer : List ℕ)
+      → TellsOf (withSlots 2 (length answer) (asWords traceWords (traceCall (viewOf (sheetFrom sheet count charge)) n task tick cost)))
   pub ready
-      : (sheet : List ℕ) (count : ℕ) (kept : List ℕ) (n : ℕ) (task tick cost ready : List ℕ)
-      → Tells (refusalOf (readyInputs (viewOf (sheetFrom sheet count)) kept n task tick cost ready))
+      : (sheet : List ℕ) (count charge : ℕ) (kept : List ℕ) (n : ℕ) (task tick cost ready : List ℕ)
+      → Tells (refusalOf (readyInputs (viewOf (sheetFrom sheet count charge)) kept n task tick cost ready))
   pub run
-      : (sheet : List ℕ) (count : ℕ) (kept : List ℕ) (n : ℕ) (task tick cost ready finish : List ℕ)
-      → Tells (refusalOf (runInputs (viewOf (sheetFrom sheet count)) kept n task tick cost ready finish))
+      : (sheet : List ℕ) (count charge : ℕ) (kept : List ℕ) (n : ℕ) (task tick cost ready finish : List ℕ)
+      → Tells (refusalOf (runInputs (viewOf (sheetFrom sheet count charge)) kept n task tick cost ready finish))
   pub jump
-      : (sheet : List ℕ) (count : ℕ) (kept : List ℕ) (n : ℕ) (task tick cost ready finish answer : List ℕ)
-      → TellsOf (jumpAnswer sheet count kept n task tick cost ready finish answer)
+      : (sheet : List ℕ) (count charge : ℕ) (kept : List ℕ) (n : ℕ) (task tick cost ready finish answer : List ℕ)
+      → TellsOf (jumpAnswer sheet count charge kept n task tick cost ready finish answer)
   pub read : (file sheet task tick cost answer : List ℕ) → TellsOf (readAnswer file sheet task tick cost answer)
   pub load : (text sheet answer : List ℕ) → TellsOf (loadAnswer text sheet answer)
-  pub write : (sheet : List ℕ) (count n : ℕ) (task tick cost out answer : List ℕ) → TellsOf (writeAnswer sheet count n task tick cost out answer)
+  pub write : (sheet : List ℕ) (count charge n : ℕ) (task tick cost out answer : List ℕ) → TellsOf (writeAnswer sheet count charge n task tick cost out answer)

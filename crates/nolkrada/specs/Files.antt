@@ -21,9 +21,9 @@ unfoldable pub numbersOf : List Task → List ℕ
 numbersOf [] = []
 numbersOf (t ∷ l) = taskNumbers t ++ numbersOf l
 
--- a file as two words: how many tasks and releases it has
+-- a file as three words: how many tasks and releases it has, and its charge
 unfoldable pub fileWords : File → List ℕ
-fileWords x = length (x .tasks) ∷ length (x .releases) ∷ []
+fileWords x = length (x .tasks) ∷ length (x .releases) ∷ x .charge ∷ []
 
 -- the sheet of some tasks as 128 numbers, those of the entries past the tasks being 0
 unfoldable pub entryNumbers : List Task → List ℕ
@@ -39,7 +39,7 @@ slots n have = record { needed = n; slots = have }
 
 -- the slices lent to a read of m releases, given how many slots each has: the sheet, the columns and then the words
 abbrev pub readLent : ℕ → ℕ → ℕ → ℕ → ℕ → ℕ → List Lent
-readLent m sheet task tick cost answer = slots 128 sheet ∷ slots m task ∷ slots m tick ∷ slots m cost ∷ slots 2 answer ∷ []
+readLent m sheet task tick cost answer = slots 128 sheet ∷ slots m task ∷ slots m tick ∷ slots m cost ∷ slots 3 answer ∷ []
 
 -- a file to which they are lent: what is wrong with the file, then 13 for the first slice that is too short
 unfoldable pub readWithin : Answer File → ℕ → ℕ → ℕ → ℕ → ℕ → Answer File
@@ -61,10 +61,10 @@ pub record ReadEnds (a : Answer File) (sheet task tick cost answer : List ℕ) (
   pub cost-column : cost′ ≡ readColumn (λ q. q .cost) a cost
 
 -- write: the bytes of the file, with one word lent after them
-unfoldable pub writeAnswer : List ℕ → ℕ → ℕ → List ℕ → List ℕ → List ℕ → List ℕ → List ℕ → Answer (List ℕ)
-writeAnswer sheet count n task tick cost out answer =
+unfoldable pub writeAnswer : List ℕ → ℕ → ℕ → ℕ → List ℕ → List ℕ → List ℕ → List ℕ → List ℕ → Answer (List ℕ)
+writeAnswer sheet count charge n task tick cost out answer =
     withSlots 1 (length answer)
-    (answerOf (writeInputs (viewOf (sheetFrom sheet count)) n task tick cost (length out)) (encode (fileOf (sheetFrom sheet count) n task tick cost)))
+    (answerOf (writeInputs (viewOf (sheetFrom sheet count charge)) n task tick cost (length out)) (encode (fileOf (sheetFrom sheet count charge) n task tick cost)))
 
 -- how a write ends: what it returns, and what stands in the lent bytes and in the word
 pub record WriteEnds (a : Answer (List ℕ)) (out answer : List ℕ) (r : ℕ) (out′ answer′ : List ℕ) : Type 0 where

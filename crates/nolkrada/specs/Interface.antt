@@ -18,9 +18,9 @@ use Rattle.taskset.specs.TaskSet.{noTask}
 unfoldable pub taskAt : List ℕ → ℕ → Task
 taskAt l i = record { period = getD l (4 * i) 0; jitter = getD l (4 * i + 1) 0; cost = getD l (4 * i + 2) 0; deadline = getD l (4 * i + 3) 0 }
 
--- the sheet of such numbers and a count: entries past the count are 0
-abbrev pub sheetFrom : List ℕ → ℕ → TaskSet
-sheetFrom l n = record { tasks = table (taskAt l) (min n 32) ++ replicate (32 - n) noTask; count = n }
+-- the sheet of such numbers, a count and a charge: entries past the count are 0
+abbrev pub sheetFrom : List ℕ → ℕ → ℕ → TaskSet
+sheetFrom l n c = record { tasks = table (taskAt l) (min n 32) ++ replicate (32 - n) noTask; count = n; charge = c }
 
 -- a refusal as one number: number · 2^32 + place
 unfoldable pub refusalCode : ℕ → ℕ → ℕ

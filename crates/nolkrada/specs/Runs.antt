@@ -9,9 +9,9 @@ use Rattle.taskset.specs.TaskSet.{viewOf}
 use Rattle.nolkrada.specs.Interface.{sheetFrom, codeIn, wordsAfter, asWords, oneWord, withSlots}
 
 -- the run that jumps: the number of stops, with one word lent after the columns
-unfoldable pub jumpAnswer : List ℕ → ℕ → List ℕ → ℕ → List ℕ → List ℕ → List ℕ → List ℕ → List ℕ → List ℕ → Answer ℕ
-jumpAnswer sheet count kept n task tick cost ready finish answer =
-    withSlots 1 (length answer) (jumpCall (viewOf (sheetFrom sheet count)) kept n task tick cost ready finish)
+unfoldable pub jumpAnswer : List ℕ → ℕ → ℕ → List ℕ → ℕ → List ℕ → List ℕ → List ℕ → List ℕ → List ℕ → List ℕ → Answer ℕ
+jumpAnswer sheet count charge kept n task tick cost ready finish answer =
+    withSlots 1 (length answer) (jumpCall (viewOf (sheetFrom sheet count charge)) kept n task tick cost ready finish)
 
 -- how it ends, given the ready and finish ticks of the list: what it returns, and what stands in the two columns and in the word
 pub record JumpEnds (a : Answer ℕ) (readies finishes ready finish answer : List ℕ) (r : ℕ) (ready′ finish′ answer′ : List ℕ) : Type 0 where

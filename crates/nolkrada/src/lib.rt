@@ -91,9 +91,9 @@ fn entries_used(count: u32) -> usize
     32
 }
 
-// The sheet of numbers and a count. Entries past the count are 0.
-fn sheet_from(sheet: &[u32], count: u32) -> TaskSet
-    ensures { λ r. ⌜ r ≡ sheetFrom (now (sheet .entry)) count ⌝ }
+// The sheet of numbers, a count and a charge. Entries past the count are 0.
+fn sheet_from(sheet: &[u32], count: u32, charge: u8) -> TaskSet
+    ensures { λ r. ⌜ r ≡ sheetFrom (now (sheet .entry)) count charge ⌝ }
 {
     let none = Task {
         period: 0,
@@ -112,6 +112,7 @@ fn sheet_from(sheet: &[u32], count: u32) -> TaskSet
     TaskSet {
         tasks: tasks,
         count: count as usize,
+        charge: charge,
     }
 }
 
@@ -202,17 +203,18 @@ fn put_three(answer: &mut [u64], a: u64, b: u64, c: u64) -> u64
 pub extern "C" fn nolkrada_arrival_count(
     sheet: &[u32],
     count: u32,
+    charge: u8,
     task: u32,
     kept: &[u32],
     t: u32,
     answer: &mut [u64],
 ) -> u64
     ensures { λ r. ⌜
-        Ends 1 (asWords oneWord (arrivalCall (viewOf (sheetFrom (now (sheet .entry)) count)) task (now (kept .entry)) t))
+        Ends 1 (asWords oneWord (arrivalCall (viewOf (sheetFrom (now (sheet .entry)) count charge)) task (now (kept .entry)) t))
         (now (answer .entry)) r (now (answer .exit))
         ⌝ }
 {
-    let s = sheet_from(sheet, count);
+    let s = sheet_from(sheet, count, charge);
     let got = demand::arrival_count(s, task as usize, kept, t);
     match got {
         ArrivalAnswer::Refused { number, place } => slots_code(number, place, 1, answer.len()),
@@ -225,16 +227,17 @@ pub extern "C" fn nolkrada_arrival_count(
 pub extern "C" fn nolkrada_verdict(
     sheet: &[u32],
     count: u32,
+    charge: u8,
     task: u32,
     kept: &[u32],
     answer: &mut [u64],
 ) -> u64
     ensures { λ r. ⌜
-        Ends 3 (asWords verdictWords (verdictCall (viewOf (sheetFrom (now (sheet .entry)) count)) task (now (kept .entry))))
+        Ends 3 (asWords verdictWords (verdictCall (viewOf (sheetFrom (now (sheet .entry)) count charge)) task (now (kept .entry))))
         (now (answer .entry)) r (now (answer .exit))
         ⌝ }
 {
-    let s = sheet_from(sheet, count);
+    let s = sheet_from(sheet, count, charge);
     let got = verdict::verdict(s, task as usize, kept);
     match got {
         VerdictAnswer::Refused { number, place } => slots_code(number, place, 3, answer.len()),
@@ -249,22 +252,23 @@ pub extern "C" fn nolkrada_verdict(
 pub extern "C" fn nolkrada_choice(
     sheet: &[u32],
     count: u32,
+    charge: u8,
     kept: &mut [u32],
     worst: &mut [u32],
 ) -> u64
-    ensures code { λ r. ⌜ r ≡ codeOf (refusalOf (choiceInputs (viewOf (sheetFrom (now (sheet .entry)) count)) (now (kept .entry)) (now (worst .entry)))) ⌝ }
+    ensures code { λ r. ⌜ r ≡ codeOf (refusalOf (choiceInputs (viewOf (sheetFrom (now (sheet .entry)) count charge)) (now (kept .entry)) (now (worst .entry)))) ⌝ }
     ensures keeps { λ _. ⌜
         now (kept .exit)
-        ≡ columnAfter (refusalOf (choiceInputs (viewOf (sheetFrom (now (sheet .entry)) count)) (now (kept .entry)) (now (worst .entry))))
-        (keptColumn (choice (viewOf (sheetFrom (now (sheet .entry)) count)))) (now (kept .entry))
+        ≡ columnAfter (refusalOf (choiceInputs (viewOf (sheetFrom (now (sheet .entry)) count charge)) (now (kept .entry)) (now (worst .entry))))
+        (keptColumn (choice (viewOf (sheetFrom (now (sheet .entry)) count charge)))) (now (kept .entry))
         ⌝ }
     ensures worsts { λ _. ⌜
         now (worst .exit)
-        ≡ columnAfter (refusalOf (choiceInputs (viewOf (sheetFrom (now (sheet .entry)) count)) (now (kept .entry)) (now (worst .entry))))
-        (worstColumn (choice (viewOf (sheetFrom (now (sheet .entry)) count)))) (now (worst .entry))
+        ≡ columnAfter (refusalOf (choiceInputs (viewOf (sheetFrom (now (sheet .entry)) count charge)) (now (kept .entry)) (now (worst .entry))))
+        (worstColumn (choice (viewOf (sheetFrom (now (sheet .entry)) count charge)))) (now (worst .entry))
         ⌝ }
 {
-    let s = sheet_from(sheet, count);
+    let s = sheet_from(sheet, count, charge);
     let checked = choice::choose(s, kept, worst);
     code_of(checked)
 }
@@ -274,6 +278,7 @@ pub extern "C" fn nolkrada_choice(
 pub extern "C" fn nolkrada_trace_check(
     sheet: &[u32],
     count: u32,
+    charge: u8,
     n: u32,
     task: &[u32],
     tick: &[u64],
@@ -281,11 +286,11 @@ pub extern "C" fn nolkrada_trace_check(
     answer: &mut [u64],
 ) -> u64
     ensures { λ r. ⌜
-        Ends 2 (asWords traceWords (traceCall (viewOf (sheetFrom (now (sheet .entry)) count)) n (now (task .entry)) (now (tick .entry)) (now (cost .entry))))
+        Ends 2 (asWords traceWords (traceCall (viewOf (sheetFrom (now (sheet .entry)) count charge)) n (now (task .entry)) (now (tick .entry)) (now (cost .entry))))
         (now (answer .entry)) r (now (answer .exit))
         ⌝ }
 {
-    let s = sheet_from(sheet, count);
+    let s = sheet_from(sheet, count, charge);
     let got = trace::check_trace(s, n as usize, task, tick, cost);
     match got {
         TraceAnswer::Refused { number, place } => slots_code(number, place, 2, answer.len()),
@@ -299,6 +304,7 @@ pub extern "C" fn nolkrada_trace_check(
 pub extern "C" fn nolkrada_ready(
     sheet: &[u32],
     count: u32,
+    charge: u8,
     kept: &[u32],
     n: u32,
     task: &[u32],
@@ -308,19 +314,19 @@ pub extern "C" fn nolkrada_ready(
 ) -> u64
     ensures code { λ r. ⌜
         r
-        ≡ codeOf (refusalOf (readyInputs (viewOf (sheetFrom (now (sheet .entry)) count)) (now (kept .entry)) n (now (task .entry)) (now (tick .entry)) (now (cost .entry))
+        ≡ codeOf (refusalOf (readyInputs (viewOf (sheetFrom (now (sheet .entry)) count charge)) (now (kept .entry)) n (now (task .entry)) (now (tick .entry)) (now (cost .entry))
         (now (ready .entry))))
         ⌝ }
     ensures ticks { λ _. ⌜
         now (ready .exit)
         ≡ columnAfter (refusalOf
-        (readyInputs (viewOf (sheetFrom (now (sheet .entry)) count)) (now (kept .entry)) n (now (task .entry)) (now (tick .entry)) (now (cost .entry))
+        (readyInputs (viewOf (sheetFrom (now (sheet .entry)) count charge)) (now (kept .entry)) n (now (task .entry)) (now (tick .entry)) (now (cost .entry))
         (now (ready .entry))))
-        (readyList (viewOf (sheetFrom (now (sheet .entry)) count)) (column (now (kept .entry)))
+        (readyList (viewOf (sheetFrom (now (sheet .entry)) count charge)) (column (now (kept .entry)))
         (releasesOf n (now (task .entry)) (now (tick .entry)) (now (cost .entry)))) (now (ready .entry))
         ⌝ }
 {
-    let s = sheet_from(sheet, count);
+    let s = sheet_from(sheet, count, charge);
     let checked = trace::ready_ticks(s, kept, n as usize, task, tick, cost, ready);
     code_of(checked)
 }
@@ -330,6 +336,7 @@ pub extern "C" fn nolkrada_ready(
 pub extern "C" fn nolkrada_run(
     sheet: &[u32],
     count: u32,
+    charge: u8,
     kept: &[u32],
     n: u32,
     task: &[u32],
@@ -340,27 +347,27 @@ pub extern "C" fn nolkrada_run(
 ) -> u64
     ensures code { λ r. ⌜
         r
-        ≡ codeOf (refusalOf (runInputs (viewOf (sheetFrom (now (sheet .entry)) count)) (now (kept .entry)) n (now (task .entry)) (now (tick .entry)) (now (cost .entry))
+        ≡ codeOf (refusalOf (runInputs (viewOf (sheetFrom (now (sheet .entry)) count charge)) (now (kept .entry)) n (now (task .entry)) (now (tick .entry)) (now (cost .entry))
         (now (ready .entry)) (now (finish .entry))))
         ⌝ }
     ensures ticks { λ _. ⌜
         now (ready .exit)
         ≡ columnAfter (refusalOf
-        (runInputs (viewOf (sheetFrom (now (sheet .entry)) count)) (now (kept .entry)) n (now (task .entry)) (now (tick .entry)) (now (cost .entry)) (now (ready .entry))
+        (runInputs (viewOf (sheetFrom (now (sheet .entry)) count charge)) (now (kept .entry)) n (now (task .entry)) (now (tick .entry)) (now (cost .entry)) (now (ready .entry))
         (now (finish .entry))))
-        (readyList (viewOf (sheetFrom (now (sheet .entry)) count)) (column (now (kept .entry)))
+        (readyList (viewOf (sheetFrom (now (sheet .entry)) count charge)) (column (now (kept .entry)))
         (releasesOf n (now (task .entry)) (now (tick .entry)) (now (cost .entry)))) (now (ready .entry))
         ⌝ }
     ensures ends { λ _. ⌜
         now (finish .exit)
         ≡ columnAfter (refusalOf
-        (runInputs (viewOf (sheetFrom (now (sheet .entry)) count)) (now (kept .entry)) n (now (task .entry)) (now (tick .entry)) (now (cost .entry)) (now (ready .entry))
+        (runInputs (viewOf (sheetFrom (now (sheet .entry)) count charge)) (now (kept .entry)) n (now (task .entry)) (now (tick .entry)) (now (cost .entry)) (now (ready .entry))
         (now (finish .entry))))
-        (finishList (viewOf (sheetFrom (now (sheet .entry)) count)) (column (now (kept .entry)))
+        (finishList (viewOf (sheetFrom (now (sheet .entry)) count charge)) (column (now (kept .entry)))
         (releasesOf n (now (task .entry)) (now (tick .entry)) (now (cost .entry)))) (now (finish .entry))
         ⌝ }
 {
-    let s = sheet_from(sheet, count);
+    let s = sheet_from(sheet, count, charge);
     let checked = schedule::run(s, kept, n as usize, task, tick, cost, ready, finish);
     code_of(checked)
 }
@@ -370,6 +377,7 @@ pub extern "C" fn nolkrada_run(
 pub extern "C" fn nolkrada_jump(
     sheet: &[u32],
     count: u32,
+    charge: u8,
     kept: &[u32],
     n: u32,
     task: &[u32],
@@ -380,16 +388,16 @@ pub extern "C" fn nolkrada_jump(
     answer: &mut [u64],
 ) -> u64
     ensures { λ r. ⌜
-        JumpEnds (jumpAnswer (now (sheet .entry)) count (now (kept .entry)) n (now (task .entry)) (now (tick .entry)) (now (cost .entry)) (now (ready .entry))
+        JumpEnds (jumpAnswer (now (sheet .entry)) count charge (now (kept .entry)) n (now (task .entry)) (now (tick .entry)) (now (cost .entry)) (now (ready .entry))
         (now (finish .entry)) (now (answer .entry)))
-        (readyList (viewOf (sheetFrom (now (sheet .entry)) count)) (column (now (kept .entry)))
+        (readyList (viewOf (sheetFrom (now (sheet .entry)) count charge)) (column (now (kept .entry)))
         (releasesOf n (now (task .entry)) (now (tick .entry)) (now (cost .entry))))
-        (finishList (viewOf (sheetFrom (now (sheet .entry)) count)) (column (now (kept .entry)))
+        (finishList (viewOf (sheetFrom (now (sheet .entry)) count charge)) (column (now (kept .entry)))
         (releasesOf n (now (task .entry)) (now (tick .entry)) (now (cost .entry))))
         (now (ready .entry)) (now (finish .entry)) (now (answer .entry)) r (now (ready .exit)) (now (finish .exit)) (now (answer .exit))
         ⌝ }
 {
-    let s = sheet_from(sheet, count);
+    let s = sheet_from(sheet, count, charge);
     if answer.len() < 1 {
         let checked = trace::check_two(
             s,
@@ -474,15 +482,15 @@ fn read_code(file: &[u8], sheet: usize, task: usize, tick: usize, cost: usize, a
             if cost < releases {
                 return refusal_code(13, releases);
             }
-            if answer < 2 {
-                return refusal_code(13, 2);
+            if answer < 3 {
+                return refusal_code(13, 3);
             }
             0
         }
     }
 }
 
-// Reads a file: the 128 numbers of its sheet, three columns of releases, and two words.
+// Reads a file: the 128 numbers of its sheet, three columns of releases, and three words: tasks, releases and the charge.
 #[no_mangle]
 pub extern "C" fn nolkrada_read(
     file: &[u8],
@@ -508,7 +516,7 @@ pub extern "C" fn nolkrada_read(
             answer.len(),
         );
     }
-    if answer.len() < 2 {
+    if answer.len() < 3 {
         return read_code(
             file,
             sheet.len(),
@@ -525,7 +533,12 @@ pub extern "C" fn nolkrada_read(
         ReadOutcome::Refused { number, place } => refusal_code(number, place),
         ReadOutcome::Read { releases } => {
             put_sheet(tasks, sheet);
-            put_two(answer, tasks.count as u64, releases as u64)
+            put_three(
+                answer,
+                tasks.count as u64,
+                releases as u64,
+                tasks.charge as u64,
+            )
         }
     }
 }
@@ -560,6 +573,7 @@ pub extern "C" fn nolkrada_load(text: &[u8], sheet: &mut [u32], answer: &mut [u6
 pub extern "C" fn nolkrada_write(
     sheet: &[u32],
     count: u32,
+    charge: u8,
     n: u32,
     task: &[u32],
     tick: &[u64],
@@ -568,11 +582,11 @@ pub extern "C" fn nolkrada_write(
     answer: &mut [u64],
 ) -> u64
     ensures { λ r. ⌜
-        WriteEnds (writeAnswer (now (sheet .entry)) count n (now (task .entry)) (now (tick .entry)) (now (cost .entry)) (now (out .entry)) (now (answer .entry)))
+        WriteEnds (writeAnswer (now (sheet .entry)) count charge n (now (task .entry)) (now (tick .entry)) (now (cost .entry)) (now (out .entry)) (now (answer .entry)))
         (now (out .entry)) (now (answer .entry)) r (now (out .exit)) (now (answer .exit))
         ⌝ }
 {
-    let s = sheet_from(sheet, count);
+    let s = sheet_from(sheet, count, charge);
     if answer.len() < 1 {
         let checked = writer::check_write(s, n as usize, task, tick, cost, out.len());
         if let Checked::Refused { number, place } = checked {

@@ -6,7 +6,7 @@ use native.Mathlib.Nat.{mul-le-mul}
 use native.Mathlib.Omega.{arith}
 use lib.ListN.{length}
 use Rattle.model.specs.Processor.{pickup}
-use Rattle.model.specs.Tasks.{Tasks, Release, releaseAt}
+use Rattle.model.specs.Tasks.{Tasks, load, Release, releaseAt}
 use Rattle.model.specs.Ready as Model
 use Rattle.model.specs.Run.{jobs, finishAt}
 use Rattle.model.specs.Claims.{Trace}
@@ -17,9 +17,9 @@ use Rattle.theory.proofs.EndLaws.{start-high, finish-high}
 use Rattle.processor.specs.FinishBound.{FinishBounded}
 use Rattle.processor.proofs.SamePlace.{same-place}
 
--- a list whose releases are at tick T or before, of tasks whose period and cost are at most X
+-- a list whose releases are at tick T or before, of tasks whose period and load are at most X
 module _ (s : Tasks) (k : ℕ → ℕ) (l : List Release) (tr : Trace s l) (T X : ℕ)
-    (ticks : (p : ℕ) → p < length l → releaseAt l p .tick ≤ T) (small : (i : ℕ) → i < s .count → (s .period i ≤ X) × (s .cost i ≤ X)) where
+    (ticks : (p : ℕ) → p < length l → releaseAt l p .tick ≤ T) (small : (i : ℕ) → i < s .count → (s .period i ≤ X) × (load s i ≤ X)) where
   -- a ready tick is at most T and X for each earlier release of the task
   pub ready-bound : (p : ℕ) → p < length l → Model.readyAt s k l p ≤ T + X * place (λ n. releaseAt l n .task) (releaseAt l p .task) p
   ready-bound p h = go (ready-at-closed s k l (releaseAt l p .task) p h refl)
@@ -41,11 +41,11 @@ unfolding finishAt
 finish-bound s k l tr T X ticks small p h =
     omega (
       arith,
-      finish-high (jobs s k l) (T + pickup) X (λ t. refl) cost-le (start-high (jobs s k l) (T + pickup) X start-le) p h (tr .sound p h .cost-low),
+      finish-high (jobs s k l) (T + pickup) X (λ t. refl) work-le (start-high (jobs s k l) (T + pickup) X start-le) p h (omega (arith, tr .sound p h .cost-low)),
     )
   where
     start-le : (q : ℕ) → q < length l → jobs s k l .start q ≤ T + pickup + X * place (λ n. releaseAt l n .task) (releaseAt l q .task) q
     start-le q g = omega (arith, ready-bound s k l tr T X ticks small q g)
 
-    cost-le : (q : ℕ) → q < length l → releaseAt l q .cost ≤ X
-    cost-le q g = omega (arith, tr .sound q g .cost-high, small (releaseAt l q .task) (tr .sound q g .known) .1)
+    work-le : (q : ℕ) → q < length l → jobs s k l .work q ≤ X
+    work-le q g = omega (arith, tr .sound q g .cost-high, small (releaseAt l q .task) (tr .sound q g .known) .1)

@@ -20,12 +20,12 @@ pub record Lefts (j : Jobs) (tasks t : ℕ) (head left : List ℕ) : Type 0 wher
   pub each : (i : ℕ) → i < tasks → getD head i 0 < j .count → getD left i 0 ≡ leftAt j t (getD head i 0)
 
 -- before the first tick it is the whole work
-pub lefts-start : (n tasks : ℕ) (task cost ready head left : List ℕ) → Holds (λ i. workOf cost n (getD head i 0)) tasks 32 left
-    → Lefts (jobsOf n task cost ready) tasks 0 head left
-lefts-start n tasks task cost ready head left b =
+pub lefts-start : (n tasks : ℕ) (task cost : List ℕ) (charge : ℕ) (ready head left : List ℕ) → Holds (λ i. workOf cost charge n (getD head i 0)) tasks 32 left
+    → Lefts (jobsOf n task cost charge ready) tasks 0 head left
+lefts-start n tasks task cost charge ready head left b =
     record {
       long = b .long;
-      each = λ i l g. b .each i l ∙ work-in cost n (getD head i 0) g ∙ sym (left-zero (jobsOf n task cost ready) (getD head i 0));
+      each = λ i l g. b .each i l ∙ work-in cost charge n (getD head i 0) g ∙ sym (left-zero (jobsOf n task cost charge ready) (getD head i 0));
     }
 
 module _ (j : Jobs) (tasks : ℕ) (o : Ordered j tasks) (t : ℕ) (head left : List ℕ) (h : Heads j tasks t head) (w : Lefts j tasks t head left) where

@@ -4,5 +4,4 @@ pub mod HeadLaws
 pub mod ColumnLaws
 pub mod LeftColumnLaws
 pub mod FinishColumnLaws
-pub mod AgreeLaws
 pub mod RunCallLaws

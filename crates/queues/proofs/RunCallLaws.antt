@@ -8,13 +8,14 @@ use lib.ListN.{length, getD, drop, length-append}
 use Rattle.model.specs.Limits.{maxTime, maxTick}
 use Rattle.model.specs.Series.{table}
 use Rattle.model.specs.Processor.{plain}
-use Rattle.model.specs.Tasks.{Tasks, Release, releaseAt}
+use Rattle.model.specs.Tasks.{Tasks, load, Release, releaseAt}
 use Rattle.model.specs.Choice.{column}
 use Rattle.model.specs.Ready.{readyAt, readyList}
 use Rattle.model.specs.Refusal.{Refusal}
 use Rattle.model.specs.Checks.{refusalOf}
 use Rattle.model.specs.Calls.{releasesOf, columnAfter, runInputs}
 use Rattle.model.specs.Run.{jobs, finishOf, finishAt, finishList}
+use Rattle.model.specs.Claims.{Sound}
 use Rattle.releases.proofs.ReleaseLaws.{length-releases, release-at}
 use Rattle.model.proofs.TableLaws.{length-table, table-agree}
 use Rattle.trace.specs.TraceCalls.{Shapable}
@@ -22,9 +23,9 @@ use Rattle.trace.proofs.ReadyAtLaws.{ready-rising}
 use Rattle.trace.proofs.ListCallLaws.{Callable, callable-of, listed-shapable, run-checks}
 use Rattle.trace.proofs.CloseWalkLaws.{inside, task-is, list-high, ready-high, ready-slot}
 use Rattle.processor.proofs.FinishBound.{finish-bound}
-use Rattle.queues.specs.Queues.{jobsOf, maxFinish, Runnable}
+use Rattle.queues.specs.Queues.{startOf, jobsOf, maxFinish, Workable, Runnable}
 use Rattle.queues.specs.TickBounds.{TickBounds}
-use Rattle.queues.proofs.AgreeLaws.{Agree, finish-agree}
+use Rattle.model.proofs.SameJobs.{SameJobs, finish-same}
 
 -- the ready column once the ready ticks are written
 abbrev pub readyWritten : Tasks → List ℕ → ℕ → List ℕ → List ℕ → List ℕ → List ℕ → List ℕ
@@ -63,28 +64,41 @@ module _ (s : Tasks) (kept : List ℕ) (n : ℕ) (task tick cost ready finish : 
       ∙ ap (λ o. columnAfter o (readyList s (column kept) (releasesOf n task tick cost)) ready) g
       ∙ ap (λ m. readyList s (column kept) (releasesOf n task tick cost) ++ drop m ready) list-long
 
-  agree : Agree (jobsOf n task cost (readyWritten s kept n task tick cost ready)) (jobs s (column kept) (releasesOf n task tick cost))
-  agree =
+  same-jobs : SameJobs (jobsOf n task cost (s .charge) (readyWritten s kept n task tick cost ready)) (jobs s (column kept) (releasesOf n task tick cost))
+  same-jobs =
       record {
-        all = λ t. refl;
-        same-all = λ t. refl;
         count = sym (length-releases n task tick cost);
         task = λ p h. sym (task-is n task tick cost p h);
-        start = λ p h. ap (plain .start) (slot p h);
-        work = λ p h. sym (cost-is p h);
+        start = λ p h. ap startOf (slot p h);
+        work = λ p h. ap (plain (s .charge) .work) (sym (cost-is p h));
+        ours = λ t. refl;
       }
 
-  cost-low : (p : ℕ) → p < n → 1 ≤ getD cost p 0
-  cost-low p h = omega (arith, cost-is p h, callable .listed .trace .sound p (inside n task tick cost p h) .cost-low)
+  work-low : (p : ℕ) → p < n → 1 ≤ plain (s .charge) .work (getD cost p 0)
+  work-low p h = omega (arith, cost-is p h, callable .listed .trace .sound p (inside n task tick cost p h) .cost-low)
+
+  -- the work of a job is at most E + S, which is at most P
+  workable : Workable n cost (s .charge)
+  workable = record { long = callable .listed .columns .cost-long; high = λ p h. high p h (callable .listed .trace .sound p (inside n task tick cost p h)) }
+    where
+      high : (p : ℕ) → p < n → Sound s (releaseAt (releasesOf n task tick cost) p) → plain (s .charge) .work (getD cost p 0) ≤ maxTime
+      high p h r =
+          omega (
+            arith,
+            cost-is p h,
+            r .cost-high,
+            callable .listed .valid .carried _ (r .known) .load-period,
+            callable .listed .valid .in-range _ (r .known) .period-high,
+          )
 
   -- the finish of the jobs in columns is the definition's
   pub same-finish
       : (p : ℕ) → p < n
-      → finishOf (jobsOf n task cost (readyWritten s kept n task tick cost ready)) p ≡ finishAt s (column kept) (releasesOf n task tick cost) p
+      → finishOf (jobsOf n task cost (s .charge) (readyWritten s kept n task tick cost ready)) p ≡ finishAt s (column kept) (releasesOf n task tick cost) p
   unfolding finishAt
-  same-finish p h = finish-agree _ _ agree p h (cost-low p h)
+  same-finish p h = finish-same _ _ same-jobs p
 
-  -- the checks bound every release tick, period and cost, and so every finish
+  -- the checks bound every release tick, period and load, and so every finish
   finish-high : (p : ℕ) → p < n → finishAt s (column kept) (releasesOf n task tick cost) p ≤ maxFinish
   finish-high p h =
       omega (
@@ -95,20 +109,20 @@ module _ (s : Tasks) (kept : List ℕ) (n : ℕ) (task tick cost ready finish : 
         callable .listed .few,
       )
     where
-      small : (i : ℕ) → i < s .count → (s .period i ≤ maxTime) × (s .cost i ≤ maxTime)
-      small i g = omega (arith, callable .listed .valid .in-range i g)
+      small : (i : ℕ) → i < s .count → (s .period i ≤ maxTime) × (load s i ≤ maxTime)
+      small i g = omega (arith, callable .listed .valid .in-range i g, callable .listed .valid .carried i g)
 
-  pub runnable : Runnable n (s .count) task cost (readyWritten s kept n task tick cost ready) finish
+  pub runnable : Runnable n (s .count) task cost (s .charge) (readyWritten s kept n task tick cost ready) finish
   runnable =
       record {
         few = callable .listed .few;
         few-tasks = callable .listed .valid .few-tasks;
         task-long = callable .listed .columns .task-long;
-        cost-long = callable .listed .columns .cost-long;
+        workable = workable;
         ready-long = omega (arith, length-append (readyList s (column kept) (releasesOf n task tick cost)) (drop n ready), list-long);
         finish-long = omega (arith, callable .slots-long);
         known = shapable .known;
-        cost-low = cost-low;
+        work-low = work-low;
         finish-high = λ p h. omega (arith, same-finish p h, finish-high p h);
         in-order = in-order;
       }
@@ -131,17 +145,19 @@ module _ (s : Tasks) (kept : List ℕ) (n : ℕ) (task tick cost ready finish : 
   -- the finish column
   pub finish-written : (o x : List ℕ)
       → o ≡ readyWritten s kept n task tick cost ready
-      → x ≡ table (finishOf (jobsOf n task cost o)) n ++ drop n finish
+      → x ≡ table (finishOf (jobsOf n task cost (s .charge) o)) n ++ drop n finish
       → x ≡ columnAfter (refusalOf (runInputs s kept n task tick cost ready finish)) (finishList s (column kept) (releasesOf n task tick cost)) finish
   unfolding columnAfter finishList
   finish-written o x g f =
       rw (← e .clear)
       (f
-      ∙ ap (λ y. table (finishOf (jobsOf n task cost y)) n ++ drop n finish) g
+      ∙ ap (λ y. table (finishOf (jobsOf n task cost (s .charge) y)) n ++ drop n finish) g
       ∙ ap (λ y. y ++ drop n finish) answer
       ∙ ap (λ m. finishList s (column kept) (releasesOf n task tick cost) ++ drop m finish) (sym (length-table _ _ ∙ length-releases n task tick cost)))
     where
-      answer : table (finishOf (jobsOf n task cost (readyWritten s kept n task tick cost ready))) n ≡ finishList s (column kept) (releasesOf n task tick cost)
+      answer
+          : table (finishOf (jobsOf n task cost (s .charge) (readyWritten s kept n task tick cost ready))) n
+          ≡ finishList s (column kept) (releasesOf n task tick cost)
       answer =
           table-agree _ (finishAt s (column kept) (releasesOf n task tick cost)) n same-finish
           ∙ ap (table (finishAt s (column kept) (releasesOf n task tick cost))) (sym (length-releases n task tick cost))

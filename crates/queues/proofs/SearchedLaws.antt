@@ -14,7 +14,7 @@ use Rattle.model.specs.Search.{first}
 use Rattle.model.specs.Processor.{plain}
 use Rattle.model.proofs.SearchLaws.{Found, first-found, first-nothing, search-here, search-next, search-end}
 use Rattle.model.proofs.SeriesLaws.{below-suc, le-or-lt}
-use Rattle.queues.specs.Queues.{orElse, firstFrom, never, wakeOf, workOf, earliest, Holds}
+use Rattle.queues.specs.Queues.{startOf, orElse, firstFrom, never, wakeOf, workOf, earliest, Holds}
 
 -- a loop that looks at from, from + 1, .., n - 1 in turn and has passed all below p
 pub record Passed (test : ℕ → Bool) (n from p : ℕ) : Type 0 where
@@ -62,7 +62,7 @@ least-is test n from r h e = rw e (go (first test (n - from) from) refl)
 
 -- the tick from which the job at p may run
 module _ (ready : List ℕ) (n p : ℕ) where
-  pub wake-in : p < n → wakeOf ready n p ≡ plain .start (getD ready p 0)
+  pub wake-in : p < n → wakeOf ready n p ≡ startOf (getD ready p 0)
   unfolding wakeOf
   wake-in h = rw (lt-ltb p n h)
 
@@ -71,12 +71,12 @@ module _ (ready : List ℕ) (n p : ℕ) where
   wake-out h = rw (le-ltb p n h)
 
 -- the work of the job at p
-module _ (cost : List ℕ) (n p : ℕ) where
-  pub work-in : p < n → workOf cost n p ≡ getD cost p 0
+module _ (cost : List ℕ) (charge n p : ℕ) where
+  pub work-in : p < n → workOf cost charge n p ≡ plain charge .work (getD cost p 0)
   unfolding workOf
   work-in h = rw (lt-ltb p n h)
 
-  pub work-out : n ≤ p → workOf cost n p ≡ 0
+  pub work-out : n ≤ p → workOf cost charge n p ≡ 0
   unfolding workOf
   work-out h = rw (le-ltb p n h)
 

@@ -11,13 +11,17 @@ use Rattle.model.specs.Search.{first}
 use Rattle.model.specs.Processor.{pickup, plain}
 use Rattle.model.specs.Run.{Jobs, finishOf}
 
--- the jobs of n releases, given in columns with their ready ticks
-abbrev pub jobsOf : ℕ → List ℕ → List ℕ → List ℕ → Jobs
-jobsOf n task cost ready = record {
+-- the first tick in which a job may run, given its ready tick; no charge changes it
+abbrev pub startOf : ℕ → ℕ
+startOf ready = plain 0 .start ready
+
+-- the jobs of n releases, given in columns with the charge and their ready ticks
+abbrev pub jobsOf : ℕ → List ℕ → List ℕ → ℕ → List ℕ → Jobs
+jobsOf n task cost charge ready = record {
   count = n;
   task = λ p. getD task p 0;
-  start = λ p. plain .start (getD ready p 0);
-  work = λ p. plain .work (getD cost p 0);
+  start = λ p. startOf (getD ready p 0);
+  work = λ p. plain charge .work (getD cost p 0);
   ours = λ t. true;
 }
 
@@ -44,12 +48,12 @@ never = 18446744073709551615
 
 -- the tick from which the job at p may run; never where p is past the list
 unfoldable pub wakeOf : List ℕ → ℕ → ℕ → ℕ
-wakeOf ready n p = cond (ltb p n) (plain .start (getD ready p 0)) never
+wakeOf ready n p = cond (ltb p n) (startOf (getD ready p 0)) never
 
 -- a column whose first n slots hold ready ticks of jobs that may run before never
 pub record Timely (n : ℕ) (ready : List ℕ) : Type 0 where
   pub long : n ≤ length ready
-  pub soon : (p : ℕ) → p < n → plain .start (getD ready p 0) < never
+  pub soon : (p : ℕ) → p < n → startOf (getD ready p 0) < never
 
 -- the highest-priority task whose oldest unfinished job may run in tick t
 abbrev pub topReady : List ℕ → List ℕ → ℕ → ℕ → ℕ → ℕ
@@ -65,8 +69,13 @@ abbrev pub wakeAll : List ℕ → List ℕ → ℕ → ℕ → ℕ
 wakeAll head ready n tasks = earliest (λ i. wakeOf ready n (getD head i 0)) tasks
 
 -- the work of the job at p; 0 where p is past the list
-unfoldable pub workOf : List ℕ → ℕ → ℕ → ℕ
-workOf cost n p = cond (ltb p n) (getD cost p 0) 0
+unfoldable pub workOf : List ℕ → ℕ → ℕ → ℕ → ℕ
+workOf cost charge n p = cond (ltb p n) (plain charge .work (getD cost p 0)) 0
+
+-- a column whose first n slots hold costs of jobs whose work, with the charge, is at most 1,000,000
+pub record Workable (n : ℕ) (cost : List ℕ) (charge : ℕ) : Type 0 where
+  pub long : n ≤ length cost
+  pub high : (p : ℕ) → p < n → plain charge .work (getD cost p 0) ≤ maxTime
 
 -- the first n slots of a column of k slots hold f 0, .., f (n - 1), and the others 0
 pub record Holds (f : ℕ → ℕ) (n k : ℕ) (l : List ℕ) : Type 0 where
@@ -74,15 +83,15 @@ pub record Holds (f : ℕ → ℕ) (n k : ℕ) (l : List ℕ) : Type 0 where
   pub each : (p : ℕ) → p < n → getD l p 0 ≡ f p
   pub past : (p : ℕ) → n ≤ p → p < k → getD l p 0 ≡ 0
 
--- columns of n releases that can be run: tasks and finish ticks within their limits, costs of at least 1, and ready ticks that never fall along a task
-pub record Runnable (n tasks : ℕ) (task cost ready finish : List ℕ) : Type 0 where
+-- columns of n releases that can be run: tasks, work and finish ticks within their limits, some work for each, and ready ticks that never fall along a task
+pub record Runnable (n tasks : ℕ) (task cost : List ℕ) (charge : ℕ) (ready finish : List ℕ) : Type 0 where
   pub few : n ≤ maxReleases
   pub few-tasks : tasks ≤ maxTasks
   pub task-long : n ≤ length task
-  pub cost-long : n ≤ length cost
+  pub workable : Workable n cost charge
   pub ready-long : n ≤ length ready
   pub finish-long : n ≤ length finish
   pub known : (p : ℕ) → p < n → getD task p 0 < tasks
-  pub cost-low : (p : ℕ) → p < n → 1 ≤ getD cost p 0
-  pub finish-high : (p : ℕ) → p < n → finishOf (jobsOf n task cost ready) p ≤ maxFinish
+  pub work-low : (p : ℕ) → p < n → 1 ≤ plain charge .work (getD cost p 0)
+  pub finish-high : (p : ℕ) → p < n → finishOf (jobsOf n task cost charge ready) p ≤ maxFinish
   pub in-order : (p q : ℕ) → p < q → q < n → getD task p 0 ≡ getD task q 0 → getD ready p 0 ≤ getD ready q 0

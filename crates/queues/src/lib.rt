@@ -5,8 +5,7 @@ ghost use mathlib.Core.Path.{_≡_};
 ghost use Prim.Native.Nat.{_≤_, _<_, min};
 ghost use lib.Dec.{leb};
 ghost use lib.ListN.{length, getD};
-ghost use Rattle.model.specs.Processor.{plain};
-ghost use Rattle.queues.specs.Queues.{nextOf, never, wakeOf, topReady, wakeAll, workOf, Holds, Timely};
+ghost use Rattle.queues.specs.Queues.{startOf, nextOf, never, wakeOf, topReady, wakeAll, workOf, Holds, Timely, Workable};
 
 // A tick over every start and finish tick of a run.
 pub const NEVER: u64 = 18446744073709551615;
@@ -20,8 +19,8 @@ pub fn smaller(a: u64, b: u64) -> u64
 
 // The first tick in which a job may run, given its ready tick.
 fn start_of(ready: u64) -> u64
-    requires { ⌜ plain .start ready < never ⌝ }
-    ensures { λ r. ⌜ r ≡ plain .start ready ⌝ }
+    requires { ⌜ startOf ready < never ⌝ }
+    ensures { λ r. ⌜ r ≡ startOf ready ⌝ }
 {
     ready + PICKUP
 }
@@ -106,26 +105,32 @@ pub fn first_jobs(task: &[u32], n: usize, tasks: usize) -> [usize; 32]
     head
 }
 
-// The work of the job at p, and 0 where p is past the list.
-pub fn work_of(cost: &[u32], n: usize, p: usize) -> u32
-    requires { ⌜ n ≤ length (now cost) ⌝ }
-    ensures { λ r. ⌜ r ≡ workOf (now (cost .entry)) n p ⌝ }
+// The work of the job at p, its cost and the charge, and 0 where p is past the list.
+pub fn work_of(cost: &[u32], charge: u32, n: usize, p: usize) -> u32
+    requires { ⌜ Workable n (now cost) charge ⌝ }
+    ensures { λ r. ⌜ r ≡ workOf (now (cost .entry)) charge n p ⌝ }
 {
     if p < n {
-        return cost[p];
+        return cost[p] + charge;
     }
     0
 }
 
 // The work that the oldest job of each task has before the first tick; 0 past the tasks.
-pub fn first_work(head: &[usize; 32], cost: &[u32], n: usize, tasks: usize) -> [u32; 32]
-    requires { ⌜ (tasks ≤ 32) × (n ≤ length (now cost)) ⌝ }
-    ensures { λ r. ⌜ Holds (λ i. workOf (now (cost .entry)) n (getD (now (head .entry)) i 0)) tasks 32 r ⌝ }
+pub fn first_work(
+    head: &[usize; 32],
+    cost: &[u32],
+    charge: u32,
+    n: usize,
+    tasks: usize,
+) -> [u32; 32]
+    requires { ⌜ (tasks ≤ 32) × Workable n (now cost) charge ⌝ }
+    ensures { λ r. ⌜ Holds (λ i. workOf (now (cost .entry)) charge n (getD (now (head .entry)) i 0)) tasks 32 r ⌝ }
 {
     let mut left = [0; 32];
     let mut i = 0;
     while i < tasks {
-        left[i] = work_of(cost, n, head[i]);
+        left[i] = work_of(cost, charge, n, head[i]);
         i += 1;
     }
     left

@@ -21,7 +21,7 @@ use Rattle.taskset.specs.declared.Checked.the-variants.{Fine, Refused}
 use Rattle.fileformat.specs.Records.{widthIn, Width, short, long, kindOf, bodySize, releaseRecord, releaseFrom, releaseSize}
 use Rattle.fileformat.specs.File.{File, decode}
 use Rattle.fileformat.specs.FileCalls.{setOf, readCall, readCount, readSheet, readColumn}
-use Rattle.reader.specs.Reader.{releaseOf, recordThere, offsetOf, releaseIn, releasesAt, AreReleases, Listed, Copied, Putting, answerWith, fileIn, ScanSays, ReadSays}
+use Rattle.reader.specs.Reader.{releaseOf, recordThere, offsetOf, releaseIn, releasesAt, AreReleases, Listed, Copied, Putting, answerWith, startIn, fileIn, ScanSays, ReadSays}
 use Rattle.fileformat.proofs.ReleasePlaces.{Placed, placed}
 use Rattle.reader.proofs.ScanLaws.{length-releases, offset-more}
 
@@ -236,7 +236,7 @@ module _ (f task tick cost : List ℕ) where
 
   module _ (r : Scanned) (h : ScanSays f r) where
     length-in : r .releases ≡ length (fileIn f r .releases)
-    length-in = sym (length-releases f (17 * r .tasks .count) (r .releases))
+    length-in = sym (length-releases f (startIn (r .tasks)) (r .releases))
 
     found : r .answer ≡ Fine → answered (fileIn f r) ≡ decode f
     found e = ap (answerWith (fileIn f r)) (sym e) ∙ h .answer

@@ -17,20 +17,20 @@ use Rattle.taskset.specs.declared.Task.{Task}
 use Rattle.taskset.specs.declared.TaskSet.{TaskSet}
 use Rattle.taskset.specs.declared.Checked.the-variants.{Fine}
 use Rattle.taskset.specs.TaskSet.{noTask, viewOf}
-use Rattle.releases.specs.Releases.{faultAt}
-use Rattle.releases.proofs.ReleaseLaws.{faulty, fault-of, faultless-of}
-use Rattle.fileformat.specs.Records.{widthIn, Width, Record, broken, taskRecord, releaseRecord, endRecord, releaseSize, recordOf, sizeOf}
-use Rattle.fileformat.specs.File.{State, stop, sheetOf, taskFault, lowTick, highTick, listFault, advance, afterEnd, readFrom, empty, decode}
-use Rattle.fileformat.specs.FileCalls.{tasksIn, setOf, readSheet}
-use Rattle.fileformat.proofs.StepLaws.{task-few, list-fault, end-early, end-fine, broken-stops, task-stops, task-taken, release-stops, release-taken, end-stops, end-taken, read-stop, read-next, read-last}
+use Rattle.model.specs.Checks.{faultAt}
+use Rattle.model.proofs.CheckLaws.{faulty, fault-of, faultless-of}
+use Rattle.fileformat.specs.Records.{widthIn, Width, Record, broken, taskRecord, releaseRecord, chargeRecord, endRecord, releaseSize, recordOf, sizeOf}
+use Rattle.fileformat.specs.File.{State, stop, sheetWith, chargeFault, taskFault, lowTick, highTick, listFault, advance, afterEnd, readFrom, empty, decode}
+use Rattle.fileformat.specs.FileCalls.{tasksIn, setOf, setWith, chargeBytes, readSheet}
+use Rattle.fileformat.proofs.StepLaws.{charge-of, charge-stops, charge-taken, task-few, task-first, list-fault, end-early, end-fine, broken-stops, task-stops, task-taken, release-stops, release-taken, end-stops, end-taken, read-stop, read-next, read-last}
 use Rattle.fileformat.proofs.SheetLaws.{same-sheet, length-tasks, list-agrees, set-of-tasks}
 use Rattle.fileformat.proofs.NumberLaws.{by-order}
 use Rattle.fileformat.proofs.OffsetLaws.{room}
-use Rattle.fileformat.proofs.ReleasePlaces.{task-first}
+use Rattle.fileformat.proofs.RoundTrips.{no-charge-bytes, some-charge-bytes}
 use Rattle.fileformat.proofs.WidthLaws.{size-low}
 use Rattle.reader.specs.declared.Job.{Job}
 use Rattle.reader.specs.declared.Scanned.{Scanned}
-use Rattle.reader.specs.Reader.{releaseOf, recordThere, offsetOf, releaseIn, releasesAt, AreReleases, answerWith, fileIn, ScanSays, Refuses}
+use Rattle.reader.specs.Reader.{releaseOf, recordThere, offsetOf, releaseIn, releasesAt, AreReleases, answerWith, startIn, fileIn, ScanSays, Refuses}
 
 -- an answer is no refusal
 never-both : {A B : Type 0} (a : A) (q : Refusal) → answered a ≡ refused q → B
@@ -74,16 +74,18 @@ module _ (f : List ℕ) (start n at : ℕ) (w : Width) (r : Release) (o : at ≡
   stand-more : AreReleases f start n → AreReleases f start (n + 1)
   stand-more h k l = by-order n k (λ g. let x : n ≡ k = omega arith in rw (← x) (w, r, record-next)) (λ g. h k g)
 
--- what is read so far: the tasks, and so many releases after them
+-- what is read so far: the charge, the tasks, and so many releases after them
 abbrev pub stateOf : List ℕ → TaskSet → ℕ → ℕ → State
-stateOf f s n before = record { tasks = tasksIn s; releases = releasesAt f (17 * s .count) n; before = before }
+stateOf f s n before = record { charge = s .charge; tasks = tasksIn s; releases = releasesAt f (startIn s) n; before = before }
 
--- where the scan stands: the file's answer is what the reading gives from here on
+-- where the scan stands: the file's answer is what the reading gives from here on, for as many records as there may still be
 pub record Scanning (f : List ℕ) (s : TaskSet) (n before at : ℕ) : Type 0 where
-  pub rest : decode f ≡ readFrom (suc (length f) - (s .count + n)) (stateOf f s n before) at (drop at f)
-  pub offset : at ≡ offsetOf f (17 * s .count) n
-  pub far : 17 * s .count + 10 * n ≤ at
-  pub stand : AreReleases f (17 * s .count) n
+  pub records : ℕ
+  pub rest : decode f ≡ readFrom records (stateOf f s n before) at (drop at f)
+  pub enough : suc (length f) ≤ records + at
+  pub offset : at ≡ offsetOf f (startIn s) n
+  pub far : startIn s + 10 * n ≤ at
+  pub stand : AreReleases f (startIn s) n
   pub within : at ≤ length f
   pub few-tasks : s .count ≤ maxTasks
   pub tasks-long : length (s .tasks) ≡ maxTasks
@@ -93,15 +95,15 @@ module _ (f : List ℕ) (s : TaskSet) (n before at : ℕ) (i : Scanning f s n be
   in-array : s .count ≤ length (s .tasks)
   in-array = omega (arith, i .few-tasks, i .tasks-long)
 
-  length-here : length (releasesAt f (17 * s .count) n) ≡ n
-  length-here = length-releases f (17 * s .count) n
+  length-here : length (releasesAt f (startIn s) n) ≡ n
+  length-here = length-releases f (startIn s) n
 
   -- so many records can still be read
   abbrev left : ℕ
-  left = length f - (s .count + n)
+  left = i .records - 1
 
-  more : suc (length f) - (s .count + n) ≡ suc left
-  more = omega (arith, i .far, i .within)
+  more : i .records ≡ suc left
+  more = omega (arith, i .enough, i .within)
 
   abbrev state : State
   state = stateOf f s n before
@@ -115,18 +117,27 @@ module _ (f : List ℕ) (s : TaskSet) (n before at : ℕ) (i : Scanning f s n be
   pub scan-broken : (k : ℕ) → broken k ≡ recordOf (drop at f) → refused (record { number = k; place = at }) ≡ decode f
   scan-broken k e = stopped (broken k) k e (broken-stops _ k)
 
-  task-fault-here : (t : Task) → taskFault (s .count) n t ≡ taskFault (length (tasksIn s)) (length (state .releases)) t
-  task-fault-here t = ap₂ (λ a b. taskFault a b t) (sym (length-tasks s in-array)) (sym length-here)
+  charge-fault-here : (c : ℕ) → chargeFault (s .charge) (s .count) n c ≡ chargeFault (s .charge) (length (tasksIn s)) (length (state .releases)) c
+  charge-fault-here c = ap₂ (λ a b. chargeFault (s .charge) a b c) (sym (length-tasks s in-array)) (sym length-here)
 
-  pub scan-task-stops : (t : Task) (q : Refusal) → taskRecord t ≡ recordOf (drop at f) → some q ≡ faultAt at (taskFault (s .count) n t) → refused q ≡ decode f
+  pub scan-charge-stops
+      : (c : ℕ) (q : Refusal) → chargeRecord c ≡ recordOf (drop at f) → some q ≡ faultAt at (chargeFault (s .charge) (s .count) n c) → refused q ≡ decode f
+  scan-charge-stops c q e a =
+      let w = fault-of at _ q a in
+      ap refused (w .1) ∙ stopped (chargeRecord c) (q .number) e (charge-stops state c (q .number) (sym (charge-fault-here c) ∙ w .0))
+
+  task-fault-here : (t : Task) → taskFault (s .charge) (s .count) n t ≡ taskFault (s .charge) (length (tasksIn s)) (length (state .releases)) t
+  task-fault-here t = ap₂ (λ a b. taskFault (s .charge) a b t) (sym (length-tasks s in-array)) (sym length-here)
+
+  pub scan-task-stops : (t : Task) (q : Refusal) → taskRecord t ≡ recordOf (drop at f) → some q ≡ faultAt at (taskFault (s .charge) (s .count) n t) → refused q ≡ decode f
   scan-task-stops t q e a =
       let w = fault-of at _ q a in
       ap refused (w .1) ∙ stopped (taskRecord t) (q .number) e (task-stops state t (q .number) (sym (task-fault-here t) ∙ w .0))
 
-  list-fault-here : (w : Width) (r : Release) → listFault (viewOf s) n before w r ≡ listFault (sheetOf (tasksIn s)) (length (state .releases)) before w r
+  list-fault-here : (w : Width) (r : Release) → listFault (viewOf s) n before w r ≡ listFault (sheetWith (s .charge) (tasksIn s)) (length (state .releases)) before w r
   list-fault-here w r =
-      list-agrees (viewOf s) (sheetOf (tasksIn s)) n before w r (same-sheet s in-array)
-      ∙ ap (λ k. listFault (sheetOf (tasksIn s)) k before w r) (sym length-here)
+      list-agrees (viewOf s) (sheetWith (s .charge) (tasksIn s)) n before w r (same-sheet s in-array)
+      ∙ ap (λ k. listFault (sheetWith (s .charge) (tasksIn s)) k before w r) (sym length-here)
 
   pub scan-job-stops
       : (w : Width) (j : Job) (q : Refusal) → releaseRecord w (releaseOf j) ≡ recordOf (drop at f)
@@ -139,9 +150,42 @@ module _ (f : List ℕ) (s : TaskSet) (n before at : ℕ) (i : Scanning f s n be
   pub scan-end-stops : endRecord ≡ recordOf (drop at f) → s .count ≡ 0 → refused (record { number = 5; place = at }) ≡ decode f
   scan-end-stops e z = stopped endRecord 5 e (end-stops state 5 (end-early _ (length-tasks s in-array ∙ z)))
 
+  -- a charge; nothing stands before it
+  abbrev withCharge : ℕ → TaskSet
+  withCharge c = record { tasks = s .tasks; count = s .count; charge = c }
+
+  state-charge : (c : ℕ) → n ≡ 0 → record { charge = c; tasks = tasksIn s; releases = state .releases; before = before } ≡ stateOf f (withCharge c) n before
+  unfolding tasksIn
+  state-charge c z = ap (λ b. record { charge = c; tasks = tasksIn s; releases = b; before = before }) (no-releases f _ n z ∙ sym (no-releases f _ n z))
+
+  pub scan-charge-next
+      : (c : ℕ) → chargeRecord c ≡ recordOf (drop at f) → none ≡ faultAt at (chargeFault (s .charge) (s .count) n c) → Scanning f (withCharge c) n before (at + 2)
+  unfolding sizeOf
+  scan-charge-next c e a =
+      let fine = faultless-of at _ a in
+      let g = charge-of _ _ _ c fine in
+      let z : n ≡ 0 = g .no-release in
+      let b : chargeBytes (s .charge) ≡ 0 = ap chargeBytes (g .no-charge) ∙ no-charge-bytes in
+      record {
+        records = left;
+        enough = omega (arith, i .enough, i .within);
+        rest =
+            here
+            ∙ read-next left state at (drop at f) (chargeRecord c) (sym e) _ (charge-taken state c (sym (charge-fault-here c) ∙ fine))
+            ∙ ap (readFrom left (record { charge = c; tasks = tasksIn s; releases = state .releases; before = before }) (at + 2)) (drop-drop 2 at f)
+            ∙ ap (λ q. readFrom left q (at + 2) (drop (at + 2) f)) (state-charge c z);
+        offset = omega (arith, i .offset, g .no-task, b, some-charge-bytes c (g .not-zero), offset-none f (startIn s) n z, offset-none f (startIn (withCharge c)) n z);
+        far = omega (arith, i .far, b, some-charge-bytes c (g .not-zero));
+        stand = λ r l. absurd (omega arith);
+        within = room f at (chargeRecord c) (i .within) e;
+        few-tasks = i .few-tasks;
+        tasks-long = i .tasks-long;
+        padded = i .padded;
+      }
+
   -- a task more; no release stands before it
   abbrev withTask : Task → TaskSet
-  withTask t = record { tasks = set (s .tasks) (s .count) t; count = s .count + 1 }
+  withTask t = record { tasks = set (s .tasks) (s .count) t; count = s .count + 1; charge = s .charge }
 
   tasks-more : (t : Task) → s .count < maxTasks → tasksIn (withTask t) ≡ tasksIn s ++ (t ∷ [])
   unfolding tasksIn
@@ -155,24 +199,25 @@ module _ (f : List ℕ) (s : TaskSet) (n before at : ℕ) (i : Scanning f s n be
       ∙ ap (drop 1) (i .padded ∙ ap (λ k. replicate k noTask) e)
 
   state-task
-      : (t : Task) → s .count < maxTasks → n ≡ 0 → record { tasks = tasksIn s ++ (t ∷ []); releases = state .releases; before = before } ≡ stateOf f (withTask t) n before
+      : (t : Task) → s .count < maxTasks → n ≡ 0 → record { charge = s .charge; tasks = tasksIn s ++ (t ∷ []); releases = state .releases; before = before } ≡ stateOf f (withTask t) n before
   state-task t h z =
-      ap₂ (λ a b. record { tasks = a; releases = b; before = before }) (sym (tasks-more t h)) (no-releases f _ n z ∙ sym (no-releases f _ n z))
+      ap₂ (λ a b. record { charge = s .charge; tasks = a; releases = b; before = before }) (sym (tasks-more t h)) (no-releases f _ n z ∙ sym (no-releases f _ n z))
 
-  pub scan-task-next : (t : Task) → taskRecord t ≡ recordOf (drop at f) → none ≡ faultAt at (taskFault (s .count) n t) → Scanning f (withTask t) n before (at + 17)
+  pub scan-task-next : (t : Task) → taskRecord t ≡ recordOf (drop at f) → none ≡ faultAt at (taskFault (s .charge) (s .count) n t) → Scanning f (withTask t) n before (at + 17)
   unfolding sizeOf
   scan-task-next t e a =
       let fine = faultless-of at _ a in
-      let low : s .count < maxTasks = task-few _ _ t fine in
-      let z : n ≡ 0 = task-first _ _ t fine in
-      let k : left ≡ suc (length f) - (s .count + 1 + n) = omega (arith, i .far, i .within) in
+      let low : s .count < maxTasks = task-few _ _ _ t fine in
+      let z : n ≡ 0 = task-first _ _ _ t fine in
       record {
+        records = left;
+        enough = omega (arith, i .enough, i .within);
         rest =
             here
             ∙ read-next left state at (drop at f) (taskRecord t) (sym e) _ (task-taken state t (sym (task-fault-here t) ∙ fine))
-            ∙ ap₂ (λ b g. readFrom b (record { tasks = tasksIn s ++ (t ∷ []); releases = state .releases; before = before }) (at + 17) g) k (drop-drop 17 at f)
-            ∙ ap (λ q. readFrom (suc (length f) - (s .count + 1 + n)) q (at + 17) (drop (at + 17) f)) (state-task t low z);
-        offset = omega (arith, i .offset, offset-none f (17 * s .count) n z, offset-none f (17 * (s .count + 1)) n z);
+            ∙ ap (readFrom left (record { charge = s .charge; tasks = tasksIn s ++ (t ∷ []); releases = state .releases; before = before }) (at + 17)) (drop-drop 17 at f)
+            ∙ ap (λ q. readFrom left q (at + 17) (drop (at + 17) f)) (state-task t low z);
+        offset = omega (arith, i .offset, offset-none f (startIn s) n z, offset-none f (startIn (withTask t)) n z);
         far = omega (arith, i .far);
         stand = λ r l. absurd (omega arith);
         within = room f at (taskRecord t) (i .within) e;
@@ -189,18 +234,19 @@ module _ (f : List ℕ) (s : TaskSet) (n before at : ℕ) (i : Scanning f s n be
   scan-job-next w j e a =
       let fine = faultless-of at _ a in
       let z = releaseSize w in
-      let k : left ≡ suc (length f) - (s .count + (n + 1)) = omega (arith, i .far, i .within) in
       record {
+        records = left;
+        enough = omega (arith, i .enough, i .within, size-low w);
         rest =
             here
             ∙ read-next left state at (drop at f) (releaseRecord w (releaseOf j)) (sym e) _
             (release-taken state w (releaseOf j) (sym (list-fault-here w (releaseOf j)) ∙ fine))
-            ∙ ap₂ (λ b g. readFrom b (record { tasks = tasksIn s; releases = state .releases ++ (releaseOf j ∷ []); before = j .tick }) (at + z) g) k (drop-drop z at f)
-            ∙ ap (λ q. readFrom (suc (length f) - (s .count + (n + 1))) (record { tasks = tasksIn s; releases = q; before = j .tick }) (at + z) (drop (at + z) f))
-            (sym (releases-more f (17 * s .count) n at w (releaseOf j) (i .offset) e));
-        offset = offset-more f (17 * s .count) n at w (releaseOf j) (i .offset) e;
+            ∙ ap (readFrom left (record { charge = s .charge; tasks = tasksIn s; releases = state .releases ++ (releaseOf j ∷ []); before = j .tick }) (at + z)) (drop-drop z at f)
+            ∙ ap (λ q. readFrom left (record { charge = s .charge; tasks = tasksIn s; releases = q; before = j .tick }) (at + z) (drop (at + z) f))
+            (sym (releases-more f (startIn s) n at w (releaseOf j) (i .offset) e));
+        offset = offset-more f (startIn s) n at w (releaseOf j) (i .offset) e;
         far = omega (arith, i .far, size-low w);
-        stand = stand-more f (17 * s .count) n at w (releaseOf j) (i .offset) e (i .stand);
+        stand = stand-more f (startIn s) n at w (releaseOf j) (i .offset) e (i .stand);
         within = room f at (releaseRecord w (releaseOf j)) (i .within) e;
         few-tasks = i .few-tasks;
         tasks-long = i .tasks-long;
@@ -218,7 +264,7 @@ module _ (f : List ℕ) (s : TaskSet) (n before at : ℕ) (i : Scanning f s n be
   unfolding afterEnd
   scan-end-more e h g = sym (at-last e h ∙ ap (afterEnd state (at + 1)) (drop-cons f (at + 1) 0 g))
 
-  scan-end : endRecord ≡ recordOf (drop at f) → 1 ≤ s .count → length f ≤ at + 1 → answered (record { tasks = tasksIn s; releases = state .releases }) ≡ decode f
+  scan-end : endRecord ≡ recordOf (drop at f) → 1 ≤ s .count → length f ≤ at + 1 → answered (record { charge = s .charge; tasks = tasksIn s; releases = state .releases }) ≡ decode f
   unfolding afterEnd
   scan-end e h g = sym (at-last e h ∙ ap (afterEnd state (at + 1)) (drop-of-length-le f g))
 
@@ -238,27 +284,28 @@ module _ (f : List ℕ) (s : TaskSet) (n before at : ℕ) (i : Scanning f s n be
 
 -- a refusal of the scan
 pub scan-refuses : (f : List ℕ) (k p : ℕ) (r : Scanned) → Refuses k p r → refused (record { number = k; place = p }) ≡ decode f → ScanSays f r
-unfolding readSheet setOf
+unfolding readSheet setWith
 scan-refuses f k p r h e =
     record {
       answer = ap (answerWith (fileIn f r)) (h .answer) ∙ e;
       sheet = h .sheet ∙ ap readSheet e;
       few-tasks = omega (arith, ap (λ s. s .count) (h .sheet));
-      inside = omega (arith, ap (λ s. s .count) (h .sheet));
+      inside = omega (arith, ap (λ s. s .count) (h .sheet), ap (λ s. chargeBytes (s .charge)) (h .sheet), no-charge-bytes);
       stand = λ q l. absurd (omega (arith, h .no-release));
       none-refused = λ q d. h .no-release;
     }
 
 -- where the scan begins
 pub scan-begins : (f : List ℕ) (s : TaskSet) → s ≡ setOf [] → Scanning f s 0 0 0
-unfolding decode setOf tasksIn releasesAt table offsetOf
+unfolding decode setWith tasksIn releasesAt table offsetOf chargeBytes
 scan-begins f s e =
-    let k : suc (length f) ≡ suc (length f) - 0 = omega arith in
     rw e
     (record {
-      rest = ap (λ b. readFrom b empty 0 f) k;
+      records = suc (length f);
+      enough = omega arith;
+      rest = refl;
       offset = refl;
-      far = omega arith;
+      far = omega (arith, no-charge-bytes);
       stand = λ r l. absurd (omega arith);
       within = omega arith;
       few-tasks = omega arith;

@@ -11,16 +11,17 @@ use Rattle.model.specs.Tasks.{Release, noRelease}
 use Rattle.model.specs.Refusal.{Refusal, Answer, refused, answered}
 use Rattle.taskset.specs.declared.Checked.{Checked}
 use Rattle.taskset.specs.declared.Checked.the-variants.{Fine, Refused}
-use Rattle.fileformat.specs.Records.{Width, short, long, Record, broken, taskRecord, releaseRecord, endRecord, recordOf, sizeOf}
+use Rattle.fileformat.specs.Records.{Width, short, long, Record, broken, taskRecord, releaseRecord, chargeRecord, endRecord, recordOf, sizeOf}
 use Rattle.fileformat.specs.File.{File, decode}
-use Rattle.fileformat.specs.FileCalls.{tasksIn, setOf, readCall, readCount, readSheet, readColumn}
+use Rattle.taskset.specs.declared.TaskSet.{TaskSet}
+use Rattle.fileformat.specs.FileCalls.{tasksIn, setOf, chargeBytes, readCall, readCount, readSheet, readColumn}
 use Rattle.reader.specs.declared.Job.{Job}
 use Rattle.reader.specs.declared.Scanned.{Scanned}
 use Rattle.reader.specs.declared.ReadOutcome.{ReadOutcome}
 use Rattle.reader.specs.declared.ReadOutcome.the-variants.{Read, Refused as Halted}
 use Rattle.reader.specs.declared.ReadAnswer.{ReadAnswer}
 use Rattle.reader.specs.declared.Found.{Found}
-use Rattle.reader.specs.declared.Found.the-variants.{Broken, OfTask, OfRelease, OfLongRelease, End}
+use Rattle.reader.specs.declared.Found.the-variants.{Broken, OfTask, OfRelease, OfLongRelease, OfCharge, End}
 
 abbrev pub releaseOf : Job → Release
 releaseOf j = record { task = j .task; tick = j .tick; cost = j .cost }
@@ -30,6 +31,7 @@ recordIn (Broken n) = broken n
 recordIn (OfTask t) = taskRecord t
 recordIn (OfRelease j) = releaseRecord short (releaseOf j)
 recordIn (OfLongRelease j) = releaseRecord long (releaseOf j)
+recordIn (OfCharge c) = chargeRecord c
 recordIn End = endRecord
 
 -- the record at an offset of a file, and the offset of the record r places after one
@@ -45,6 +47,7 @@ unfoldable pub releaseIn : Record → Release
 releaseIn (broken n) = noRelease
 releaseIn (taskRecord t) = noRelease
 releaseIn (releaseRecord w r) = r
+releaseIn (chargeRecord c) = noRelease
 releaseIn endRecord = noRelease
 
 -- the n releases whose records stand one after another from an offset of a file on
@@ -85,17 +88,21 @@ abbrev pub answerWith : File → Checked → Answer File
 answerWith x Fine = answered x
 answerWith x (Refused n p) = refused (record { number = n; place = p })
 
--- what a scan found: its tasks, and the releases whose records follow theirs
-abbrev pub fileIn : List ℕ → Scanned → File
-fileIn f r = record { tasks = tasksIn (r .tasks); releases = releasesAt f (17 * r .tasks .count) (r .releases) }
+-- where the releases of a file begin: after the charge and the tasks of its sheet
+abbrev pub startIn : TaskSet → ℕ
+startIn s = chargeBytes (s .charge) + 17 * s .count
 
--- what a scan promises: its answer is the file's, the tasks are its sheet, the records that follow theirs are releases, and a refusal has none
+-- what a scan found: its charge and tasks, and the releases whose records follow theirs
+abbrev pub fileIn : List ℕ → Scanned → File
+fileIn f r = record { charge = r .tasks .charge; tasks = tasksIn (r .tasks); releases = releasesAt f (startIn (r .tasks)) (r .releases) }
+
+-- what a scan promises: its answer is the file's, charge and tasks are its sheet, the records that follow theirs are releases, and a refusal has none
 pub record ScanSays (f : List ℕ) (r : Scanned) : Type 0 where
   pub answer : answerWith (fileIn f r) (r .answer) ≡ decode f
   pub sheet : r .tasks ≡ readSheet (decode f)
   pub few-tasks : r .tasks .count ≤ maxTasks
-  pub inside : 17 * r .tasks .count ≤ length f
-  pub stand : AreReleases f (17 * r .tasks .count) (r .releases)
+  pub inside : startIn (r .tasks) ≤ length f
+  pub stand : AreReleases f (startIn (r .tasks)) (r .releases)
   pub none-refused : (q : Refusal) → decode f ≡ refused q → r .releases ≡ 0
 
 -- a refusal of a scan

@@ -10,9 +10,9 @@ ghost use Prim.Native.Nat.{_≤_, _<_, _+_, _*_};
 ghost use lib.ListN.{length, drop};
 ghost use Rattle.model.specs.Tasks.{Tasks};
 ghost use Rattle.taskset.specs.TaskSet.{refusalIn};
-ghost use Rattle.releases.specs.Releases.{faultAt};
+ghost use Rattle.model.specs.Checks.{faultAt};
 ghost use Rattle.fileformat.specs.Numbers.{field};
-ghost use Rattle.fileformat.specs.Records.{widthIn, bodySize, taskFrom, releaseFrom, releaseSize, recordOf};
+ghost use Rattle.fileformat.specs.Records.{widthIn, bodySize, taskFrom, releaseFrom, recordOf};
 ghost use Rattle.fileformat.specs.File.{lowTick, highTick, listFault};
 ghost use Rattle.reader.specs.Reader.{releaseOf, recordIn, releasesAt, AreReleases, Listed, Putting, ScanSays, Refuses, ReadSays};
 
@@ -29,10 +29,11 @@ pub enum Found {
     OfTask { task: Task },
     OfRelease { job: Job },
     OfLongRelease { job: Job },
+    OfCharge { charge: u8 },
     End,
 }
 
-// What the scan of a whole file gives: a refusal and no task, or the tasks and the number of releases.
+// What the scan of a whole file gives: a refusal and no task, or the tasks with the charge and the number of releases.
 pub struct Scanned {
     pub answer: Checked,
     pub tasks: TaskSet,
@@ -102,13 +103,6 @@ fn job_at(f: &[u8], at: usize, long: bool) -> Job
     }
 }
 
-// The bytes of a release record.
-fn release_size(long: bool) -> usize
-    ensures { λ r. ⌜ r ≡ releaseSize (widthIn long) ⌝ }
-{
-    if long { 14 } else { 10 }
-}
-
 // The record at an offset: 1 where there is no such kind, 2 where the file ends inside it or where a kind is due.
 fn record_at(f: &[u8], at: usize) -> Found
     requires { ⌜ at ≤ length (now f) ⌝ }
@@ -145,6 +139,12 @@ fn record_at(f: &[u8], at: usize) -> Found
         }
         let job = job_at(f, at + 1, true);
         return Found::OfLongRelease { job: job };
+    }
+    if kind == 5 {
+        if left < 2 {
+            return Found::Broken { number: 2 };
+        }
+        return Found::OfCharge { charge: f[at + 1] };
     }
     Found::Broken { number: 1 }
 }
@@ -215,7 +215,7 @@ fn scan(f: &[u8]) -> Scanned
             Found::Broken { number } => return refused(number, at),
             Found::OfTask { task } => {
                 let n = tasks.count;
-                let k = entries::check_task(n, releases, at, task);
+                let k = entries::check_task(tasks.charge, n, releases, at, task);
                 if let Checked::Refused { number, place } = k {
                     return refused(number, place);
                 }
@@ -257,6 +257,14 @@ fn scan(f: &[u8]) -> Scanned
                 before = job.tick;
                 at += 14;
             }
+            Found::OfCharge { charge } => {
+                let k = entries::check_charge(tasks.charge, tasks.count, releases, at, charge);
+                if let Checked::Refused { number, place } = k {
+                    return refused(number, place);
+                }
+                tasks.charge = charge;
+                at += 2;
+            }
             Found::End => {
                 if tasks.count == 0 {
                     return refused(5, at);
@@ -280,7 +288,7 @@ pub enum ReadOutcome {
     Refused { number: u32, place: usize },
 }
 
-// The answer and the sheet; after a refusal a sheet of no task. Entries past the count are 0.
+// The answer and the sheet; after a refusal a sheet of no task and no charge. Entries past the count are 0.
 pub struct ReadAnswer {
     pub outcome: ReadOutcome,
     pub tasks: TaskSet,
@@ -347,7 +355,7 @@ fn put_rest(
         task[i] = j.task;
         tick[i] = j.tick;
         cost[i] = j.cost;
-        at += release_size(long);
+        at += entries::release_size(long);
         i += 1;
     }
 }
@@ -406,7 +414,8 @@ pub fn read(f: &[u8], task: &mut [u32], tick: &mut [u64], cost: &mut [u32]) -> R
             tasks: none,
         };
     }
-    put_columns(f, 17 * tasks.count, count, task, tick, cost);
+    let start = entries::sheet_size(tasks.charge, tasks.count);
+    put_columns(f, start, count, task, tick, cost);
     ReadAnswer {
         outcome: ReadOutcome::Read { releases: count },
         tasks: tasks,

@@ -9,37 +9,16 @@ use lib.ListN.{length, getD, drop}
 use lib.Seq.{drop-length}
 use Rattle.model.specs.Limits.{maxReleases, maxTick}
 use Rattle.model.specs.Tasks.{Tasks, Release, releaseAt, noRelease, Valid}
-use Rattle.model.specs.Refusal.{Refusal, refuse}
+use Rattle.model.specs.Refusal.{Refusal}
 use Rattle.model.specs.Checks.{checkTasks, checkCount, checkSlots, releaseFault, checkReleases, refusalOf}
 use Rattle.model.specs.Calls.{lends, releasesOf, listInputs}
 use Rattle.model.specs.Claims.{Trace}
-use Rattle.model.proofs.CheckLaws.{valid-of, count-of, slot-of}
+use Rattle.model.proofs.CheckLaws.{fault-of, faultless-of, valid-of, count-of, slot-of}
 use Rattle.model.proofs.OrderLaws.{accepted-of}
 use Rattle.model.proofs.TraceLaws.{releases-fault, releases-next, trace-of, ticks-of}
 use Rattle.model.proofs.TableLaws.{length-table, getD-table, drop-table}
-use Rattle.releases.specs.Releases.{faultAt, release}
-
--- the fault of one release, as the refusal at a place
-pub faulty : (p n : ℕ) (o : Option ℕ) → o ≡ some n → refuse n p ≡ faultAt p o
-unfolding faultAt
-faulty p n o e = rw (faultAt, e)
-
-pub faultless : (p : ℕ) (o : Option ℕ) → o ≡ none → none ≡ faultAt p o
-unfolding faultAt
-faultless p o e = rw (faultAt, e)
-
--- and back
-pub fault-of : (p : ℕ) (o : Option ℕ) (q : Refusal) → some q ≡ faultAt p o → (o ≡ some (q .number)) × (q ≡ record { number = q .number; place = p })
-unfolding faultAt
-fault-of p none q e = let z : _≡_ {A = ℕ} 0 1 = cc in absurd (omega arith)
-fault-of p (some n) q e =
-    let w : q ≡ record { number = n; place = p } = cc in
-    (ap some (sym (ap (λ x. x .number) w)), w ∙ ap (λ x. record { number = x; place = p }) (sym (ap (λ x. x .number) w)))
-
-pub faultless-of : (p : ℕ) (o : Option ℕ) → none ≡ faultAt p o → o ≡ none
-unfolding faultAt
-faultless-of p none e = refl
-faultless-of p (some n) e = let z : _≡_ {A = ℕ} 0 1 = cc in absurd (omega arith)
+use Rattle.model.specs.Checks.{faultAt}
+use Rattle.releases.specs.Releases.{release}
 
 module _ (n : ℕ) (task tick cost : List ℕ) where
   pub length-releases : length (releasesOf n task tick cost) ≡ n

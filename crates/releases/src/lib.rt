@@ -10,7 +10,8 @@ ghost use lib.ListN.{length};
 ghost use Rattle.model.specs.Checks.{releaseFault, checkCount, checkSlots, checkReleases, refusalOf};
 ghost use Rattle.model.specs.Calls.{lends, releasesOf, listInputs};
 ghost use Rattle.taskset.specs.TaskSet.{viewOf, refusalIn};
-ghost use Rattle.releases.specs.Releases.{faultAt, release};
+ghost use Rattle.model.specs.Checks.{faultAt};
+ghost use Rattle.releases.specs.Releases.{release};
 
 // The largest tick of a release.
 const MAX_TICK: u64 = 1000000000000000;

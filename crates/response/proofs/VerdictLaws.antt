@@ -117,7 +117,9 @@ module _ (s : Tasks) (k : ℕ → ℕ) (i : ℕ) where
   walk-stops e h = go (goes-on horizonTick (first-nothing (stops s k i) (suc horizonTick) 0 h horizonTick (omega arith) (omega arith)))
     where
       go : Passed s k i horizonTick → ⊥
-      go p = let g : Window s k i horizonTick (p .w) = window-some s k i horizonTick (p .w) (p .is) in omega (arith, window-over s k i horizonTick (p .w) e (p .is))
+      go p =
+          let g : Window s k i horizonTick (p .w) = window-some s k i horizonTick (p .w) (p .is) in
+          omega (arith, window-over s k i horizonTick (p .w) (omega arith) (p .is))
 
   -- the verdict is what is said at the q where the walk stops
   verdict-at : (o : Option ℕ) → first (stops s k i) (suc horizonTick) 0 ≡ o → verdict s k i ≡ elim o [ none ↦ horizon (suc horizonTick) | some q ↦ judge s k i q ]

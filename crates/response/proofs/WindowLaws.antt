@@ -6,7 +6,7 @@ use native.Mathlib.Omega.{arith}
 use native.Mathlib.Nat.{mul-le-mul-left}
 use borrow.Author.Tests.{leb-true, leb-false}
 use Rattle.model.specs.Limits.{horizonTick}
-use Rattle.model.specs.Tasks.{Tasks}
+use Rattle.model.specs.Tasks.{Tasks, load}
 use Rattle.model.specs.Demand.{demand, meets, window}
 use Rattle.model.proofs.SearchLaws.{Found, first-found, first-nothing}
 
@@ -37,6 +37,6 @@ module _ (s : Tasks) (k : ℕ → ℕ) (i : ℕ) where
   window-none q h t a b = leb-false _ _ (first-nothing (meets s k i q) horizonTick 1 h t a (omega arith))
 
   -- W(q) is over q
-  pub window-over : (q w : ℕ) → 1 ≤ s .cost i → window s k i q ≡ some w → q < w
+  pub window-over : (q w : ℕ) → 1 ≤ load s i → window s k i q ≡ some w → q < w
   unfolding demand
   window-over q w e h = let g : Window s k i q w = window-some q w h in omega (arith, g .met, mul-le-mul-left (suc q) e)

@@ -27,42 +27,42 @@ pub record Top (j : Jobs) (tasks t : ℕ) (head left : List ℕ) (i : ℕ) : Typ
   pub not-last : t < maxFinish
 
 -- what holds at the beginning of tick t
-pub record Filling (n tasks : ℕ) (task cost ready held : List ℕ) (t wake : ℕ) (head left finish : List ℕ) : Type 0 where
-  pub can : Runnable n tasks task cost ready held
-  pub state : Running (jobsOf n task cost ready) tasks t wake head left finish held
+pub record Filling (n tasks : ℕ) (task cost : List ℕ) (charge : ℕ) (ready held : List ℕ) (t wake : ℕ) (head left finish : List ℕ) : Type 0 where
+  pub can : Runnable n tasks task cost charge ready held
+  pub state : Running (jobsOf n task cost charge ready) tasks t wake head left finish held
 
-module _ (n tasks : ℕ) (task cost ready held : List ℕ) (r : Runnable n tasks task cost ready held) where
-  running : Ordered (jobsOf n task cost ready) tasks
-  running = ordered n tasks task cost ready held r
+module _ (n tasks : ℕ) (task cost : List ℕ) (charge : ℕ) (ready held : List ℕ) (r : Runnable n tasks task cost charge ready held) where
+  running : Ordered (jobsOf n task cost charge ready) tasks
+  running = ordered n tasks task cost charge ready held r
 
   filling
-      : (t wake : ℕ) (head left finish : List ℕ) → Running (jobsOf n task cost ready) tasks t wake head left finish held
-      → Filling n tasks task cost ready held t wake head left finish
+      : (t wake : ℕ) (head left finish : List ℕ) → Running (jobsOf n task cost charge ready) tasks t wake head left finish held
+      → Filling n tasks task cost charge ready held t wake head left finish
   filling t wake head left finish s = record { can = r; state = s }
 
   -- the state before the first tick
   pub fill-start : (head left : List ℕ)
       → Holds (λ i. nextOf task n i 0) tasks 32 head
-      → Holds (λ i. workOf cost n (getD head i 0)) tasks 32 left
-      → Filling n tasks task cost ready held 0 0 head left held
+      → Holds (λ i. workOf cost charge n (getD head i 0)) tasks 32 left
+      → Filling n tasks task cost charge ready held 0 0 head left held
   fill-start head left a b =
       filling 0 0 head left held
       record {
-        heads = heads-start n tasks task cost ready held r head a;
-        lefts = lefts-start n tasks task cost ready head left b;
-        written = written-start (jobsOf n task cost ready) held (r .finish-long) (r .cost-low);
+        heads = heads-start n tasks task cost charge ready held r head a;
+        lefts = lefts-start n tasks task cost charge ready head left b;
+        written = written-start (jobsOf n task cost charge ready) held (r .finish-long) (r .work-low);
         asleep = λ p l g e. absurd (omega arith);
         wake-soon = omega arith;
         time = omega arith;
       }
 
-  module _ (t wake : ℕ) (head left finish : List ℕ) (s : Running (jobsOf n task cost ready) tasks t wake head left finish held) where
+  module _ (t wake : ℕ) (head left finish : List ℕ) (s : Running (jobsOf n task cost charge ready) tasks t wake head left finish held) where
     -- a tick before the next one in which a job may run
-    pub fill-sleep : t < wake → Filling n tasks task cost ready held (t + 1) wake head left finish
+    pub fill-sleep : t < wake → Filling n tasks task cost charge ready held (t + 1) wake head left finish
     fill-sleep h =
         filling (t + 1) wake head left finish
-        (tick-idle (jobsOf n task cost ready) tasks running t wake head left finish held s wake
-        (runs-nothing (jobsOf n task cost ready) t (λ q a b. s .asleep q a h (omega arith)))
+        (tick-idle (jobsOf n task cost charge ready) tasks running t wake head left finish held s wake
+        (runs-nothing (jobsOf n task cost charge ready) t (λ q a b. s .asleep q a h (omega arith)))
         (λ p a b. s .asleep p a h b)
         (s .wake-soon)
         (omega (arith, s .wake-soon)))
@@ -73,32 +73,32 @@ module _ (n tasks : ℕ) (task cost ready held : List ℕ) (r : Runnable n tasks
         → i ≡ tasks
         → new ≡ wakeAll head ready n tasks
         → (new ≡ never → ⊥)
-        → Filling n tasks task cost ready held (t + 1) new head left finish
+        → Filling n tasks task cost charge ready held (t + 1) new head left finish
     fill-idle i new e g f h = filling (t + 1) new head left finish (go (earliest-is (λ k. wakeOf ready n (getD head k 0)) tasks))
       where
-        rests : (k : ℕ) → k < tasks → May (jobsOf n task cost ready) t head k → ⊥
-        rests = none-found n tasks task cost ready head t (s .time) i e g
+        rests : (k : ℕ) → k < tasks → May (jobsOf n task cost charge ready) t head k → ⊥
+        rests = none-found n tasks task cost charge ready head t (s .time) i e g
 
-        early : (p : ℕ) → p < n → jobsOf n task cost ready .start p < new → leftAt (jobsOf n task cost ready) t p ≡ 0
+        early : (p : ℕ) → p < n → jobsOf n task cost charge ready .start p < new → leftAt (jobsOf n task cost charge ready) t p ≡ 0
         early p l a =
-            let z : leftAt (jobsOf n task cost ready) t p ≤ 0 = le-by (leftAt (jobsOf n task cost ready) t p) 0 none-left in
+            let z : leftAt (jobsOf n task cost charge ready) t p ≤ 0 = le-by (leftAt (jobsOf n task cost charge ready) t p) 0 none-left in
             omega arith
           where
-            none-left : 0 < leftAt (jobsOf n task cost ready) t p → ⊥
+            none-left : 0 < leftAt (jobsOf n task cost charge ready) t p → ⊥
             none-left u =
-                let x : getD head (getD task p 0) 0 ≤ p = head-le (jobsOf n task cost ready) tasks running t head (s .heads) p l u in
+                let x : getD head (getD task p 0) 0 ≤ p = head-le (jobsOf n task cost charge ready) tasks running t head (s .heads) p l u in
                 omega (
                   arith,
                   f,
                   earliest-le (λ k. wakeOf ready n (getD head k 0)) tasks (getD task p 0) (r .known p l),
                   wake-in ready n (getD head (getD task p 0) 0) (omega arith),
-                  head-start (jobsOf n task cost ready) tasks running t head (s .heads) p l u,
+                  head-start (jobsOf n task cost charge ready) tasks running t head (s .heads) p l u,
                 )
 
-        wakes : (k : ℕ) → k < tasks → new ≡ wakeOf ready n (getD head k 0) → Running (jobsOf n task cost ready) tasks (t + 1) new head left finish held
+        wakes : (k : ℕ) → k < tasks → new ≡ wakeOf ready n (getD head k 0) → Running (jobsOf n task cost charge ready) tasks (t + 1) new head left finish held
         wakes k l x =
-            tick-idle (jobsOf n task cost ready) tasks running t wake head left finish held s new
-            (runs-idle (jobsOf n task cost ready) tasks running t head (s .heads) rests)
+            tick-idle (jobsOf n task cost charge ready) tasks running t wake head left finish held s new
+            (runs-idle (jobsOf n task cost charge ready) tasks running t head (s .heads) rests)
             early
             (omega (arith, before-end))
             (omega (arith, before-end, later))
@@ -106,70 +106,70 @@ module _ (n tasks : ℕ) (task cost ready held : List ℕ) (r : Runnable n tasks
             inside : getD head k 0 < n
             inside = le-by (suc (getD head k 0)) n (λ a. h (x ∙ wake-out ready n (getD head k 0) (omega arith)))
 
-            at : new ≡ jobsOf n task cost ready .start (getD head k 0)
+            at : new ≡ jobsOf n task cost charge ready .start (getD head k 0)
             at = x ∙ wake-in ready n (getD head k 0) inside
 
             before-end : new ≤ maxFinish
-            before-end = omega (arith, at, start-soon (jobsOf n task cost ready) tasks running (getD head k 0) inside)
+            before-end = omega (arith, at, start-soon (jobsOf n task cost charge ready) tasks running (getD head k 0) inside)
 
             later : t < new
             later = le-by (suc t) new (λ a. rests k l (inside, omega (arith, at)))
 
         go : (wakeAll head ready n tasks ≡ never) ⊎ ((k : ℕ) × (k < tasks) × (wakeAll head ready n tasks ≡ wakeOf ready n (getD head k 0)))
-            → Running (jobsOf n task cost ready) tasks (t + 1) new head left finish held
+            → Running (jobsOf n task cost charge ready) tasks (t + 1) new head left finish held
         go (inl x) = absurd (h (f ∙ x))
         go (inr (k, l, x)) = wakes k l (f ∙ x)
 
     -- the job that runs, where one may
-    pub fill-top : (i : ℕ) → i ≡ topReady head ready n tasks t → (i ≡ tasks → ⊥) → Top (jobsOf n task cost ready) tasks t head left i
+    pub fill-top : (i : ℕ) → i ≡ topReady head ready n tasks t → (i ≡ tasks → ⊥) → Top (jobsOf n task cost charge ready) tasks t head left i
     fill-top i e g =
         record {
           task-in = l;
           inside = m .0;
-          picked = runs-head (jobsOf n task cost ready) tasks running t head (s .heads) i l m (none-above n tasks task cost ready head t (s .time) i e);
+          picked = runs-head (jobsOf n task cost charge ready) tasks running t head (s .heads) i l m (none-above n tasks task cost charge ready head t (s .time) i e);
           some-left = omega (arith, s .lefts .each i l (m .0), s .heads .unfinished i l (m .0));
-          not-last = not-over (jobsOf n task cost ready) tasks running t (getD head i 0) (m .0) (s .heads .unfinished i l (m .0));
+          not-last = not-over (jobsOf n task cost charge ready) tasks running t (getD head i 0) (m .0) (s .heads .unfinished i l (m .0));
         }
       where
-        found : (i < tasks) × May (jobsOf n task cost ready) t head i
-        found = one-found n tasks task cost ready head t (s .time) i e g
+        found : (i < tasks) × May (jobsOf n task cost charge ready) t head i
+        found = one-found n tasks task cost charge ready head t (s .time) i e g
 
         l : i < tasks
         l = found .0
 
-        m : May (jobsOf n task cost ready) t head i
+        m : May (jobsOf n task cost charge ready) t head i
         m = found .1
 
     -- that job is not finished after the tick
     pub fill-run : (i rest : ℕ)
-        → Top (jobsOf n task cost ready) tasks t head left i
+        → Top (jobsOf n task cost charge ready) tasks t head left i
         → wake ≤ t
         → rest ≡ getD left i 0 - 1
         → (rest ≡ 0 → ⊥)
-        → Filling n tasks task cost ready held (t + 1) wake head (set left i rest) finish
+        → Filling n tasks task cost charge ready held (t + 1) wake head (set left i rest) finish
     fill-run i rest k a b d =
         filling (t + 1) wake head (set left i rest) finish
-        (tick-run (jobsOf n task cost ready) tasks running t wake head left finish held s i (k .task-in) (k .inside) (k .picked) a rest b (omega (arith, d)))
+        (tick-run (jobsOf n task cost charge ready) tasks running t wake head left finish held s i (k .task-in) (k .inside) (k .picked) a rest b (omega (arith, d)))
 
     -- it is finished after the tick
     pub fill-done : (i rest next work : ℕ)
-        → Top (jobsOf n task cost ready) tasks t head left i
+        → Top (jobsOf n task cost charge ready) tasks t head left i
         → wake ≤ t
         → rest ≡ getD left i 0 - 1
         → rest ≡ 0
         → next ≡ nextOf task n i (getD head i 0 + 1)
-        → work ≡ workOf cost n next
-        → Filling n tasks task cost ready held (t + 1) wake (set head i next) (set left i work) (set finish (getD head i 0) (t + 1))
+        → work ≡ workOf cost charge n next
+        → Filling n tasks task cost charge ready held (t + 1) wake (set head i next) (set left i work) (set finish (getD head i 0) (t + 1))
     fill-done i rest next work k a b d g c =
         filling (t + 1) wake (set head i next) (set left i work) (set finish (getD head i 0) (t + 1))
-        (tick-finish (jobsOf n task cost ready) tasks running t wake head left finish held s i (k .task-in) (k .inside) (k .picked) a rest next work b d g
-        (λ l. c ∙ work-in cost n next l))
+        (tick-finish (jobsOf n task cost charge ready) tasks running t wake head left finish held s i (k .task-in) (k .inside) (k .picked) a rest next work b d g
+        (λ l. c ∙ work-in cost charge n next l))
 
     -- every job is finished: the column
-    pub fill-end : wakeAll head ready n tasks ≡ never → finish ≡ table (finishOf (jobsOf n task cost ready)) n ++ drop n held
+    pub fill-end : wakeAll head ready n tasks ≡ never → finish ≡ table (finishOf (jobsOf n task cost charge ready)) n ++ drop n held
     fill-end e =
-        written-end (jobsOf n task cost ready) t finish held (s .written)
-        (all-finished (jobsOf n task cost ready) tasks running t head (s .heads) none-left)
+        written-end (jobsOf n task cost charge ready) t finish held (s .written)
+        (all-finished (jobsOf n task cost charge ready) tasks running t head (s .heads) none-left)
       where
         none-left : (k : ℕ) → k < tasks → n ≤ getD head k 0
         none-left k l =
@@ -179,5 +179,5 @@ module _ (n tasks : ℕ) (task cost ready held : List ℕ) (r : Runnable n tasks
               earliest-le (λ x. wakeOf ready n (getD head x 0)) tasks k l,
               wake-in ready n (getD head k 0) a,
               start-soon
-                  (jobsOf n task cost ready) tasks running (getD head k 0) a,
+                  (jobsOf n task cost charge ready) tasks running (getD head k 0) a,
             ))

@@ -25,19 +25,20 @@ ghost use Rattle.queues.specs.Queues.{jobsOf, Runnable};
 fn fill_finish(
     task: &[u32],
     cost: &[u32],
+    charge: u32,
     ready: &[u64],
     n: usize,
     tasks: usize,
     finish: &mut [u64],
 )
-    requires { ⌜ Runnable n tasks (now task) (now cost) (now ready) (now finish) ⌝ }
+    requires { ⌜ Runnable n tasks (now task) (now cost) charge (now ready) (now finish) ⌝ }
     ensures { λ _. ⌜
         now (finish .exit)
-        ≡ table (finishOf (jobsOf n (now (task .entry)) (now (cost .entry)) (now (ready .entry)))) n ++ drop n (now (finish .entry))
+        ≡ table (finishOf (jobsOf n (now (task .entry)) (now (cost .entry)) charge (now (ready .entry)))) n ++ drop n (now (finish .entry))
         ⌝ }
 {
     let mut head = first_jobs(task, n, tasks);
-    let mut left = first_work(&head, cost, n, tasks);
+    let mut left = first_work(&head, cost, charge, n, tasks);
     let mut wake: u64 = 0;
     let mut t: u64 = 0;
     loop {
@@ -64,7 +65,7 @@ fn fill_finish(
         finish[p] = t;
         let next = next_of(task, n, i as u32, p + 1);
         head[i] = next;
-        left[i] = work_of(cost, n, next);
+        left[i] = work_of(cost, charge, n, next);
     }
 }
 
@@ -103,6 +104,7 @@ pub fn run(
         return checked;
     };
     let tasks = s.count;
-    fill_finish(task, cost, ready, count, tasks, finish);
+    let charge = s.charge as u32;
+    fill_finish(task, cost, charge, ready, count, tasks, finish);
     Checked::Fine
 }

@@ -6,8 +6,8 @@ use Rattle.model.proofs.SameAnswers.{same-answers}
 use Rattle.taskset.specs.declared.TaskSet.{TaskSet}
 use Rattle.taskset.specs.TaskSet.{entryOf, viewOf}
 
--- two task sets with equal counts and equal entries below the count ..
-module _ (s s′ : TaskSet) (count : s .count ≡ s′ .count) (entries : (i : ℕ) → i < s .count → entryOf s i ≡ entryOf s′ i) where
+-- two task sets with equal counts, equal charges and equal entries below the count ..
+module _ (s s′ : TaskSet) (count : s .count ≡ s′ .count) (charge : s .charge ≡ s′ .charge) (entries : (i : ℕ) → i < s .count → entryOf s i ≡ entryOf s′ i) where
   -- .. are the same sheet below the count ..
   pub same-entries : SameTasks (viewOf s) (viewOf s′)
   same-entries =
@@ -17,6 +17,7 @@ module _ (s s′ : TaskSet) (count : s .count ≡ s′ .count) (entries : (i : �
         jitter = λ i l. ap (λ t. t .jitter) (entries i l);
         cost = λ i l. ap (λ t. t .cost) (entries i l);
         deadline = λ i l. ap (λ t. t .deadline) (entries i l);
+        charge = charge;
       }
 
   -- .. and get the same answer of every call

@@ -24,6 +24,7 @@ viewOf s = record {
   jitter = λ i. entryOf s i .jitter;
   cost = λ i. entryOf s i .cost;
   deadline = λ i. entryOf s i .deadline;
+  charge = s .charge;
 }
 
 -- the refusal that an answer of a check holds, if any

@@ -4,7 +4,7 @@ ghost use Prim.Native.Nat.{_≤_};
 ghost use mathlib.Core.Option.{some};
 ghost use lib.ListN.{length};
 ghost use Rattle.model.specs.Choice.{column};
-ghost use Rattle.model.specs.Checks.{inRange, checkTasks, checkKept};
+ghost use Rattle.model.specs.Checks.{inRange, entryFault, faultAt, checkTasks, checkKept};
 ghost use Rattle.taskset.specs.TaskSet.{viewOf, refusalIn};
 
 // "Pickup": the ticks from a job's ready tick to the first in which it may run. R(q) has as many more.
@@ -18,10 +18,12 @@ pub struct Task {
     pub deadline: u32,
 }
 
-// "Sheet": a count and 32 task entries, task 0 with the highest priority. Entries past the count are not looked at.
+// "Sheet": a count and 32 task entries, task 0 with the highest priority, and the charge S that each job takes beside its cost, 0 where
+// there is none. Entries past the count are not looked at.
 pub struct TaskSet {
     pub tasks: [Task; 32],
     pub count: usize,
+    pub charge: u8,
 }
 
 // What a check answers: nothing wrong, or document 01's number and place.
@@ -58,7 +60,37 @@ pub fn in_range(t: Task) -> bool
     true
 }
 
-// The check of a sheet: 5, 4, then 6 by task.
+// What is wrong with a task of a sheet with a charge: 6, then 17, with the place given. Without a charge there is no more to look at
+// after 6.
+pub fn check_entry(charge: u8, at: usize, t: Task) -> Checked
+    ensures { λ r. ⌜ refusalIn r ≡ faultAt at (entryFault charge (t .period) (t .jitter) (t .cost) (t .deadline)) ⌝ }
+{
+    if !in_range(t) {
+        return Checked::Refused {
+            number: 6,
+            place: at,
+        };
+    }
+    if charge == 0 {
+        return Checked::Fine;
+    }
+    let load = t.cost + charge as u32;
+    if t.period < load {
+        return Checked::Refused {
+            number: 17,
+            place: at,
+        };
+    }
+    if t.deadline < load {
+        return Checked::Refused {
+            number: 17,
+            place: at,
+        };
+    }
+    Checked::Fine
+}
+
+// The check of a sheet: 5, 4, then 6 and 17 by task.
 pub fn check(s: TaskSet) -> Checked
     ensures { λ r. ⌜ refusalIn r ≡ checkTasks (viewOf s) ⌝ }
 {
@@ -78,12 +110,10 @@ pub fn check(s: TaskSet) -> Checked
     let mut i = 0;
     while i < count {
         let t = s.tasks[i];
-        if !in_range(t) {
-            return Checked::Refused {
-                number: 6,
-                place: i,
-            };
-        }
+        let k = check_entry(s.charge, i, t);
+        let Checked::Fine = k else {
+            return k;
+        };
         i += 1;
     }
     Checked::Fine

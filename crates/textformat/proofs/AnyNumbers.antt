@@ -10,6 +10,7 @@ use Rattle.model.specs.Limits.{maxTime}
 use Rattle.model.specs.Tasks.{InRange}
 use Rattle.model.specs.Checks.{inRange}
 use Rattle.model.proofs.CheckLaws.{in-range-yes, in-range-of, in-range-no}
+use Rattle.model.proofs.ChargeLaws.{entry-uncharged}
 use Rattle.taskset.specs.declared.Task.{Task}
 use Rattle.fileformat.specs.File.{taskFault}
 use Rattle.fileformat.proofs.StepLaws.{task-same, task-ranged}
@@ -35,13 +36,16 @@ module _ (c : ℕ) (over : maxTime < c) where
       go false e = in-range-no _ _ _ _ (λ r. true≢false (sym (in-range-yes P J E D (whole r)) ∙ e)) ∙ sym e
 
   -- and so the task has the same fault
-  pub same-fault : (n : ℕ) (t : Task) → taskFault n 0 (cutAt c t) ≡ taskFault n 0 t
-  same-fault n t = task-same n 0 (cutAt c t) t (same-range (t .period) (t .jitter) (t .cost) (t .deadline))
+  pub same-fault : (n : ℕ) (t : Task) → taskFault 0 n 0 (cutAt c t) ≡ taskFault 0 n 0 t
+  same-fault n t =
+      task-same 0 n 0 (cutAt c t) t
+      (entry-uncharged _ _ _ _ ∙ ap (λ b. elim b [ false ↦ some 6 | true ↦ none ]) (same-range (t .period) (t .jitter) (t .cost) (t .deadline))
+      ∙ sym (entry-uncharged _ _ _ _))
 
   -- without a fault nothing was cut off
-  pub uncut : (n : ℕ) (t : Task) → taskFault n 0 t ≡ none → cutAt c t ≡ t
+  pub uncut : (n : ℕ) (t : Task) → taskFault 0 n 0 t ≡ none → cutAt c t ≡ t
   uncut n t e =
-      let r = task-ranged n 0 t e in
+      let r = task-ranged 0 n 0 t e in
       let p : min c (t .period) ≡ t .period = omega (arith, over, r .period-high) in
       let j : min c (t .jitter) ≡ t .jitter = omega (arith, over, r .jitter-high) in
       let k : min c (t .cost) ≡ t .cost = omega (arith, over, r .cost-period, r .period-high) in
@@ -51,10 +55,10 @@ module _ (c : ℕ) (over : maxTime < c) where
   -- the lines of tasks whose numbers were cut are refused alike, or give the tasks
   pub same-load : (us ts : List Task) → loadFrom ts (map lineOf (map (cutAt c) us)) ≡ loadFrom ts (map lineOf us)
   same-load [] ts = refl
-  same-load (t ∷ us) ts = go (taskFault (length ts) 0 t) refl (same-load us (ts ++ (t ∷ [])))
+  same-load (t ∷ us) ts = go (taskFault 0 (length ts) 0 t) refl (same-load us (ts ++ (t ∷ [])))
     where
       go
-          : (o : Option ℕ) → taskFault (length ts) 0 t ≡ o
+          : (o : Option ℕ) → taskFault 0 (length ts) 0 t ≡ o
           → loadFrom (ts ++ (t ∷ [])) (map lineOf (map (cutAt c) us)) ≡ loadFrom (ts ++ (t ∷ [])) (map lineOf us)
           → loadFrom ts (lineOf (cutAt c t) ∷ map lineOf (map (cutAt c) us)) ≡ loadFrom ts (lineOf t ∷ map lineOf us)
       go (some k) f ih =

@@ -26,18 +26,18 @@ lines-after (t ∷ ts) rest =
 
 -- lines of tasks without a fault are taken, whatever follows them
 pub all-taken
-    : (us ts : List Task) (l : List Line) → ((i : ℕ) → i < length us → taskFault (length ts + i) 0 (getD us i noTask) ≡ none)
+    : (us ts : List Task) (l : List Line) → ((i : ℕ) → i < length us → taskFault 0 (length ts + i) 0 (getD us i noTask) ≡ none)
     → loadFrom ts (map lineOf us ++ l) ≡ loadFrom (ts ++ us) l
 all-taken [] ts l h = ap (λ x. loadFrom x l) (sym (append-nil ts))
 all-taken (t ∷ us) ts l h =
     let a : length ts ≡ length ts + 0 = omega arith in
-    task-line ts t (map lineOf us ++ l) (ap (λ n. taskFault n 0 t) a ∙ h 0 (omega arith)) ∙ all-taken us (ts ++ (t ∷ [])) l after
+    task-line ts t (map lineOf us ++ l) (ap (λ n. taskFault 0 n 0 t) a ∙ h 0 (omega arith)) ∙ all-taken us (ts ++ (t ∷ [])) l after
     ∙ ap (λ x. loadFrom x l) (append-snoc ts t us)
   where
-    after : (i : ℕ) → i < length us → taskFault (length (ts ++ (t ∷ [])) + i) 0 (getD us i noTask) ≡ none
+    after : (i : ℕ) → i < length us → taskFault 0 (length (ts ++ (t ∷ [])) + i) 0 (getD us i noTask) ≡ none
     after i g =
         let b : length (ts ++ (t ∷ [])) + i ≡ length ts + suc i = omega (arith, length-append ts (t ∷ [])) in
-        ap (λ n. taskFault n 0 (getD us i noTask)) b ∙ h (suc i) (omega arith)
+        ap (λ n. taskFault 0 n 0 (getD us i noTask)) b ∙ h (suc i) (omega arith)
 
 -- a line of another form
 pub other-line : (ts : List Task) (x : Line) (l : List Line) → hasForm x ≡ false → loadFrom ts (x ∷ l) ≡ refused (record { number = 16; place = length ts })
@@ -50,8 +50,8 @@ unfolding load
 other-form ts rest x l h e f =
     ap (loadFrom []) (lines-after ts rest ∙ ap (λ y. map lineOf ts ++ y) e) ∙ all-taken ts [] (x ∷ l) fine ∙ other-line ts x l f
   where
-    fine : (i : ℕ) → i < length ts → taskFault (0 + i) 0 (getD ts i noTask) ≡ none
-    fine i g = let a : 0 + i ≡ i = omega arith in ap (λ n. taskFault n 0 (getD ts i noTask)) a ∙ h i g
+    fine : (i : ℕ) → i < length ts → taskFault 0 (0 + i) 0 (getD ts i noTask) ≡ none
+    fine i g = let a : 0 + i ≡ i = omega arith in ap (λ n. taskFault 0 n 0 (getD ts i noTask)) a ∙ h i g
 
 -- the refusal at the end is 5
 end-refused : (ts : List Task) (r : Refusal) → loadFrom ts [] ≡ refused r → r .number ≡ 5
@@ -65,10 +65,10 @@ refused-stays
     : (us ts : List Task) (l : List Line) (r : Refusal) → loadFrom ts (map lineOf us) ≡ refused r → (r .number ≡ 5 → ⊥)
     → loadFrom ts (map lineOf us ++ l) ≡ refused r
 refused-stays [] ts l r e h = absurd (h (end-refused ts r e))
-refused-stays (t ∷ us) ts l r e h = go (taskFault (length ts) 0 t) refl (refused-stays us (ts ++ (t ∷ [])) l r)
+refused-stays (t ∷ us) ts l r e h = go (taskFault 0 (length ts) 0 t) refl (refused-stays us (ts ++ (t ∷ [])) l r)
   where
     go
-        : (o : Option ℕ) → taskFault (length ts) 0 t ≡ o
+        : (o : Option ℕ) → taskFault 0 (length ts) 0 t ≡ o
         → (loadFrom (ts ++ (t ∷ [])) (map lineOf us) ≡ refused r → (r .number ≡ 5 → ⊥) → loadFrom (ts ++ (t ∷ [])) (map lineOf us ++ l) ≡ refused r)
         → loadFrom ts (lineOf t ∷ (map lineOf us ++ l)) ≡ refused r
     go (some k) f ih =

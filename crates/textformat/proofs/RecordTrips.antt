@@ -15,7 +15,7 @@ use Rattle.fileformat.specs.File.{File, joined, encode, decode, readFrom, after
 use Rattle.fileformat.specs.FileCalls.{listBytes}
 use Rattle.fileformat.proofs.RecordLaws.{TaskFits, length-task, task-read, record-end}
 use Rattle.fileformat.proofs.StepLaws.{task-stops, task-taken, end-stops, end-taken, read-stop, read-next, read-last}
-use Rattle.fileformat.proofs.RoundTrips.{taskPart, encode-parts, length-encode, tasksOnly, decode-encode}
+use Rattle.fileformat.proofs.RoundTrips.{taskPart, encode-parts, no-charge-part, no-charge-bytes, length-encode, tasksOnly, decode-encode}
 use Rattle.textformat.specs.TextSheet.{loadFrom, load, textOf}
 use Rattle.textformat.specs.TextTrips.{tasksAlone, LoadedIsRead, inRecords}
 use Rattle.textformat.proofs.TextTrips.{lineOf, sheet-lines, line-fault, load-stop, task-line, load-none, load-end, loaded-valid}
@@ -23,7 +23,7 @@ use Rattle.textformat.proofs.TextTrips.{lineOf, sheet-lines, line-fault
 -- the sheet that is loaded is read from the file that holds it
 pub loaded-is-read : LoadedIsRead
 unfolding checkReleases
-loaded-is-read text ts e = decode-encode (tasksAlone ts) (record { tasks = loaded-valid text ts e; releases = refl; few = omega arith })
+loaded-is-read text ts e = decode-encode (tasksAlone ts) (omega arith) (record { tasks = loaded-valid text ts e; releases = refl; few = omega arith })
 
 -- a refusal of a line and that of its record
 refused-same : (k n at : ℕ) → at ≡ 17 * n → _≡_ {A = Answer File} (refused (record { number = k; place = at })) (inRecords (refused (record { number = k; place = n })))
@@ -54,14 +54,14 @@ same-from [] n ts at h a = let e : 0 + suc n ≡ suc n = omega arith in rw e (sa
 same-from (t ∷ l) n ts at h a =
     let e : suc (length l) + suc n ≡ suc (length l + suc n) = omega arith in
     ap₂ (λ k f. readFrom k (tasksOnly ts) at f) e (append-assoc (taskBytes t) (taskPart l) (3 ∷ []))
-    ∙ go (taskFault (length ts) 0 t) refl
+    ∙ go (taskFault 0 (length ts) 0 t) refl
     (same-from l n (ts ++ (t ∷ [])) (at + 17) (λ i g. h (suc i) (omega arith)) (omega (arith, length-append ts (t ∷ []))))
   where
     f : List ℕ
     f = taskBytes t ++ (taskPart l ++ (3 ∷ []))
 
     go
-        : (o : Option ℕ) → taskFault (length ts) 0 t ≡ o
+        : (o : Option ℕ) → taskFault 0 (length ts) 0 t ≡ o
         → readFrom (length l + suc n) (tasksOnly (ts ++ (t ∷ []))) (at + 17) (taskPart l ++ (3 ∷ [])) ≡ inRecords (loadFrom (ts ++ (t ∷ [])) (map lineOf l))
         → readFrom (suc (length l + suc n)) (tasksOnly ts) at f ≡ inRecords (loadFrom ts (lineOf t ∷ map lineOf l))
     go (some k) e ih =
@@ -78,6 +78,7 @@ same-from (t ∷ l) n ts at h a =
 pub same-if-fit : (ts : List Task) → AllFit ts → decode (encode (tasksAlone ts)) ≡ inRecords (load (textOf ts))
 unfolding decode load joined listBytes
 same-if-fit ts h =
-    let e : suc (length (encode (tasksAlone ts))) ≡ length ts + suc (16 * length ts + 1) = omega (arith, length-encode (tasksAlone ts)) in
-    ap₂ (λ k f. readFrom k empty 0 f) e (encode-parts (tasksAlone ts)) ∙ same-from ts (16 * length ts + 1) [] 0 h refl
+    let e : suc (length (encode (tasksAlone ts))) ≡ length ts + suc (16 * length ts + 1) = omega (arith, length-encode (tasksAlone ts), no-charge-bytes) in
+    ap₂ (λ k f. readFrom k empty 0 f) e (encode-parts (tasksAlone ts) ∙ ap (λ a. a ++ (taskPart ts ++ (3 ∷ []))) no-charge-part)
+    ∙ same-from ts (16 * length ts + 1) [] 0 h refl
     ∙ ap (λ x. inRecords (loadFrom [] x)) (sym (sheet-lines ts))

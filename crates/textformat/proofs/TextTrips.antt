@@ -1,5 +1,5 @@
 -- Texts and sheets, both ways: the line of a task, the text of a sheet, and what is loaded.
-use Prim.Native.Nat.{ℕ, suc, _+_, _≤_}
+use Prim.Native.Nat.{ℕ, suc, _+_, _≤_, _<_}
 use mathlib.Core.Path.{_≡_, refl, sym, ap, _∙_}
 use mathlib.Core.Bool.{Bool, true, false}
 use mathlib.Core.Option.{Option, some, none}
@@ -12,12 +12,13 @@ use lib.Seq.{append-snoc}
 use Rattle.model.specs.Limits.{maxTasks}
 use Rattle.model.specs.Tasks.{Valid}
 use Rattle.model.specs.Refusal.{refused, answered}
-use Rattle.model.specs.Checks.{inRange}
+use Rattle.model.specs.Checks.{inRange, carries, entryFault}
 use Rattle.model.proofs.CheckLaws.{both, in-range-yes, valid-of, valid-passes}
+use Rattle.model.proofs.ChargeLaws.{entry-uncharged}
 use Rattle.taskset.specs.declared.Task.{Task}
 use Rattle.fileformat.specs.File.{sheetOf, taskFault, endFault}
-use Rattle.fileformat.proofs.StepLaws.{task-fine, task-few, task-ranged, end-early, end-fine}
-use Rattle.fileformat.proofs.RoundTrips.{never-answered, AllRanged, ranged-more}
+use Rattle.fileformat.proofs.StepLaws.{Ranged, task-numbers, task-few, task-ranged, end-early, end-fine}
+use Rattle.fileformat.proofs.RoundTrips.{never-answered, AllRanged, all-more}
 use Rattle.text.specs.Text.{lineFeed, decimal, field}
 use Rattle.textformat.specs.Numerals.{isDigit, allDigits, isNumeral, valueFrom, value}
 use Rattle.textformat.specs.Lines.{comma, Line, lastLine, linesFrom, linesOf, fieldsFrom, fieldsOf}
@@ -28,7 +29,7 @@ use Rattle.textformat.proofs.LineLaws.{Without, without-append, digits-
 
 -- the order of the fields
 pub fields-in-order : FieldsInOrder
-unfolding load loadFrom linesOf linesFrom lastLine fieldsOf fieldsFrom isDigit allDigits isNumeral valueFrom value allNumerals isFour hasForm taskOf taskIn lineFault taskFault endFault inRange
+unfolding load loadFrom linesOf linesFrom lastLine fieldsOf fieldsFrom isDigit allDigits isNumeral valueFrom value allNumerals isFour hasForm taskOf taskIn lineFault taskFault endFault entryFault inRange carries
 fields-in-order = refl
 
 -- four fields
@@ -156,7 +157,7 @@ sheet-lines [] = refl
 sheet-lines (t ∷ l) = text-lines t (textOf l) ∙ ap (λ x. lineOf t ∷ x) (sheet-lines l)
 
 -- what is wrong with the line of a task is what is wrong with the task
-pub line-fault : (n : ℕ) (t : Task) → lineFault n (lineOf t) ≡ taskFault n 0 t
+pub line-fault : (n : ℕ) (t : Task) → lineFault n (lineOf t) ≡ taskFault 0 n 0 t
 unfolding lineFault
 line-fault n t = rw (lineFault, line-formed t, line-gives t)
 
@@ -181,14 +182,18 @@ module _ (ts : List Task) where
   load-end e = rw (loadFrom, e)
 
 -- the line of a task without a fault is taken
-pub task-line : (ts : List Task) (t : Task) (l : List Line) → taskFault (length ts) 0 t ≡ none → loadFrom ts (lineOf t ∷ l) ≡ loadFrom (ts ++ (t ∷ [])) l
+pub task-line : (ts : List Task) (t : Task) (l : List Line) → taskFault 0 (length ts) 0 t ≡ none → loadFrom ts (lineOf t ∷ l) ≡ loadFrom (ts ++ (t ∷ [])) l
 task-line ts t l e = load-next ts (lineOf t) l (line-fault (length ts) t ∙ e) ∙ ap (λ x. loadFrom (ts ++ (x ∷ [])) l) (line-gives t)
+
+-- a task within its limits has no fault, where there is room for it
+pub task-clear : (n : ℕ) (t : Task) → n < maxTasks → Ranged t → taskFault 0 n 0 t ≡ none
+task-clear n t l h = task-numbers 0 n 0 t refl l ∙ entry-uncharged _ _ _ _ ∙ rw (in-range-yes _ _ _ _ h)
 
 loads-tasks
     : (l ts : List Task) → AllRanged l → length ts + length l ≤ maxTasks → 1 ≤ length ts + length l → loadFrom ts (map lineOf l) ≡ answered (ts ++ l)
 loads-tasks [] ts h c s = load-end ts (end-fine (length ts) (omega arith)) ∙ ap answered (sym (append-nil ts))
 loads-tasks (t ∷ l) ts h c s =
-    task-line ts t (map lineOf l) (task-fine (length ts) 0 t refl (omega arith) (in-range-yes _ _ _ _ (h 0 (omega arith))))
+    task-line ts t (map lineOf l) (task-clear (length ts) t (omega arith) (h 0 (omega arith)))
     ∙ loads-tasks l (ts ++ (t ∷ [])) (λ i g. h (suc i) (omega arith)) (omega (arith, length-append ts (t ∷ []))) (omega (arith, length-append ts (t ∷ [])))
     ∙ ap answered (append-snoc ts t l)
 
@@ -202,7 +207,7 @@ text-loads ts h =
 -- a line that is taken: it has the form, and its task no fault
 pub record TakenLine (n : ℕ) (x : Line) : Type 0 where
   pub formed : hasForm x ≡ true
-  pub fine : taskFault n 0 (taskIn x) ≡ none
+  pub fine : taskFault 0 n 0 (taskIn x) ≡ none
 
 -- a line without a fault
 pub taken-of : (n : ℕ) (x : Line) → lineFault n x ≡ none → TakenLine n x
@@ -254,10 +259,16 @@ unfolding load textOf
 loaded-is-text text ts e = loads-text [] (linesOf text) ts (loads-of [] (linesOf text) ts e) ∙ lines-join text
 
 loads-valid : (ts : List Task) (l : List Line) (us : List Task) → Loads ts l us → AllRanged ts → length ts ≤ maxTasks → Valid (sheetOf us)
-loads-valid ts l us (ends vs h) r f = record { some-task = h; few-tasks = f; in-range = r }
+loads-valid ts l us (ends vs h) r f =
+    record {
+      some-task = h;
+      few-tasks = f;
+      in-range = r;
+      carried = λ i g. record { load-period = omega (arith, r i g .cost-period); load-deadline = omega (arith, r i g .cost-deadline) };
+    }
 loads-valid ts l us (takes vs x m ws k n) r f =
-    loads-valid (vs ++ (taskIn x ∷ [])) m ws n (ranged-more vs (taskIn x) r (task-ranged _ 0 (taskIn x) (k .fine)))
-    (omega (arith, length-append vs (taskIn x ∷ []), task-few _ 0 (taskIn x) (k .fine)))
+    loads-valid (vs ++ (taskIn x ∷ [])) m ws n (all-more Ranged vs (taskIn x) r (task-ranged 0 _ 0 (taskIn x) (k .fine)))
+    (omega (arith, length-append vs (taskIn x ∷ []), task-few 0 _ 0 (taskIn x) (k .fine)))
 
 -- what is loaded is within document 01's limits
 pub loaded-valid : LoadedIsValid

@@ -40,9 +40,9 @@ taskOf fields = record {
 unfoldable pub taskIn : Line → Task
 taskIn x = taskOf (fieldsOf (x .bytes))
 
--- what is wrong with line n: 16, another form, "before 4 and 6 on that line"; then 4 and 6 as for a kind 1 record after n tasks
+-- what is wrong with line n: 16, another form, "before 4 and 6 on that line"; then 4 and 6 as for a kind 1 record after n tasks, without a charge
 unfoldable pub lineFault : ℕ → Line → Option ℕ
-lineFault n x = elim (hasForm x) [ false ↦ some 16 | true ↦ taskFault n 0 (taskIn x) ]
+lineFault n x = elim (hasForm x) [ false ↦ some 16 | true ↦ taskFault 0 n 0 (taskIn x) ]
 
 -- the lines after those that gave the tasks ts, one each, so that the next line's number, from 0, is their count. The earliest line decides; after the
 -- last one, 5 where there is none
@@ -58,7 +58,7 @@ loadFrom ts (x ∷ l) =
 unfoldable pub load : List ℕ → Answer (List Task)
 load text = loadFrom [] (linesOf text)
 
--- the sheet that is returned: entries past the count are 0; no task after a refusal
+-- the sheet that is returned, which has no charge: entries past the count are 0; no task after a refusal
 unfoldable pub loadSheet : Answer (List Task) → TaskSet
 loadSheet (refused q) = setOf []
 loadSheet (answered ts) = setOf ts

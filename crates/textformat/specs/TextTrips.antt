@@ -1,8 +1,10 @@
 -- Texts and sheets: both ways between them, which line decides, and the same numbers as kind 1 records. The laws named here prove the statements
--- (proofs/LineLaws.antt, proofs/TextTrips.antt, proofs/TextLength.antt, proofs/EarliestLine.antt, proofs/RecordTrips.antt, proofs/AnyNumbers.antt).
+-- (proofs/LineLaws.antt, proofs/TextTrips.antt, proofs/TextPlaces.antt, proofs/TextLength.antt, proofs/EarliestLine.antt, proofs/RecordTrips.antt,
+-- proofs/AnyNumbers.antt).
 use Prim.Native.Nat.{ℕ, _*_, _≤_, _<_, min}
 use mathlib.Core.Path.{_≡_}
 use mathlib.Core.Bool.{true, false}
+use mathlib.Core.Logic.{_⊎_}
 use mathlib.Core.Option.{none}
 use mathlib.Core.List.{List, [], _∷_, _++_, map}
 use lib.ListN.{length, getD}
@@ -31,6 +33,13 @@ LoadedIsText = (text : List ℕ) (ts : List Task) → load text ≡ answered ts 
 -- `loaded-valid`: what is loaded is within document 01's limits
 abbrev pub LoadedIsValid : Type 0
 LoadedIsValid = (text : List ℕ) (ts : List Task) → load text ≡ answered ts → checkTasks (sheetOf ts) ≡ none
+
+-- `text-numbers`: a text is refused with 4, 5, 6 or 16; without a charge 17 is not reached
+abbrev pub TextNumber : ℕ → Type 0
+TextNumber n = (n ≡ 4) ⊎ (n ≡ 5) ⊎ (n ≡ 6) ⊎ (n ≡ 16)
+
+abbrev pub TextNumbers : Type 0
+TextNumbers = (text : List ℕ) (r : Refusal) → load text ≡ refused r → TextNumber (r .number)
 
 -- 32 lines of four numbers of 7 digits, three commas and a line feed
 abbrev pub maxText : ℕ
@@ -70,7 +79,7 @@ LinesJoin = (text : List ℕ) → linesText (linesOf text) ≡ text
 -- `other-form`: a line of another form after lines that are accepted is 16 with its number, whatever follows it and whatever numbers it has
 abbrev pub OtherForm : Type 0
 OtherForm =
-    (ts : List Task) (rest : List ℕ) (x : Line) (l : List Line) → ((i : ℕ) → i < length ts → taskFault i 0 (getD ts i noTask) ≡ none)
+    (ts : List Task) (rest : List ℕ) (x : Line) (l : List Line) → ((i : ℕ) → i < length ts → taskFault 0 i 0 (getD ts i noTask) ≡ none)
     → linesOf rest ≡ x ∷ l → hasForm x ≡ false → load (textOf ts ++ rest) ≡ refused (record { number = 16; place = length ts })
 
 -- `earlier-decides`: lines of the form that are refused decide, whatever follows them; 5 is said of the end alone
@@ -78,9 +87,9 @@ abbrev pub EarlierDecides : Type 0
 EarlierDecides =
     (ts : List Task) (rest : List ℕ) (r : Refusal) → load (textOf ts) ≡ refused r → (r .number ≡ 5 → ⊥) → load (textOf ts ++ rest) ≡ refused r
 
--- the file of some tasks: kind 1 records and an end record
+-- the file of some tasks without a charge: kind 1 records and an end record
 abbrev pub tasksAlone : List Task → File
-tasksAlone ts = record { tasks = ts; releases = [] }
+tasksAlone ts = record { charge = 0; tasks = ts; releases = [] }
 
 -- `loaded-is-read`: the sheet that is loaded is the one that the same numbers give as kind 1 records
 abbrev pub LoadedIsRead : Type 0

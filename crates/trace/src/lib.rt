@@ -169,7 +169,7 @@ fn check_slots(
     Checked::Fine
 }
 
-// The checks of a call with kept jitters and a list: the sheet (5, 4, 6), the list's count (10), the lent slices (13), the kept jitters (12),
+// The checks of a call with kept jitters and a list: the sheet (5, 4, 6, 17), the list's count (10), the lent slices (13), the kept jitters (12),
 // the releases (7, 8, 9).
 pub fn check_call(
     s: TaskSet,

@@ -1,5 +1,5 @@
-// Runs the stored cases of read and write, and prints a line for each: the answer, the task set that a read returns, and every slot and byte of the
-// lent slices.
+// Runs the stored cases of read and write, and prints a line for each: the answer, the task set that a read returns with its charge, and every slot and
+// byte of the lent slices.
 use libc::STDOUT_FILENO;
 use reader::ReadOutcome;
 use taskset::TaskSet;
@@ -23,6 +23,12 @@ fn print_outcome(outcome: ReadOutcome) {
     }
 }
 
+// Prints the charge of a task set.
+fn print_charge(charge: u8) {
+    cases::print_words(b"charge");
+    cases::print_number(charge as u64);
+}
+
 // Prints a byte in two hexadecimal digits.
 fn print_byte(b: u8) {
     io::print_hex(STDOUT_FILENO, b as u64, 2);
@@ -41,7 +47,7 @@ fn print_bytes(bytes: &[u8], count: usize) {
     }
 }
 
-// Calls the read, and prints the answer, the task set and the columns lent.
+// Calls the read, and prints the answer, the task set, its charge and the columns lent.
 fn read_call(file: &[u8], task: &mut [u32], tick: &mut [u64], cost: &mut [u32])
     ensures { λ _. ⌜
         now (task .exit)
@@ -61,6 +67,7 @@ fn read_call(file: &[u8], task: &mut [u32], tick: &mut [u64], cost: &mut [u32])
     let tasks = answer.tasks;
     print_outcome(outcome);
     cases::print_task_set(tasks);
+    print_charge(tasks.charge);
     cases::print_column(task);
     cases::print_ticks(tick);
     cases::print_column(cost);

@@ -1,9 +1,10 @@
 -- A task of a sheet that passed its checks can be judged by its columns.
 use Prim.Native.Nat.{ℕ, _+_, _*_, _<_}
-use mathlib.Core.Path.{_≡_, refl}
+use mathlib.Core.Path.{_≡_, refl, _∙_}
 use mathlib.Core.List.{List}
 use mathlib.Core.Logic.{dite}
 use native.Mathlib.Omega.{arith}
+use native.Mathlib.Nat.{add-zero}
 use native.Mathlib.Decide.{decLt}
 use Rattle.model.specs.Choice.{column}
 use Rattle.model.specs.Verdict.{verdict}
@@ -40,6 +41,7 @@ module _ (s : TaskSet) (i : ℕ) (kept loads periods : List ℕ) (p : Passed (vi
   small : (j : ℕ) → j < s .count → Small (column loads j) (column periods j) (column kept j)
   small j l =
       let r = p .valid .in-range j l in
+      let g = p .valid .carried j l in
       record {
         load-high = omega (arith, c .load-is j l);
         period-low = omega (arith, c .period-is j l);
@@ -78,7 +80,7 @@ module _ (s : TaskSet) (i : ℕ) (kept loads periods : List ℕ) (p : Passed (vi
   judged =
       verdict-same (flatTasks loads periods (viewOf s .jitter i) (viewOf s .deadline i)) (viewOf s) (column kept) (column kept) i
       (record {
-        loads = λ j l. c .load-is j (omega (arith, p .known));
+        loads = λ j l. add-zero (column loads j) ∙ c .load-is j (omega (arith, p .known));
         periods = λ j l. c .period-is j (omega (arith, p .known));
         keeps = λ j l. refl;
         jitter = refl;

@@ -3,6 +3,7 @@ use Prim.Native.Nat.{ℕ, suc, _+_, _*_, _%_, _/_, _≤_, _<_}
 use mathlib.Core.Path.{_≡_, refl, sym, ap, ap₂, _∙_}
 use mathlib.Core.List.{List, [], _∷_, _++_, append-assoc}
 use native.Mathlib.Omega.{arith}
+use native.Mathlib.Nat.{mod-eq-of-lt}
 use native.Mathlib.Numerals.{add-one}
 use lib.ListN.{length, getD, take, drop, set, length-append}
 use lib.Seq.{length-sets, sets-eq, take-suc, take-all, getD-take, length-take-le}
@@ -12,12 +13,12 @@ use Rattle.taskset.specs.TaskSet.{noTask}
 use Rattle.releases.specs.Releases.{release}
 use Rattle.writer.specs.Writer.{stored}
 use Rattle.fileformat.specs.Numbers.{bytesOf}
-use Rattle.fileformat.specs.Records.{Width, kindOf, tickBytes, taskBytes, releaseBytes}
+use Rattle.fileformat.specs.Records.{Width, kindOf, tickBytes, taskBytes, releaseBytes, recordBytes}
 use Rattle.fileformat.specs.File.{joined}
 use Rattle.fileformat.specs.FileCalls.{tasksIn}
 use Rattle.fileformat.proofs.NumberLaws.{length-bytes, bytes-eight}
 use Rattle.fileformat.proofs.SheetLaws.{length-tasks}
-use Rattle.fileformat.proofs.RoundTrips.{taskPart, task-part-more, length-task-part}
+use Rattle.fileformat.proofs.RoundTrips.{taskPart, task-part-more, length-task-part, chargePart, no-charge-part, some-charge-part}
 
 -- a run of stores after another
 pub stored-more : (l a b : List ℕ) (i : ℕ) → stored l i (a ++ b) ≡ stored (stored l i a) (i + length a) b
@@ -116,30 +117,30 @@ put-release-bytes w l l₀ l₁ l₂ at task tick cost e₀ e₁ e₂ =
     (omega (arith, n, length-bytes k tick, length-append (bytesOf 1 task) (bytesOf k tick)))
     ∙ ap (λ x. stored l at (kindOf w ∷ x)) (append-assoc (bytesOf 1 task) (bytesOf k tick) (bytesOf 4 cost))
 
--- the tasks of a set, of which the first i are written
-pub record TasksPut (s : TaskSet) (held : List ℕ) (count : ℕ) (now : List ℕ) (at i : ℕ) : Type 0 where
+-- the tasks of a set, of which the first i are written from an offset on
+pub record TasksPut (s : TaskSet) (held : List ℕ) (from count : ℕ) (now : List ℕ) (at i : ℕ) : Type 0 where
   pub same : count ≡ s .count
   pub within : i ≤ s .count
   pub few : s .count ≤ 32
-  pub offset : at ≡ 17 * i
-  pub room : 17 * s .count ≤ length now
+  pub offset : at ≡ from + 17 * i
+  pub room : from + 17 * s .count ≤ length now
   pub long : length now ≡ length held
   pub in-array : s .count ≤ length (s .tasks)
-  pub front : now ≡ stored held 0 (taskPart (take i (tasksIn s)))
+  pub front : now ≡ stored held from (taskPart (take i (tasksIn s)))
 
-module _ (s : TaskSet) (held : List ℕ) where
-  pub tasks-none : s .count ≤ 32 → 17 * s .count ≤ length held → s .count ≤ length (s .tasks) → TasksPut s held (s .count) held 0 0
+module _ (s : TaskSet) (held : List ℕ) (from : ℕ) where
+  pub tasks-none : s .count ≤ 32 → from + 17 * s .count ≤ length held → s .count ≤ length (s .tasks) → TasksPut s held from (s .count) held from 0
   unfolding joined
   tasks-none f r a =
-      record { same = refl; within = omega arith; few = f; offset = omega arith; room = r; long = refl; in-array = a; front = stored-none held 0 }
+      record { same = refl; within = omega arith; few = f; offset = omega arith; room = r; long = refl; in-array = a; front = stored-none held from }
 
-  module _ (count : ℕ) (now : List ℕ) (at i : ℕ) (p : TasksPut s held count now at i) where
+  module _ (count : ℕ) (now : List ℕ) (at i : ℕ) (p : TasksPut s held from count now at i) where
     long-tasks : length (tasksIn s) ≡ s .count
     long-tasks = length-tasks s (p .in-array)
 
     pub tasks-next
         : (now′ : List ℕ) → i < count → now′ ≡ stored now at (taskBytes (getD (s .tasks) i noTask)) → length now′ ≡ length now
-        → TasksPut s held count now′ (at + 17) (i + 1)
+        → TasksPut s held from count now′ (at + 17) (i + 1)
     unfolding tasksIn
     tasks-next now′ h e g =
         let k : i < s .count = omega (arith, p .same) in
@@ -157,10 +158,19 @@ module _ (s : TaskSet) (held : List ℕ) where
           front =
               rw add-one
               (e ∙ ap (λ x. stored x at (taskBytes (getD (s .tasks) i noTask))) (p .front)
-              ∙ stored-at held (taskPart (take i (tasksIn s))) (taskBytes (getD (s .tasks) i noTask)) 0 at
+              ∙ stored-at held (taskPart (take i (tasksIn s))) (taskBytes (getD (s .tasks) i noTask)) from at
               (omega (arith, p .offset, length-task-part (take i (tasksIn s))))
-              ∙ ap (stored held 0) (sym (ap taskPart t ∙ task-part-more (take i (tasksIn s)) (getD (s .tasks) i noTask))));
+              ∙ ap (stored held from) (sym (ap taskPart t ∙ task-part-more (take i (tasksIn s)) (getD (s .tasks) i noTask))));
         }
 
-    pub tasks-all : count ≤ i → now ≡ stored held 0 (taskPart (tasksIn s))
-    tasks-all h = p .front ∙ ap (λ x. stored held 0 (taskPart x)) (take-all i (tasksIn s) (omega (arith, long-tasks, p .same)))
+    pub tasks-all : count ≤ i → now ≡ stored held from (taskPart (tasksIn s))
+    tasks-all h = p .front ∙ ap (λ x. stored held from (taskPart x)) (take-all i (tasksIn s) (omega (arith, long-tasks, p .same)))
+
+-- the stores of a charge, which there are where it is not 0
+pub put-no-charge : (l : List ℕ) (c : ℕ) → c ≡ 0 → l ≡ stored l 0 (chargePart c)
+put-no-charge l c z = stored-none l 0 ∙ ap (stored l 0) (sym (ap chargePart z ∙ no-charge-part))
+
+pub put-charge-bytes : (l : List ℕ) (c : ℕ) → 1 ≤ c → c < 256 → set (set l 0 5) 1 c ≡ stored l 0 (chargePart c)
+unfolding recordBytes bytesOf
+put-charge-bytes l c h g =
+    ap (λ x. set (set l 0 5) 1 x) (sym (mod-eq-of-lt g)) ∙ put-head-bytes l 0 5 c (c % 256) refl ∙ ap (stored l 0) (sym (some-charge-part c h))

@@ -17,28 +17,27 @@ use Rattle.model.proofs.TraceLaws.{trace-of}
 use Rattle.model.proofs.OrderLaws.{accepted-of, answers, refuses, column-kept, column-written}
 use Rattle.releases.proofs.ReleaseLaws.{Columns, length-releases, release-at}
 use Rattle.fileformat.specs.File.{encode}
-use Rattle.fileformat.specs.FileCalls.{tasksIn, listBytes, bytesNeeded, writeInputs, fileOf}
+use Rattle.fileformat.specs.FileCalls.{tasksIn, chargeBytes, listBytes, bytesNeeded, writeInputs, fileOf}
 use Rattle.fileformat.proofs.SheetLaws.{length-tasks}
-use Rattle.fileformat.proofs.RoundTrips.{taskPart, releasePart, encode-parts, length-encode, length-task-part, length-release-part}
+use Rattle.fileformat.proofs.RoundTrips.{chargePart, length-charge-part, taskPart, releasePart, encode-parts, length-encode, length-task-part, length-release-part}
 use Rattle.writer.specs.declared.WriteAnswer.the-variants.{Written, Refused}
-use Rattle.writer.specs.Writer.{stored, part, Rising, WriteSays}
+use Rattle.writer.specs.Writer.{stored, sheetPart, part, Rising, WriteSays}
 use Rattle.writer.proofs.StoreLaws.{stored-at, stored-one, stored-all}
 use Rattle.writer.proofs.PartLaws.{bytes-joined}
 
 -- the bytes that a write needs
-abbrev pub bytesLent : ℕ → List Release → ℕ → Lent
-bytesLent tasks l room = record { needed = bytesNeeded tasks l; slots = room }
+abbrev pub bytesLent : ℕ → ℕ → List Release → ℕ → Lent
+bytesLent charge tasks l room = record { needed = bytesNeeded charge tasks l; slots = room }
 
--- 13 for the bytes, `size` being those of the releases
-pub bytes-short
-    : (tasks size : ℕ) (l : List Release) (room : ℕ) → size ≡ listBytes l → room ≤ 17 * tasks + size
-    → refuse 13 (17 * tasks + size + 1) ≡ checkSlots (bytesLent tasks l room ∷ [])
-unfolding bytesNeeded
-bytes-short tasks size l room e h = ap (λ k. refuse 13 (17 * tasks + k + 1)) e ∙ slots-short _ _ (omega (arith, e))
+-- 13 for the bytes, `start` being those of the sheet and `size` those of the releases
+module _ (charge tasks start size : ℕ) (l : List Release) (room : ℕ) (b : start ≡ chargeBytes charge + 17 * tasks) (e : size ≡ listBytes l) where
+  pub bytes-short : room ≤ start + size → refuse 13 (start + size + 1) ≡ checkSlots (bytesLent charge tasks l room ∷ [])
+  unfolding bytesNeeded
+  bytes-short h = ap₂ (λ a k. refuse 13 (a + k + 1)) b e ∙ slots-short _ _ (omega (arith, b, e))
 
-pub bytes-long : (tasks size : ℕ) (l : List Release) (room : ℕ) → size ≡ listBytes l → 17 * tasks + size < room → none ≡ checkSlots (bytesLent tasks l room ∷ [])
-unfolding bytesNeeded
-bytes-long tasks size l room e h = slots-none ∙ sym (slots-next _ _ (omega (arith, e)))
+  pub bytes-long : start + size < room → none ≡ checkSlots (bytesLent charge tasks l room ∷ [])
+  unfolding bytesNeeded
+  bytes-long h = slots-none ∙ sym (slots-next _ _ (omega (arith, b, e)))
 
 -- the ticks of a list that passes its check never fall
 pub rising-of : (s : Tasks) (n : ℕ) (task tick cost : List ℕ) → none ≡ checkReleases s 0 0 (releasesOf n task tick cost) → Rising n tick
@@ -51,7 +50,7 @@ pub record WriteFits (s : TaskSet) (n : ℕ) (task tick cost : List ℕ) (room :
   pub few-tasks : s .count ≤ maxTasks
   pub few-releases : n ≤ maxReleases
   pub columns : Columns n task tick cost
-  pub bytes : 17 * s .count + listBytes (releasesOf n task tick cost) < room
+  pub bytes : chargeBytes (s .charge) + 17 * s .count + listBytes (releasesOf n task tick cost) < room
   pub rising : Rising n tick
 
 pub write-fits
@@ -62,7 +61,7 @@ write-fits s n task tick cost room e =
     let t = slot-of _ _ (a .lent) in
     let k = slot-of _ _ (t .1) in
     let c = slot-of _ _ (k .1) in
-    let b = slot-of (bytesLent (s .count) (releasesOf n task tick cost) room) [] (c .1) in
+    let b = slot-of (bytesLent (s .charge) (s .count) (releasesOf n task tick cost) room) [] (c .1) in
     record {
       few-tasks = valid-of (viewOf s) (sym (a .tasks)) .few-tasks;
       few-releases = count-of n (a .count);
@@ -93,36 +92,48 @@ module _ (s : TaskSet) (n : ℕ) (task tick cost out : List ℕ) where
   pub write-refused : (k p : ℕ) → refuse k p ≡ refusalOf inputs → WriteSays s n task tick cost out (Refused k p) out
   write-refused k p e = record { answer = refuses inputs _ _ e; bytes = column-kept _ _ _ out e }
 
+  -- where the releases begin, and where they end
+  abbrev start : ℕ
+  start = chargeBytes (s .charge) + 17 * s .count
+
+  abbrev end : ℕ
+  end = start + listBytes list
+
   module _ (h : s .count ≤ length (s .tasks)) where
-    long : length (encode (fileOf s n task tick cost)) ≡ 17 * s .count + listBytes list + 1
-    long = length-encode (fileOf s n task tick cost) ∙ ap (λ a. 17 * a + listBytes list + 1) (length-tasks s h)
+    long : length (encode (fileOf s n task tick cost)) ≡ end + 1
+    long = length-encode (fileOf s n task tick cost) ∙ ap (λ a. chargeBytes (s .charge) + 17 * a + listBytes list + 1) (length-tasks s h)
+
+    sheet-long : length (sheetPart s) ≡ start
+    sheet-long =
+        length-append (chargePart (s .charge)) (taskPart (tasksIn s))
+        ∙ ap₂ _+_ (length-charge-part (s .charge)) (length-task-part (tasksIn s) ∙ ap (λ k. 17 * k) (length-tasks s h))
+
+    parts : (sheetPart s ++ releasePart list) ++ (3 ∷ []) ≡ encode (fileOf s n task tick cost)
+    parts =
+        append-assoc (sheetPart s) (releasePart list) (3 ∷ [])
+        ∙ append-assoc (chargePart (s .charge)) (taskPart (tasksIn s)) (releasePart list ++ (3 ∷ []))
+        ∙ sym (encode-parts (fileOf s n task tick cost))
 
     filled
-        : (o₁ o₂ : List ℕ) → o₁ ≡ stored out 0 (taskPart (tasksIn s)) → o₂ ≡ stored o₁ (17 * s .count) (releasePart list)
-        → 17 * s .count + listBytes list < length out
-        → set o₂ (17 * s .count + listBytes list) 3 ≡ encode (fileOf s n task tick cost) ++ drop (length (encode (fileOf s n task tick cost))) out
+        : (o₁ o₂ : List ℕ) → o₁ ≡ stored out 0 (sheetPart s) → o₂ ≡ stored o₁ start (releasePart list) → end < length out
+        → set o₂ end 3 ≡ encode (fileOf s n task tick cost) ++ drop (length (encode (fileOf s n task tick cost))) out
     filled o₁ o₂ e₁ e₂ g =
-        let t : length (taskPart (tasksIn s)) ≡ 17 * s .count = length-task-part (tasksIn s) ∙ ap (λ k. 17 * k) (length-tasks s h) in
-        let r = length-release-part list in
-        stored-one o₂ (17 * s .count + listBytes list) 3
-        ∙ ap (λ x. stored x (17 * s .count + listBytes list) (3 ∷ []))
-        (e₂ ∙ ap (λ x. stored x (17 * s .count) (releasePart list)) e₁
-        ∙ stored-at out (taskPart (tasksIn s)) (releasePart list) 0 (17 * s .count) (omega (arith, t)))
-        ∙ stored-at out (taskPart (tasksIn s) ++ releasePart list) (3 ∷ []) 0 (17 * s .count + listBytes list)
-        (omega (arith, t, r, length-append (taskPart (tasksIn s)) (releasePart list)))
-        ∙ ap (stored out 0)
-        (append-assoc (taskPart (tasksIn s)) (releasePart list) (3 ∷ [])
-        ∙ sym (encode-parts (fileOf s n task tick cost)))
+        stored-one o₂ end 3
+        ∙ ap (λ x. stored x end (3 ∷ []))
+        (e₂ ∙ ap (λ x. stored x start (releasePart list)) e₁
+        ∙ stored-at out (sheetPart s) (releasePart list) 0 start (omega (arith, sheet-long)))
+        ∙ stored-at out (sheetPart s ++ releasePart list) (3 ∷ []) 0 end
+        (omega (arith, sheet-long, length-release-part list, length-append (sheetPart s) (releasePart list)))
+        ∙ ap (stored out 0) parts
         ∙ stored-all out (encode (fileOf s n task tick cost)) (omega (arith, long))
 
     -- the whole file is written, the releases ending at an offset
     pub write-done
-        : (o₁ o₂ : List ℕ) (end : ℕ) → none ≡ refusalOf inputs → o₁ ≡ stored out 0 (taskPart (tasksIn s))
-        → o₂ ≡ stored o₁ (17 * s .count) (releasePart list) → end ≡ 17 * s .count + listBytes list → 17 * s .count + listBytes list < length out
-        → WriteSays s n task tick cost out (Written (end + 1)) (set o₂ end 3)
-    write-done o₁ o₂ end e e₁ e₂ d g =
+        : (o₁ o₂ : List ℕ) (from last : ℕ) → none ≡ refusalOf inputs → o₁ ≡ stored out 0 (sheetPart s) → o₂ ≡ stored o₁ from (releasePart list)
+        → from ≡ start → last ≡ end → end < length out → WriteSays s n task tick cost out (Written (last + 1)) (set o₂ last 3)
+    write-done o₁ o₂ from last e e₁ e₂ b d g =
         rw d
         (record {
-          answer = answers inputs (17 * s .count + listBytes list + 1) e ∙ ap (answerOf inputs) (sym long);
-          bytes = filled o₁ o₂ e₁ e₂ g ∙ column-written _ _ _ out e refl;
+          answer = answers inputs (end + 1) e ∙ ap (answerOf inputs) (sym long);
+          bytes = filled o₁ o₂ e₁ (e₂ ∙ ap (λ k. stored o₁ k (releasePart list)) b) g ∙ column-written _ _ _ out e refl;
         })

@@ -1,7 +1,7 @@
 -- What an answer of the writer means, and what a write promises.
 use Prim.Native.Nat.{ℕ, suc, _≤_, _<_}
 use mathlib.Core.Path.{_≡_}
-use mathlib.Core.List.{List}
+use mathlib.Core.List.{List, _++_, map}
 use lib.ListN.{length, getD, drop}
 use lib.Seq.{sets}
 use Rattle.model.specs.Refusal.{Answer, refused, answered}
@@ -11,15 +11,19 @@ use Rattle.model.specs.Tasks.{Release}
 use Rattle.model.specs.Calls.{releasesOf, columnAfter}
 use Rattle.taskset.specs.declared.TaskSet.{TaskSet}
 use Rattle.taskset.specs.TaskSet.{viewOf}
-use Rattle.fileformat.specs.Records.{Width, widthFor}
-use Rattle.fileformat.specs.File.{encode}
-use Rattle.fileformat.specs.FileCalls.{writeInputs, fileOf}
+use Rattle.fileformat.specs.Records.{Width, taskRecord, widthFor}
+use Rattle.fileformat.specs.File.{chargeRecords, joined, encode}
+use Rattle.fileformat.specs.FileCalls.{tasksIn, writeInputs, fileOf}
 use Rattle.writer.specs.declared.WriteAnswer.{WriteAnswer}
 use Rattle.writer.specs.declared.WriteAnswer.the-variants.{Written, Refused}
 
 -- some bytes, with others stored from an offset on
 unfoldable pub stored : List ℕ → ℕ → List ℕ → List ℕ
 stored = sets
+
+-- the bytes of a sheet: those of its charge and of its tasks
+abbrev pub sheetPart : TaskSet → List ℕ
+sheetPart s = joined (chargeRecords (s .charge)) ++ joined (map taskRecord (tasksIn s))
 
 -- the releases of three columns from the place first up to last
 abbrev pub part : ℕ → ℕ → List ℕ → List ℕ → List ℕ → List Release

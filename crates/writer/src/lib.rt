@@ -12,11 +12,11 @@ ghost use Rattle.model.specs.Calls.{releasesOf};
 ghost use Rattle.releases.specs.Releases.{release};
 ghost use Rattle.fileformat.specs.Numbers.{bytesOf};
 ghost use Rattle.fileformat.specs.Records.{widthIn, taskRecord, taskBytes, releaseBytes, releaseSize, widthFor, writtenRecord};
-ghost use Rattle.fileformat.specs.File.{joined};
+ghost use Rattle.fileformat.specs.File.{chargeRecords, joined};
 ghost use Rattle.model.specs.Checks.{refusalOf};
 ghost use Rattle.taskset.specs.TaskSet.{viewOf, refusalIn};
-ghost use Rattle.fileformat.specs.FileCalls.{tasksIn, listBytes, writeInputs};
-ghost use Rattle.writer.specs.Writer.{stored, part, Alike, Rising, Cut, WriteSays};
+ghost use Rattle.fileformat.specs.FileCalls.{tasksIn, chargeBytes, listBytes, writeInputs};
+ghost use Rattle.writer.specs.Writer.{stored, sheetPart, part, Alike, Rising, Cut, WriteSays};
 
 // The answer of a write: the number of bytes written, or document 01's number and place.
 pub enum WriteAnswer {
@@ -91,13 +91,6 @@ fn put_release(out: &mut [u8], at: usize, long: bool, task: u32, tick: u64, cost
     put_number(out, at + 6, cost);
 }
 
-// The bytes of a release record.
-fn release_size(long: bool) -> usize
-    ensures { λ r. ⌜ r ≡ releaseSize (widthIn long) ⌝ }
-{
-    if long { 14 } else { 10 }
-}
-
 // The place in a list from which on every tick is over 1,000,000,000, while the one before it is not.
 fn short_count(count: usize, tick: &[u64]) -> usize
     requires { ⌜ count ≤ length (now tick) ⌝ }
@@ -128,7 +121,7 @@ fn counted_size(count: usize, tick: &[u64]) -> usize
     let mut size = 0;
     let mut i = 0;
     while i < count {
-        size += release_size(is_long(tick[i]));
+        size += entries::release_size(is_long(tick[i]));
         i += 1;
     }
     size
@@ -145,13 +138,25 @@ fn list_size(count: usize, tick: &[u64], rising: bool) -> usize
     counted_size(count, tick)
 }
 
-// Writes the task records of a sheet.
-fn put_tasks(out: &mut [u8], s: TaskSet)
-    requires { ⌜ (s .count ≤ 32) × (17 * s .count ≤ length (now out)) × (s .count ≤ length (s .tasks)) ⌝ }
-    ensures { λ _. ⌜ now (out .exit) ≡ stored (now (out .entry)) 0 (joined (map taskRecord (tasksIn s))) ⌝ }
+// Writes the record of a charge, where it is not 0.
+fn put_charge(out: &mut [u8], charge: u8)
+    requires { ⌜ chargeBytes charge ≤ length (now out) ⌝ }
+    ensures { λ _. ⌜ now (out .exit) ≡ stored (now (out .entry)) 0 (joined (chargeRecords charge)) ⌝ }
+{
+    if charge == 0 {
+        return;
+    }
+    out[0] = 5;
+    out[1] = charge;
+}
+
+// Writes the task records of a sheet from an offset on.
+fn put_tasks(out: &mut [u8], from: usize, s: TaskSet)
+    requires { ⌜ (s .count ≤ 32) × (from + 17 * s .count ≤ length (now out)) × (s .count ≤ length (s .tasks)) ⌝ }
+    ensures { λ _. ⌜ now (out .exit) ≡ stored (now (out .entry)) from (joined (map taskRecord (tasksIn s))) ⌝ }
 {
     let count = s.count;
-    let mut at = 0;
+    let mut at = from;
     let mut i = 0;
     while i < count {
         let t = s.tasks[i];
@@ -159,6 +164,15 @@ fn put_tasks(out: &mut [u8], s: TaskSet)
         at += 17;
         i += 1;
     }
+}
+
+// Writes the records of a sheet: its charge and its tasks.
+fn put_sheet(out: &mut [u8], s: TaskSet)
+    requires { ⌜ (s .count ≤ 32) × (chargeBytes (s .charge) + 17 * s .count ≤ length (now out)) × (s .count ≤ length (s .tasks)) ⌝ }
+    ensures { λ _. ⌜ now (out .exit) ≡ stored (now (out .entry)) 0 (sheetPart s) ⌝ }
+{
+    put_charge(out, s.charge);
+    put_tasks(out, entries::charge_size(s.charge), s);
 }
 
 // Writes the release records of a list from a place up to another, all of one kind; the answer is the offset after them.
@@ -186,7 +200,7 @@ fn put_part(
         ⌝ }
     ensures end { λ r. ⌜ r ≡ from + listBytes (part first last (now (task .entry)) (now (tick .entry)) (now (cost .entry))) ⌝ }
 {
-    let size = release_size(long);
+    let size = entries::release_size(long);
     let mut at = from;
     let mut i = first;
     while i < last {
@@ -207,7 +221,7 @@ fn is_fine(k: Checked) -> bool
     }
 }
 
-// The checks of a write: the sheet (5, 4, 6), the count (10), the columns and then the bytes (13), the releases (7, 8, 9). The releases are
+// The checks of a write: the sheet (5, 4, 6, 17), the count (10), the columns and then the bytes (13), the releases (7, 8, 9). The releases are
 // looked at before the bytes are counted: where they pass, the ticks never fall, and the bytes are known by the last ticks.
 pub fn check_write(
     s: TaskSet,
@@ -232,7 +246,8 @@ pub fn check_write(
         return long;
     };
     let listed = releases::check_releases(s, count, task, tick, cost);
-    let end = 17 * s.count + list_size(count, tick, is_fine(listed));
+    let sized = entries::sheet_size(s.charge, s.count);
+    let end = sized + list_size(count, tick, is_fine(listed));
     if room <= end {
         return Checked::Refused {
             number: 13,
@@ -260,9 +275,10 @@ pub fn write(
             place: place,
         };
     }
-    put_tasks(out, s);
+    put_sheet(out, s);
     let shorts = short_count(count, tick);
-    let middle = put_part(out, 17 * s.count, 0, shorts, false, task, tick, cost);
+    let start = entries::sheet_size(s.charge, s.count);
+    let middle = put_part(out, start, 0, shorts, false, task, tick, cost);
     let end = put_part(out, middle, shorts, count, true, task, tick, cost);
     out[end] = 3;
     WriteAnswer::Written { bytes: end + 1 }

@@ -10,6 +10,7 @@ use borrow.Author.Needs.{needs}
 use Rattle.model.specs.Checks.{checkTasks}
 use Rattle.model.specs.Choice.{choice}
 use Rattle.taskset.specs.TaskSet.{viewOf}
+use Rattle.fileformat.specs.RoundTrips.{decidingBytes}
 use Rattle.report.specs.Report.{refusalText}
 use Rattle.report.proofs.ReportLaws.{wider}
 use Rattle.answers.specs.Answers.{chosenText, chooseText}
@@ -31,14 +32,14 @@ abbrev bytes : tie.After-read → List ℕ
 bytes c = take (start c .args .n) (now (start c .args .file))
 
 -- the buffer has room for the bytes that decide
-room : (c : tie.After-bytes) → 14897 ≤ length (now (c .before .before .args .file))
+room : (c : tie.After-bytes) → decidingBytes ≤ length (now (c .before .before .args .file))
 room c = omega (arith, c .bytes .given)
 
 abbrev zeros : List ℕ
 zeros = replicate 1024 0
 
 -- a file that was refused
-small : (c : tie.After-outcome) → c .outcome .given .0 .1 .0 ≤ 14881
+small : (c : tie.After-outcome) → c .outcome .given .0 .1 .0 ≤ 14883
 small c =
     halts (bytes (halted c)) zeros zeros zeros (omega arith) (omega arith) (omega arith) _ _ _ (c .outcome .given .1) (halted c .read .ensures .outcome) .small
 

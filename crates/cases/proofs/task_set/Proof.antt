@@ -43,6 +43,12 @@ loop-again c =
       filled-next (entryOf (now (c .before .before .before .args .head))) noTask (at .i) (at .tasks) _ (omega arith) (c .entry .ensures) (at .inv .2),
     )
 
+element-copy-out-charge : tie.Need-element-copy-out-charge Inv-loop μ-loop
+element-copy-out-charge c = search needs
+
+cast-charge : tie.Need-cast-charge Inv-loop μ-loop
+cast-charge c = search needs
+
 element-copy-out-index : tie.Need-element-copy-out-index Inv-loop μ-loop
 element-copy-out-index c = search needs
 
@@ -52,7 +58,8 @@ index-requires c κs = search needs
 returns : tie.Need-returns Inv-loop μ-loop
 returns c = record {
   count = c .index .ensures;
-  entries = λ i h. c .before .before .before .loop .inv .2 i (omega arith);
+  charge = search needs;
+  entries = λ i h. c .before .before .before .before .loop .inv .2 i (omega arith);
 }
 
 pub task-set-spec : {M : Type 1} → statement M
@@ -68,6 +75,8 @@ task-set-spec =
     add-i
     loop-less
     loop-again
+    element-copy-out-charge
+    cast-charge
     element-copy-out-index
     index-requires
     returns)

@@ -13,7 +13,7 @@ abbrev μ-loop : tie.MeasureT-loop
 μ-loop s loads periods count keep₀ worst₀ i₀ keep worst i = count - i
 
 columns-of-requires : tie.Need-columns-of-requires Inv-loop μ-loop
-columns-of-requires c κs = c .pre .few-tasks
+columns-of-requires c κs = c .pre
 
 loop-holds : tie.Need-loop-holds Inv-loop μ-loop
 loop-holds c = choosing-none _ _ _ (c .before .before .before .pre) (c .before .before .columns-of .ensures)

@@ -1,5 +1,6 @@
 -- The loop has copied the slots below j.
 use Prim.Native.Nat.{_-_}
+use borrow.Author.Needs.{needs}
 use native.Mathlib.Omega.{arith}
 use Rattle.demand.specs.Columns.{Copied}
 use Rattle.demand.proofs.FlatColumnLaws.{copied-none, copied-next, copied-all}
@@ -7,10 +8,13 @@ use Rattle.demand.proofs.columns_of.Statement.{statement}
 use Rattle.demand.proofs.columns_of.Tie as tie
 
 abbrev Inv-loop : tie.InvT-loop
-Inv-loop s count loads₀ periods₀ j₀ loads periods j = Copied s j loads periods
+Inv-loop s count charge loads₀ periods₀ j₀ loads periods j = Copied s j loads periods
 
 abbrev μ-loop : tie.MeasureT-loop
-μ-loop s count loads₀ periods₀ j₀ loads periods j = count - j
+μ-loop s count charge loads₀ periods₀ j₀ loads periods j = count - j
+
+cast-charge : tie.Need-cast-charge Inv-loop μ-loop
+cast-charge c = search needs
 
 loop-holds : tie.Need-loop-holds Inv-loop μ-loop
 loop-holds c = copied-none _
@@ -20,6 +24,13 @@ mul-t c = omega arith
 
 element-copy-out-t : tie.Need-element-copy-out-t Inv-loop μ-loop
 element-copy-out-t c = omega arith
+
+-- E + S is at most P
+add-loads : tie.Need-add-loads Inv-loop μ-loop
+add-loads c =
+    let v = c .before .before .before .before .pre in
+    let l = c .before .before .loop-test .taken in
+    omega (arith, v .carried _ l .load-period, v .in-range _ l .period-high)
 
 mul-loads : tie.Need-mul-loads Inv-loop μ-loop
 mul-loads c = omega arith
@@ -40,7 +51,7 @@ loop-less : tie.Need-loop-less Inv-loop μ-loop
 loop-less c = omega arith
 
 loop-again : tie.Need-loop-again Inv-loop μ-loop
-loop-again c = copied-next _ _ _ _ (c .before .before .before .pre) (c .before .before .loop .inv) (c .before .loop-test .taken)
+loop-again c = copied-next _ _ _ _ (c .before .before .before .before .pre .few-tasks) (c .before .before .before .loop .inv) (c .before .before .loop-test .taken)
 
 returns : tie.Need-returns Inv-loop μ-loop
 returns c = copied-all _ _ _ _ (c .before .loop .inv) (c .loop-test .left)
@@ -51,9 +62,11 @@ columns-of-spec =
     (tie.spec
     Inv-loop
     μ-loop
+    cast-charge
     loop-holds
     mul-t
     element-copy-out-t
+    add-loads
     mul-loads
     array-write-loads
     mul-periods

@@ -1,10 +1,10 @@
 use mathlib.Core.Path.{refl}
-use Rattle.fileformat.specs.FileCalls.{setOf}
+use Rattle.fileformat.specs.FileCalls.{setWith}
 use Rattle.entries.proofs.no_tasks.Statement.{statement}
 use Rattle.entries.proofs.no_tasks.Tie as tie
 
 returns : tie.Need-returns
-unfolding setOf
+unfolding setWith
 returns c = refl
 
 pub no-tasks-spec : {M : Type 1} → statement M

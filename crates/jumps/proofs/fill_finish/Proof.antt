@@ -11,25 +11,25 @@ use Rattle.jumps.proofs.fill_finish.Statement.{statement}
 use Rattle.jumps.proofs.fill_finish.Tie as tie
 
 abbrev Inv-loop : tie.InvT-loop
-Inv-loop task cost ready n tasks finish₀ head₀ since₀ left₀ coming₀ due₀ wake₀ t₀ stops₀ finish head since left coming due wake t stops =
-    Moment n tasks task cost ready finish₀ t wake stops head since left coming due finish
+Inv-loop task cost charge ready n tasks finish₀ head₀ since₀ left₀ coming₀ due₀ wake₀ t₀ stops₀ finish head since left coming due wake t stops =
+    Moment n tasks task cost charge ready finish₀ t wake stops head since left coming due finish
 
 abbrev μ-loop : tie.MeasureT-loop
-μ-loop task cost ready n tasks finish₀ head₀ since₀ left₀ coming₀ due₀ wake₀ t₀ stops₀ finish head since left coming due wake t stops = maxFinish - t
+μ-loop task cost charge ready n tasks finish₀ head₀ since₀ left₀ coming₀ due₀ wake₀ t₀ stops₀ finish head since left coming due wake t stops = maxFinish - t
 
 first-jobs-requires : tie.Need-first-jobs-requires Inv-loop μ-loop
 first-jobs-requires c κs = omega arith
 
 first-starts-requires : tie.Need-first-starts-requires Inv-loop μ-loop
-first-starts-requires c κs = let r = c .before .before .before .before .before .before .pre in (r .few-tasks, timely _ _ _ _ _ _ r)
+first-starts-requires c κs = let r = c .before .before .before .before .before .before .pre in (r .few-tasks, timely _ _ _ _ _ _ _ r)
 
 first-work-requires : tie.Need-first-work-requires Inv-loop μ-loop
-first-work-requires c κs = omega arith
+first-work-requires c κs = let r = c .before .before .before .before .before .before .before .before .pre in (r .few-tasks, r .workable)
 
 loop-holds : tie.Need-loop-holds Inv-loop μ-loop
 loop-holds c =
     let f = c .before .before .before .before in
-    moment-start _ _ _ _ _ _ (f .before .before .before .before .before .pre) _ _ _ (f .first-jobs .ensures) (c .before .before .first-starts .ensures)
+    moment-start _ _ _ _ _ _ _ (f .before .before .before .before .before .pre) _ _ _ (f .first-jobs .ensures) (c .before .before .first-starts .ensures)
     (c .first-work .ensures)
 
 slice-aggregate-next-wake : tie.Need-slice-aggregate-next-wake Inv-loop μ-loop
@@ -41,7 +41,7 @@ slice-aggregate-next-wake-2 c = sym (c .before .before .loop .inv .waking .awake
 next-wake-requires : tie.Need-next-wake-requires Inv-loop μ-loop
 next-wake-requires c κs =
     let m = c .before .before .loop .inv in
-    (queued _ _ _ _ _ _ (m .can), m .waking, omega (arith, m .time))
+    (queued _ _ _ _ _ _ _ (m .can), m .waking, omega (arith, m .time))
 
 top-started-requires : tie.Need-top-started-requires Inv-loop μ-loop
 top-started-requires c κs = c .before .before .before .before .before .before .loop .inv .can .few-tasks
@@ -54,7 +54,7 @@ at c = c .before .before .before .before .before .before .before
 room : (c : tie.After-top-started Inv-loop μ-loop) → at c .loop .stops ≤ 2048
 room c =
     let m = at c .loop .inv in
-    omega (arith, m .counted, stops-few _ _ _ _ _ _ (m .can) (at c .loop .t) (m .time), m .can .few)
+    omega (arith, m .counted, stops-few _ _ _ _ _ _ _ (m .can) (at c .loop .t) (m .time), m .can .few)
 
 same-length : tie.Need-same-length Inv-loop μ-loop
 same-length c = at (c .before .before) .loop .inv .written .long
@@ -64,7 +64,7 @@ returns c =
     let b = c .before .before in
     let m = at b .loop .inv in
     let w = b .before .before .before .before .next-wake .ensures in
-    moment-end _ _ _ _ _ _ (m .can) _ _ _ _ _ _ _ _ _ m _ _ _ (w .0) (w .1) _ (b .top-started .ensures) (c .before .if1 .taken) (c .if2 .taken)
+    moment-end _ _ _ _ _ _ _ (m .can) _ _ _ _ _ _ _ _ _ m _ _ _ (w .0) (w .1) _ (b .top-started .ensures) (c .before .if1 .taken) (c .if2 .taken)
 
 add-stops : tie.Need-add-stops Inv-loop μ-loop
 add-stops c = omega (arith, room (c .before .before))
@@ -74,7 +74,7 @@ loop-again c =
     let b = c .before .before in
     let m = at b .loop .inv in
     let w = b .before .before .before .before .next-wake .ensures in
-    moment-wait _ _ _ _ _ _ (m .can) _ _ _ _ _ _ _ _ _ m _ _ _ (w .0) (w .1) _ (b .top-started .ensures) (c .before .if1 .taken) (c .if2 .left)
+    moment-wait _ _ _ _ _ _ _ (m .can) _ _ _ _ _ _ _ _ _ m _ _ _ (w .0) (w .1) _ (b .top-started .ensures) (c .before .if1 .taken) (c .if2 .left)
 
 loop-less : tie.Need-loop-less Inv-loop μ-loop
 loop-less c = omega (arith, loop-again c .time, c .before .before .before .before .before .before .next-wake .ensures .1)
@@ -83,13 +83,13 @@ loop-less c = omega (arith, loop-again c .time, c .before .before .before .befor
 found : (c : tie.Else1 Inv-loop μ-loop)
     → let b = at (c .before) in
     let a = b .before .before .before .before .before .before .before .before .before .before .args in
-    Front (a .n) (a .tasks) (b .loop .t) (a .cost .now) (b .loop .head) (b .loop .left) (c .before .top-started .result)
+    Front (a .n) (a .tasks) (b .loop .t) (b .loop .head) (b .loop .left) (c .before .top-started .result)
     (b .loop .t + getD (b .loop .left) (c .before .top-started .result) 0)
 found c =
     let b = c .before in
     let m = at b .loop .inv in
     let w = b .before .before .before .before .next-wake .ensures in
-    front _ _ _ _ _ _ (m .can) _ _ _ _ _ _ _ _ _ m _ _ _ (w .0) (w .1) _ (b .top-started .ensures) (c .if1 .left) _ refl
+    front _ _ _ _ _ _ _ (m .can) _ _ _ _ _ _ _ _ _ m _ _ _ (w .0) (w .1) _ (b .top-started .ensures) (c .if1 .left) _ refl
 
 mul-wide : tie.Need-mul-wide Inv-loop μ-loop
 mul-wide c = omega (arith, found c, at (c .before) .loop .inv .can .few-tasks)
@@ -106,12 +106,9 @@ add-end c = omega (arith, found (c .before), c .wide .ensures)
 sub-left : tie.Need-sub-left Inv-loop μ-loop
 sub-left c = omega (arith, c .if3 .taken)
 
--- no more is left than the cost, which has 32 bits
+-- no more is left than the work, which is at most 1,000,000
 cast-left : tie.Need-cast-left Inv-loop μ-loop
-cast-left c =
-    let b = at (c .before .before .before) in
-    let costs = b .before .before .before .before .before .before .before .before .shared-slice-known2 .given in
-    omega (arith, found (c .before .before), c .before .wide .ensures, costs (getD (b .loop .head) (c .before .before .before .top-started .result) 0))
+cast-left c = omega (arith, found (c .before .before), c .before .wide .ensures)
 
 mul-left : tie.Need-mul-left Inv-loop μ-loop
 mul-left c = omega (arith, found (c .before .before), at (c .before .before .before) .loop .inv .can .few-tasks)
@@ -128,7 +125,7 @@ loop-again-2 c =
     let b = d .before in
     let m = at b .loop .inv in
     let w = b .before .before .before .before .next-wake .ensures in
-    moment-cut _ _ _ _ _ _ (m .can) _ _ _ _ _ _ _ _ _ m _ _ _ (w .0) (w .1) _ (b .top-started .ensures) (d .if1 .left) _
+    moment-cut _ _ _ _ _ _ _ (m .can) _ _ _ _ _ _ _ _ _ m _ _ _ (w .0) (w .1) _ (b .top-started .ensures) (d .if1 .left) _
     (ap (λ x. at b .loop .t + x) (c .before .wide .ensures))
     (c .if3 .taken)
 
@@ -167,7 +164,7 @@ array-write-head : tie.Need-array-write-head Inv-loop μ-loop
 array-write-head c = omega (arith, found (c .before .before .before), at (c .before .before .before .before) .loop .inv .can .few-tasks)
 
 wake-of-requires : tie.Need-wake-of-requires Inv-loop μ-loop
-wake-of-requires c κs = timely _ _ _ _ _ _ (at (c .before .before .before .before) .loop .inv .can)
+wake-of-requires c κs = timely _ _ _ _ _ _ _ (at (c .before .before .before .before) .loop .inv .can)
 
 mul-since : tie.Need-mul-since Inv-loop μ-loop
 mul-since c = omega (arith, found (c .before .before .before .before), at (c .before .before .before .before .before) .loop .inv .can .few-tasks)
@@ -176,7 +173,7 @@ array-write-since : tie.Need-array-write-since Inv-loop μ-loop
 array-write-since c = omega (arith, found (c .before .before .before .before), at (c .before .before .before .before .before) .loop .inv .can .few-tasks)
 
 work-of-requires : tie.Need-work-of-requires Inv-loop μ-loop
-work-of-requires c κs = at (c .before .before .before .before .before) .loop .inv .can .cost-long
+work-of-requires c κs = at (c .before .before .before .before .before) .loop .inv .can .workable
 
 mul-left-2 : tie.Need-mul-left-2 Inv-loop μ-loop
 mul-left-2 c = omega (arith, found (c .before .before .before .before .before), at (c .before .before .before .before .before .before) .loop .inv .can .few-tasks)
@@ -195,7 +192,7 @@ loop-again-3 c =
     let b = d .before in
     let m = at b .loop .inv in
     let w = b .before .before .before .before .next-wake .ensures in
-    moment-done _ _ _ _ _ _ (m .can) _ _ _ _ _ _ _ _ _ m _ _ _ (w .0) (w .1) _ (b .top-started .ensures) (d .if1 .left) _ _ _ _
+    moment-done _ _ _ _ _ _ _ (m .can) _ _ _ _ _ _ _ _ _ m _ _ _ (w .0) (w .1) _ (b .top-started .ensures) (d .if1 .left) _ _ _ _
     (ap (λ x. at b .loop .t + x) (f .before .wide .ensures))
     (f .if3 .left)
     (c .before .before .next-of .ensures)

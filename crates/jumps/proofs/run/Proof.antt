@@ -48,9 +48,12 @@ returns c =
     let e = sym (ap refusalIn (c .before .checked .given .1)) ∙ checks d in
     (jump-refused _ _ _ _ _ _ _ _ _ e, (column-by _ _ _ _ _ (d .check-and-shape .ensures .1) (checks d), column-kept _ _ _ _ e))
 
+cast-charge : tie.Need-cast-charge
+cast-charge c = search needs
+
 fill-finish-requires : tie.Need-fill-finish-requires
 fill-finish-requires c κs =
-    let b = c .before .before in
+    let b = c .before .before .before in
     rw (shaped _ _ _ _ _ _ _ _ (fine b) _ _ (ap refusalIn (b .enum-told .given .1)) (b .before .before .before .before .check-and-shape .ensures .1))
     (runnable _ _ _ _ _ _ _ _ (fine b))
 
@@ -62,7 +65,7 @@ same-length-3 c = search needs
 
 returns-2 : tie.Need-returns-2
 returns-2 c =
-    let b = c .before .before .before .before .before in
+    let b = c .before .before .before .before .before .before in
     let e = fine b in
     let d = b .before .before .before .before in
     let x = shaped _ _ _ _ _ _ _ _ e _ _ (ap refusalIn (b .enum-told .given .1)) (d .check-and-shape .ensures .1) in
@@ -80,6 +83,7 @@ run-spec =
     same-length
     returns
     enum-told
+    cast-charge
     fill-finish-requires
     same-length-2
     same-length-3

@@ -18,11 +18,11 @@ start c = c .before .before .before .before .before .before .before .before .bef
 checks : (c : tie.After-check-two)
     → let a = start (c .before .before) .args in
     refusalIn (c .check-two .result)
-    ≡ refusalOf (runInputs (viewOf (sheetFrom (a .sheet .now) (a .count))) (a .kept .now) (a .n) (a .task .now) (a .tick .now) (a .cost .now) (a .ready .now) (a .finish .now))
+    ≡ refusalOf (runInputs (viewOf (sheetFrom (a .sheet .now) (a .count) (a .charge))) (a .kept .now) (a .n) (a .task .now) (a .tick .now) (a .cost .now) (a .ready .now) (a .finish .now))
 checks c =
     let a = start (c .before .before) .args in
     (rw (c .before .before .sheet-from .ensures) at (c .check-two .ensures))
-    ∙ run-checks (viewOf (sheetFrom (a .sheet .now) (a .count))) (a .kept .now) (a .n) (a .task .now) (a .tick .now) (a .cost .now) (a .ready .now) (a .finish .now)
+    ∙ run-checks (viewOf (sheetFrom (a .sheet .now) (a .count) (a .charge))) (a .kept .now) (a .n) (a .task .now) (a .tick .now) (a .cost .now) (a .ready .now) (a .finish .now)
 
 sheet-from-requires : tie.Need-sheet-from-requires
 sheet-from-requires c κs = search needs
@@ -39,7 +39,7 @@ slots-code-requires c κs = search needs
 returns : tie.Need-returns
 returns c =
     let d = c .before .before .before .before in
-    jump-stopped _ _ _ _ _ _ _ _ _ _ _ _ _ (sym (ap refusalIn (c .before .before .checked .given .1)) ∙ checks d) (c .slots-code .ensures)
+    jump-stopped _ _ _ _ _ _ _ _ _ _ _ _ _ _ (sym (ap refusalIn (c .before .before .checked .given .1)) ∙ checks d) (c .slots-code .ensures)
 
 enum-told : tie.Need-enum-told
 enum-told c = search needs
@@ -50,7 +50,7 @@ refusal-code-requires c κs = search needs
 returns-2 : tie.Need-returns-2
 returns-2 c =
     let d = c .before .before .before in
-    jump-no-words _ _ _ _ _ _ _ _ _ _ _ (d .before .if1 .taken) (sym (ap refusalIn (c .before .enum-told .given .1)) ∙ checks d) (c .refusal-code .ensures)
+    jump-no-words _ _ _ _ _ _ _ _ _ _ _ _ (d .before .if1 .taken) (sym (ap refusalIn (c .before .enum-told .given .1)) ∙ checks d) (c .refusal-code .ensures)
 
 run-requires : tie.Need-run-requires
 run-requires c κs = search needs
@@ -81,7 +81,7 @@ returns-3 c =
     let d = c .before .before .before .before .before .before .before .before in
     let b = d .before .before .before in
     let f = b .before .sheet-from .ensures in
-    jump-refused _ _ _ _ _ _ _ _ _ _ _ _ _ _ _
+    jump-refused _ _ _ _ _ _ _ _ _ _ _ _ _ _ _ _
     (b .if1 .left)
     (sym (ap jumpIn (c .before .before .got .given .1)) ∙ (rw f at (d .run .ensures .0)))
     (c .refusal-code2 .ensures)
@@ -103,7 +103,7 @@ returns-4 c =
     let d = e .before .before .before .before .before .before in
     let b = d .before .before .before in
     let f = b .before .sheet-from .ensures in
-    jump-ran _ _ _ _ _ _ _ _ _ _ _ _ _ _ _
+    jump-ran _ _ _ _ _ _ _ _ _ _ _ _ _ _ _ _
     (b .if1 .left)
     (sym (ap jumpIn (e .got2 .given .1)) ∙ (rw f at (d .run .ensures .0)))
     (rw f at (d .run .ensures .1 .0))

@@ -37,8 +37,11 @@ enum-known-outcome-2 c = search needs
 put-sheet-requires : tie.Need-put-sheet-requires
 put-sheet-requires c κs = search needs
 
-put-two-requires : tie.Need-put-two-requires
-put-two-requires c κs = search needs
+cast-put-three : tie.Need-cast-put-three
+cast-put-three c = search needs
+
+put-three-requires : tie.Need-put-three-requires
+put-three-requires c κs = search needs
 
 same-length : tie.Need-same-length
 same-length c = search needs
@@ -78,24 +81,20 @@ same-length-8 c = search needs
 
 returns-4 : tie.Need-returns-4
 returns-4 c =
+    let put = c .before .before .before .before .before .before .before in
+    let known = put .before .before .before in
+    let got = known .before .before .before .before .before .before .before .before .before in
+    let enough = got .before .before .before .before in
     read-answered _ _ _ _ _ _ _ _ _ _ _ _ _ _
-    (c .before .before .before .before .before .before .before .before .before .before .before .before .before .before .before .before .before .before .before .before
-    .before .before .if2 .left)
-    (c .before .before .before .before .before .before .before .before .before .before .before .before .before .before .before .before .before .before .before .before
-    .before .before .before .if1 .left)
-    (sym (ap outcomeIn (c .before .before .before .before .before .before .before .before .before .outcome2 .given .1))
-    ∙ c .before .before .before .before .before .before .before .before .before .before .before .before .before .before .before .before .before .before .read .ensures
-    .outcome)
-    (c .before .before .before .before .before .before .before .before .before .before .before .before .before .before .before .before .before .before .read .ensures
-    .sheet)
-    (c .before .before .before .before .before .before .put-sheet .ensures)
-    (c .before .before .put-two .ensures)
-    (c .before .before .before .before .before .before .before .before .before .before .before .before .before .before .before .before .before .before .read .ensures
-    .task-column)
-    (c .before .before .before .before .before .before .before .before .before .before .before .before .before .before .before .before .before .before .read .ensures
-    .tick-column)
-    (c .before .before .before .before .before .before .before .before .before .before .before .before .before .before .before .before .before .before .read .ensures
-    .cost-column)
+    (enough .if2 .left)
+    (enough .before .if1 .left)
+    (sym (ap outcomeIn (known .outcome2 .given .1)) ∙ got .read .ensures .outcome)
+    (got .read .ensures .sheet)
+    (put .put-sheet .ensures)
+    (c .before .before .put-three .ensures)
+    (got .read .ensures .task-column)
+    (got .read .ensures .tick-column)
+    (got .read .ensures .cost-column)
 
 pub nolkrada-read-spec : {M : Type 1} → statement M
 nolkrada-read-spec =
@@ -110,7 +109,8 @@ nolkrada-read-spec =
     refusal-code-requires
     enum-known-outcome-2
     put-sheet-requires
-    put-two-requires
+    cast-put-three
+    put-three-requires
     same-length
     same-length-2
     same-length-3

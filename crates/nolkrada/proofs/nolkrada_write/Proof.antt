@@ -21,7 +21,7 @@ slots-code-requires c κs = search needs
 
 returns : tie.Need-returns
 returns c =
-    write-stopped _ _ _ _ _ _ _ _ _ _ _
+    write-stopped _ _ _ _ _ _ _ _ _ _ _ _
     (sym (ap refusalIn (c .before .before .checked .given .1)) ∙
     (rw (c .before .before .before .before .before .before .sheet-from .ensures) at (c .before .before .before .before .check-write .ensures)))
     (c .slots-code .ensures)
@@ -34,7 +34,7 @@ refusal-code-requires c κs = search needs
 
 returns-2 : tie.Need-returns-2
 returns-2 c =
-    write-no-words _ _ _ _ _ _ _ _ _
+    write-no-words _ _ _ _ _ _ _ _ _ _
     (c .before .before .before .before .if1 .taken)
     (sym (ap refusalIn (c .before .enum-told .given .1)) ∙
     (rw (c .before .before .before .before .before .sheet-from .ensures) at (c .before .before .before .check-write .ensures)))
@@ -60,7 +60,7 @@ same-length c = search needs
 
 returns-3 : tie.Need-returns-3
 returns-3 c =
-    write-refused _ _ _ _ _ _ _ _ _ _ _ _
+    write-refused _ _ _ _ _ _ _ _ _ _ _ _ _
     (c .before .before .before .before .before .before .before .before .if1 .left)
     (sym (ap answerIn (c .before .before .got .given .1)) ∙
     (rw (c .before .before .before .before .before .before .before .before .before .sheet-from .ensures) at
@@ -77,7 +77,7 @@ same-length-3 c = search needs
 
 returns-4 : tie.Need-returns-4
 returns-4 c =
-    write-written _ _ _ _ _ _ _ _ _ _ _ _
+    write-written _ _ _ _ _ _ _ _ _ _ _ _ _
     (c .before .before .before .before .before .before .before .before .before .before .before .if1 .left)
     (sym (ap answerIn (c .before .before .before .before .before .got2 .given .1)) ∙
     (rw (c .before .before .before .before .before .before .before .before .before .before .before .before .sheet-from .ensures) at

@@ -8,10 +8,10 @@ use Rattle.nolkrada.proofs.sheet_from.Statement.{statement}
 use Rattle.nolkrada.proofs.sheet_from.Tie as tie
 
 abbrev Inv-loop : tie.InvT-loop
-Inv-loop sheet count tasks₀ used i₀ tasks i = Entries sheet used tasks i
+Inv-loop sheet count charge tasks₀ used i₀ tasks i = Entries sheet used tasks i
 
 abbrev μ-loop : tie.MeasureT-loop
-μ-loop sheet count tasks₀ used i₀ tasks i = used - i
+μ-loop sheet count charge tasks₀ used i₀ tasks i = used - i
 
 entries-used-requires : tie.Need-entries-used-requires Inv-loop μ-loop
 entries-used-requires c κs = search needs
@@ -38,7 +38,7 @@ loop-again : tie.Need-loop-again Inv-loop μ-loop
 loop-again c = entries-next _ _ _ _ _ (c .before .before .loop .inv) (c .before .loop-test .taken) (c .task-at .ensures)
 
 returns : tie.Need-returns Inv-loop μ-loop
-returns c = entries-sheet _ _ _ _ _ (c .before .loop .inv) (c .before .before .entries-used .ensures) (c .loop-test .left)
+returns c = entries-sheet _ _ _ _ _ _ (c .before .loop .inv) (c .before .before .entries-used .ensures) (c .loop-test .left)
 
 pub sheet-from-spec : {M : Type 1} → statement M
 sheet-from-spec =

@@ -10,10 +10,10 @@ use Rattle.queues.proofs.first_work.Statement.{statement}
 use Rattle.queues.proofs.first_work.Tie as tie
 
 abbrev Inv-loop : tie.InvT-loop
-Inv-loop head cost n tasks left₀ i₀ left i = (i ≤ tasks) × Holds (λ x. workOf cost n (getD head x 0)) i 32 left
+Inv-loop head cost charge n tasks left₀ i₀ left i = (i ≤ tasks) × Holds (λ x. workOf cost charge n (getD head x 0)) i 32 left
 
 abbrev μ-loop : tie.MeasureT-loop
-μ-loop head cost n tasks left₀ i₀ left i = tasks - i
+μ-loop head cost charge n tasks left₀ i₀ left i = tasks - i
 
 loop-holds : tie.Need-loop-holds Inv-loop μ-loop
 loop-holds c = (omega arith, holds-none _ _)

@@ -4,8 +4,8 @@ use native.Mathlib.Omega.{arith}
 use Rattle.model.specs.Tasks.{Tasks}
 use Rattle.model.specs.Checks.{releaseFault}
 use Rattle.taskset.specs.TaskSet.{refusalIn}
-use Rattle.releases.specs.Releases.{faultAt}
-use Rattle.releases.proofs.ReleaseLaws.{faulty, faultless, faultless-of}
+use Rattle.model.specs.Checks.{faultAt}
+use Rattle.model.proofs.CheckLaws.{faulty, faultless, faultless-of}
 use Rattle.fileformat.specs.File.{lowTick, highTick}
 use Rattle.fileformat.proofs.StepLaws.{list-over, list-fine}
 use Rattle.fileformat.specs.Records.{widthIn}

@@ -63,19 +63,21 @@ returns-2 c =
 enum-told-2 : tie.Need-enum-told-2
 enum-told-2 c = search needs
 
-mul-put-columns : tie.Need-mul-put-columns
-mul-put-columns c = omega (arith, scanned (passed (c .before)) .scan .ensures .few-tasks)
+sheet-size-requires : tie.Need-sheet-size-requires
+sheet-size-requires c κs = scanned (passed c) .scan .ensures .few-tasks
 
 put-columns-requires : tie.Need-put-columns-requires
 put-columns-requires c κs =
-    let e = c .before .before .before .before in
+    let size = c .before .before .before in
+    let e = size .before in
     let s = scanned (passed e) in
     let a = start s .args in
     let long = columns-of (s .scan .result .releases) (a .task .now) (a .tick .now) (a .cost .now) (columns-fine e) in
     let t = long .task-long in
     let k = long .tick-long in
     let c = long .cost-long in
-    (s .scan .ensures .inside, s .scan .ensures .stand, omega (arith, t, k, c), omega (arith, t, k, c), omega (arith, t, k, c))
+    let begin = size .sheet-size .ensures in
+    (omega (arith, begin, s .scan .ensures .inside), rw begin (s .scan .ensures .stand), omega (arith, t, k, c), omega (arith, t, k, c), omega (arith, t, k, c))
 
 same-length-4 : tie.Need-same-length-4
 same-length-4 c = search needs
@@ -89,8 +91,10 @@ same-length-6 c = search needs
 returns-3 : tie.Need-returns-3
 returns-3 c =
     let put = c .before .before .before .before .before .before in
-    let e = put .before .before .before .before .before in
-    reads-fine _ _ _ _ _ (scanned (passed e) .scan .ensures) _ _ _ (passed e .enum-told .given .1) (columns-fine e) (put .put-columns .ensures)
+    let size = put .before .before .before .before in
+    let e = size .before in
+    reads-fine _ _ _ _ _ (scanned (passed e) .scan .ensures) _ _ _ (passed e .enum-told .given .1) (columns-fine e)
+    (rw (size .sheet-size .ensures) at (put .put-columns .ensures))
 
 pub read-spec : {M : Type 1} → statement M
 read-spec =
@@ -108,7 +112,7 @@ read-spec =
     same-length-3
     returns-2
     enum-told-2
-    mul-put-columns
+    sheet-size-requires
     put-columns-requires
     same-length-4
     same-length-5

@@ -1,6 +1,7 @@
+use mathlib.Core.Path.{refl}
 use native.Mathlib.Omega.{arith}
 use Rattle.fileformat.specs.Records.{short, long}
-use Rattle.fileformat.proofs.OffsetLaws.{at-due, at-task-cut, at-task, at-release-cut, at-release, at-end, at-unknown}
+use Rattle.fileformat.proofs.OffsetLaws.{at-due, at-task-cut, at-task, at-release-cut, at-release, at-charge-cut, at-charge, at-end, at-unknown}
 use borrow.Author.Needs.{needs}
 use Rattle.reader.proofs.record_at.Statement.{statement}
 use Rattle.reader.proofs.record_at.Tie as tie
@@ -53,7 +54,7 @@ returns-5 c =
 returns-6 : tie.Need-returns-6
 returns-6 c =
     let s = start (c .before .before .before) in
-    at-unknown (s .args .f .now) (s .args .at) (omega arith) (λ e. omega arith) (λ e. omega arith) (λ e. omega arith) (λ e. omega arith)
+    at-unknown (s .args .f .now) (s .args .at) (omega arith) (λ e. omega arith) (λ e. omega arith) (λ e. omega arith) (λ e. omega arith) (λ e. omega arith)
 
 returns-7 : tie.Need-returns-7
 returns-7 c =
@@ -78,8 +79,24 @@ returns-9 c =
 
 returns-10 : tie.Need-returns-10
 returns-10 c =
-    let s = start (c .before .before .before) in
-    at-unknown (s .args .f .now) (s .args .at) (omega arith) (λ e. omega arith) (λ e. omega arith) (λ e. omega arith) (λ e. omega arith)
+    let s = start (c .before .before .before .before .before) in
+    at-charge-cut (s .args .f .now) (s .args .at) (omega arith) (omega arith) (omega arith)
+
+add-t20 : tie.Need-add-t20
+add-t20 c = search needs
+
+shared-slice-read-t22 : tie.Need-shared-slice-read-t22
+shared-slice-read-t22 c = search needs
+
+returns-11 : tie.Need-returns-11
+returns-11 c =
+    let s = start (c .before .before .before .before .before .before) in
+    at-charge (s .args .f .now) (s .args .at) _ (omega arith) (omega arith) (omega arith) refl
+
+returns-12 : tie.Need-returns-12
+returns-12 c =
+    let s = start (c .before .before .before .before) in
+    at-unknown (s .args .f .now) (s .args .at) (omega arith) (λ e. omega arith) (λ e. omega arith) (λ e. omega arith) (λ e. omega arith) (λ e. omega arith)
 
 pub record-at-spec : {M : Type 1} → statement M
 record-at-spec =
@@ -102,4 +119,8 @@ record-at-spec =
     add-job-at-2
     job-at-requires-2
     returns-9
-    returns-10)
+    returns-10
+    add-t20
+    shared-slice-read-t22
+    returns-11
+    returns-12)

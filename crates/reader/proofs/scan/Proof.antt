@@ -6,11 +6,11 @@ use Rattle.reader.specs.declared.Found.{Found}
 use Rattle.reader.specs.Reader.{recordIn}
 use native.Mathlib.Omega.{arith}
 use Rattle.model.proofs.TraceLaws.{fault-task}
-use Rattle.releases.proofs.ReleaseLaws.{faulty}
+use Rattle.model.proofs.CheckLaws.{faulty}
 use Rattle.fileformat.proofs.StepLaws.{list-early, list-fault}
 use borrow.Author.Needs.{needs}
 use lib.ListN.{length, drop}
-use Rattle.reader.proofs.ScanLaws.{Scanning, scan-begins, scan-broken, scan-task-stops, scan-task-next, scan-job-stops, scan-job-next, scan-end-stops, scan-end-more, scan-says, scan-refuses}
+use Rattle.reader.proofs.ScanLaws.{Scanning, scan-begins, scan-broken, scan-charge-stops, scan-charge-next, scan-task-stops, scan-task-next, scan-job-stops, scan-job-next, scan-end-stops, scan-end-more, scan-says, scan-refuses}
 use Rattle.reader.proofs.scan.Statement.{statement}
 use Rattle.reader.proofs.scan.Tie as tie
 
@@ -238,16 +238,56 @@ loop-less-3 c = omega (arith, next-long c .within)
 loop-again-3 : tie.Need-loop-again-3 Inv-loop μ-loop
 loop-again-3 c = next-long c
 
-enum-told-4 : tie.Need-enum-told-4 Inv-loop μ-loop
-enum-told-4 c = search needs
+-- a charge record that passes its check is taken
+next-charge : tie.Need-loop-again-4 Inv-loop μ-loop
+next-charge c =
+    let j = c .before .before .before .before in
+    let r = j .before .before in
+    scan-charge-next _ _ _ _ _ (r .before .loop .inv) _ (there r _ (j .r5 .given .1))
+    (sym (ap refusalIn (c .enum-told4 .given .1)) ∙ c .before .before .check-charge .ensures)
+
+enum-known-r-5 : tie.Need-enum-known-r-5 Inv-loop μ-loop
+enum-known-r-5 c = search needs
+
+check-charge-requires : tie.Need-check-charge-requires Inv-loop μ-loop
+check-charge-requires c κs = search needs
+
+enum-known-k-4 : tie.Need-enum-known-k-4 Inv-loop μ-loop
+enum-known-k-4 c = search needs
 
 refused-requires-9 : tie.Need-refused-requires-9 Inv-loop μ-loop
 refused-requires-9 c κs = search needs
 
 returns-9 : tie.Need-returns-9 Inv-loop μ-loop
 returns-9 c =
+    let j = c .before .before .before .before .before .before in
+    let r = j .before .before in
+    scan-refuses _ _ _ _ (c .refused9 .ensures)
+    (scan-charge-stops _ _ _ _ _ (r .before .loop .inv) _ _ (there r _ (j .r5 .given .1))
+    (sym (ap refusalIn (c .before .before .k4 .given .1)) ∙ c .before .before .before .before .check-charge .ensures))
+
+enum-told-4 : tie.Need-enum-told-4 Inv-loop μ-loop
+enum-told-4 c = search needs
+
+add-at-4 : tie.Need-add-at-4 Inv-loop μ-loop
+add-at-4 c = omega (arith, next-charge c .within)
+
+loop-less-4 : tie.Need-loop-less-4 Inv-loop μ-loop
+loop-less-4 c = omega (arith, next-charge c .within)
+
+loop-again-4 : tie.Need-loop-again-4 Inv-loop μ-loop
+loop-again-4 c = next-charge c
+
+enum-told-5 : tie.Need-enum-told-5 Inv-loop μ-loop
+enum-told-5 c = search needs
+
+refused-requires-10 : tie.Need-refused-requires-10 Inv-loop μ-loop
+refused-requires-10 c κs = search needs
+
+returns-10 : tie.Need-returns-10 Inv-loop μ-loop
+returns-10 c =
     let r = c .before .before .before .before in
-    scan-refuses _ _ _ _ (c .refused9 .ensures) (scan-end-stops _ _ _ _ _ (r .before .loop .inv) (there r _ (c .before .before .enum-told4 .given .1)) (omega arith))
+    scan-refuses _ _ _ _ (c .refused10 .ensures) (scan-end-stops _ _ _ _ _ (r .before .loop .inv) (there r _ (c .before .before .enum-told5 .given .1)) (omega arith))
 
 add-if6 : tie.Need-add-if6 Inv-loop μ-loop
 add-if6 c = omega (arith, c .before .before .before .before .loop .inv .within)
@@ -255,19 +295,19 @@ add-if6 c = omega (arith, c .before .before .before .before .loop .inv .within)
 add-refused : tie.Need-add-refused Inv-loop μ-loop
 add-refused c = omega arith
 
-refused-requires-10 : tie.Need-refused-requires-10 Inv-loop μ-loop
-refused-requires-10 c κs = search needs
-
-returns-10 : tie.Need-returns-10 Inv-loop μ-loop
-returns-10 c =
-    let r = c .before .before .before .before .before in
-    scan-refuses _ _ _ _ (c .refused10 .ensures)
-    (scan-end-more _ _ _ _ _ (r .before .loop .inv) (there r _ (c .before .before .before .enum-told4 .given .1)) (omega arith) (omega arith))
+refused-requires-11 : tie.Need-refused-requires-11 Inv-loop μ-loop
+refused-requires-11 c κs = search needs
 
 returns-11 : tie.Need-returns-11 Inv-loop μ-loop
 returns-11 c =
+    let r = c .before .before .before .before .before in
+    scan-refuses _ _ _ _ (c .refused11 .ensures)
+    (scan-end-more _ _ _ _ _ (r .before .loop .inv) (there r _ (c .before .before .before .enum-told5 .given .1)) (omega arith) (omega arith))
+
+returns-12 : tie.Need-returns-12 Inv-loop μ-loop
+returns-12 c =
     let r = c .before .before .before .before in
-    scan-says _ _ _ _ _ (r .before .loop .inv) _ refl (there r _ (c .before .before .enum-told4 .given .1)) (omega arith) (omega arith)
+    scan-says _ _ _ _ _ (r .before .loop .inv) _ refl (there r _ (c .before .before .enum-told5 .given .1)) (omega arith) (omega arith)
 
 pub scan-spec : {M : Type 1} → statement M
 scan-spec =
@@ -327,11 +367,20 @@ scan-spec =
     add-at-3
     loop-less-3
     loop-again-3
-    enum-told-4
+    enum-known-r-5
+    check-charge-requires
+    enum-known-k-4
     refused-requires-9
     returns-9
-    add-if6
-    add-refused
+    enum-told-4
+    add-at-4
+    loop-less-4
+    loop-again-4
+    enum-told-5
     refused-requires-10
     returns-10
-    returns-11)
+    add-if6
+    add-refused
+    refused-requires-11
+    returns-11
+    returns-12)

@@ -1,7 +1,7 @@
 -- Each test that fails is the fault of its number, the tests before it having passed.
 use native.Mathlib.Omega.{arith}
 use Rattle.model.proofs.TraceLaws.{fault-early, fault-late, fault-idle, fault-cost, fault-none}
-use Rattle.releases.proofs.ReleaseLaws.{faulty, faultless}
+use Rattle.model.proofs.CheckLaws.{faulty, faultless}
 use Rattle.releases.proofs.check_release.Statement.{statement}
 use Rattle.releases.proofs.check_release.Tie as tie
 

@@ -5,7 +5,8 @@ use mathlib.Core.Path.{refl, sym, ap, _∙_}
 use borrow.Author.Needs.{needs}
 use Rattle.taskset.specs.TaskSet.{viewOf, refusalIn}
 use Rattle.model.proofs.TraceLaws.{fault-task}
-use Rattle.releases.proofs.ReleaseLaws.{Checking, checking-none, checking-fault, checking-next, checking-all, faulty}
+use Rattle.model.proofs.CheckLaws.{faulty}
+use Rattle.releases.proofs.ReleaseLaws.{Checking, checking-none, checking-fault, checking-next, checking-all}
 use Rattle.releases.proofs.check_releases.Statement.{statement}
 use Rattle.releases.proofs.check_releases.Tie as tie
 

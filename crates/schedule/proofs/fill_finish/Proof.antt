@@ -10,42 +10,42 @@ use Rattle.schedule.proofs.fill_finish.Statement.{statement}
 use Rattle.schedule.proofs.fill_finish.Tie as tie
 
 abbrev Inv-loop : tie.InvT-loop
-Inv-loop task cost ready n tasks finish₀ head₀ left₀ wake₀ t₀ finish head left wake t = Filling n tasks task cost ready finish₀ t wake head left finish
+Inv-loop task cost charge ready n tasks finish₀ head₀ left₀ wake₀ t₀ finish head left wake t = Filling n tasks task cost charge ready finish₀ t wake head left finish
 
 abbrev μ-loop : tie.MeasureT-loop
-μ-loop task cost ready n tasks finish₀ head₀ left₀ wake₀ t₀ finish head left wake t = maxFinish - t
+μ-loop task cost charge ready n tasks finish₀ head₀ left₀ wake₀ t₀ finish head left wake t = maxFinish - t
 
 first-jobs-requires : tie.Need-first-jobs-requires Inv-loop μ-loop
 first-jobs-requires c κs = omega arith
 
 first-work-requires : tie.Need-first-work-requires Inv-loop μ-loop
-first-work-requires c κs = omega arith
+first-work-requires c κs = let r = c .before .before .before .before .before .before .pre in (r .few-tasks, r .workable)
 
 loop-holds : tie.Need-loop-holds Inv-loop μ-loop
 loop-holds c =
-    fill-start _ _ _ _ _ _ (c .before .before .before .before .before .before .before .pre) _ _ (c .before .before .first-jobs .ensures) (c .first-work .ensures)
+    fill-start _ _ _ _ _ _ _ (c .before .before .before .before .before .before .before .pre) _ _ (c .before .before .first-jobs .ensures) (c .first-work .ensures)
 
 add-t : tie.Need-add-t Inv-loop μ-loop
 add-t c = omega arith
 
 loop-again : tie.Need-loop-again Inv-loop μ-loop
-loop-again c = fill-sleep _ _ _ _ _ _ (c .before .loop .inv .can) _ _ _ _ _ (c .before .loop .inv .state) (c .if1 .taken)
+loop-again c = fill-sleep _ _ _ _ _ _ _ (c .before .loop .inv .can) _ _ _ _ _ (c .before .loop .inv .state) (c .if1 .taken)
 
 loop-less : tie.Need-loop-less Inv-loop μ-loop
 loop-less c = omega (arith, loop-again c .state .time)
 
 top-ready-requires : tie.Need-top-ready-requires Inv-loop μ-loop
-top-ready-requires c κs = let r = c .before .before .loop .inv .can in (r .few-tasks, timely _ _ _ _ _ _ r)
+top-ready-requires c κs = let r = c .before .before .loop .inv .can in (r .few-tasks, timely _ _ _ _ _ _ _ r)
 
 wake-all-requires : tie.Need-wake-all-requires Inv-loop μ-loop
-wake-all-requires c κs = let r = c .before .before .before .before .before .loop .inv .can in (r .few-tasks, timely _ _ _ _ _ _ r)
+wake-all-requires c κs = let r = c .before .before .before .before .before .loop .inv .can in (r .few-tasks, timely _ _ _ _ _ _ _ r)
 
 same-length : tie.Need-same-length Inv-loop μ-loop
 same-length c = c .before .before .before .before .before .before .before .loop .inv .state .written .long
 
 returns : tie.Need-returns Inv-loop μ-loop
 returns c =
-    fill-end _ _ _ _ _ _ (c .before .before .before .before .before .before .before .loop .inv .can) _ _ _ _ _
+    fill-end _ _ _ _ _ _ _ (c .before .before .before .before .before .before .before .loop .inv .can) _ _ _ _ _
     (c .before .before .before .before .before .before .before .loop .inv .state)
     (sym (c .before .wake-all .ensures) ∙ c .if3 .taken)
 
@@ -54,7 +54,7 @@ add-t-2 c = omega (arith, c .before .before .before .before .before .before .bef
 
 loop-again-2 : tie.Need-loop-again-2 Inv-loop μ-loop
 loop-again-2 c =
-    fill-idle _ _ _ _ _ _ (c .before .before .before .before .before .before .before .loop .inv .can) _ _ _ _ _
+    fill-idle _ _ _ _ _ _ _ (c .before .before .before .before .before .before .before .loop .inv .can) _ _ _ _ _
     (c .before .before .before .before .before .before .before .loop .inv .state)
     _
     _
@@ -74,9 +74,10 @@ abbrev start : tie.At-loop Inv-loop μ-loop → tie.Start Inv-loop μ-loop
 start c = c .before .before .before .before .before .before .before .before
 
 top : (c : tie.Else2 Inv-loop μ-loop)
-    → Top (jobsOf (start (at c) .args .n) (now (start (at c) .args .task)) (now (start (at c) .args .cost)) (now (start (at c) .args .ready)))
+    → Top (jobsOf (start (at c) .args .n) (now (start (at c) .args .task)) (now (start (at c) .args .cost)) (start (at c) .args .charge)
+    (now (start (at c) .args .ready)))
     (start (at c) .args .tasks) (at c .loop .t) (at c .loop .head) (at c .loop .left) (c .before .top-ready .result)
-top c = fill-top _ _ _ _ _ _ (at c .loop .inv .can) _ _ _ _ _ (at c .loop .inv .state) _ (c .before .top-ready .ensures) (c .if2 .left)
+top c = fill-top _ _ _ _ _ _ _ (at c .loop .inv .can) _ _ _ _ _ (at c .loop .inv .state) _ (c .before .top-ready .ensures) (c .if2 .left)
 
 mul-rest : tie.Need-mul-rest Inv-loop μ-loop
 mul-rest c = omega (arith, top c)
@@ -98,7 +99,7 @@ array-write-left c = omega (arith, top (c .before))
 
 loop-again-3 : tie.Need-loop-again-3 Inv-loop μ-loop
 loop-again-3 c =
-    fill-run _ _ _ _ _ _ (at (c .before) .loop .inv .can) _ _ _ _ _ (at (c .before) .loop .inv .state)
+    fill-run _ _ _ _ _ _ _ (at (c .before) .loop .inv .can) _ _ _ _ _ (at (c .before) .loop .inv .state)
     _
     _
     (top (c .before))
@@ -137,7 +138,7 @@ array-write-head : tie.Need-array-write-head Inv-loop μ-loop
 array-write-head c = omega (arith, top (c .before .before))
 
 work-of-requires : tie.Need-work-of-requires Inv-loop μ-loop
-work-of-requires c κs = at (c .before .before) .loop .inv .can .cost-long
+work-of-requires c κs = at (c .before .before) .loop .inv .can .workable
 
 mul-left-2 : tie.Need-mul-left-2 Inv-loop μ-loop
 mul-left-2 c = omega (arith, top (c .before .before .before))
@@ -147,7 +148,7 @@ array-write-left-2 c = omega (arith, top (c .before .before .before))
 
 loop-again-4 : tie.Need-loop-again-4 Inv-loop μ-loop
 loop-again-4 c =
-    fill-done _ _ _ _ _ _ (at (c .before .before .before) .loop .inv .can) _ _ _ _ _ (at (c .before .before .before) .loop .inv .state)
+    fill-done _ _ _ _ _ _ _ (at (c .before .before .before) .loop .inv .can) _ _ _ _ _ (at (c .before .before .before) .loop .inv .state)
     _
     _
     _

@@ -47,9 +47,12 @@ returns c =
     let e = sym (ap refusalIn (c .enum-told2 .given .1)) ∙ checks d in
     (checks d, (column-by _ _ _ _ _ (d .check-and-shape .ensures .1) (checks d), column-kept _ _ _ _ e))
 
+cast-charge : tie.Need-cast-charge
+cast-charge c = search needs
+
 fill-finish-requires : tie.Need-fill-finish-requires
 fill-finish-requires c κs =
-    let b = c .before .before in
+    let b = c .before .before .before in
     rw (shaped _ _ _ _ _ _ _ _ (fine b) _ _ (ap refusalIn (b .enum-told .given .1)) (b .before .before .before .before .check-and-shape .ensures .1))
     (runnable _ _ _ _ _ _ _ _ (fine b))
 
@@ -61,7 +64,7 @@ same-length-3 c = search needs
 
 returns-2 : tie.Need-returns-2
 returns-2 c =
-    let b = c .before .before .before .before .before in
+    let b = c .before .before .before .before .before .before in
     let e = fine b in
     let d = b .before .before .before .before in (
       e .clear,
@@ -81,6 +84,7 @@ run-spec =
     enum-told-2
     same-length
     returns
+    cast-charge
     fill-finish-requires
     same-length-2
     same-length-3

@@ -1,18 +1,17 @@
--- The loop has passed every task below i: none of them is outside its ranges.
+-- The loop has passed every task below i: nothing is wrong with any of them.
 use Prim.Native.Nat.{_≤_, _-_}
 use mathlib.Core.Path.{sym, ap, _∙_}
-use mathlib.Core.Bool.{not}
 use borrow.Author.Needs.{needs}
 use native.Mathlib.Omega.{arith}
 use Rattle.model.proofs.SearchLaws.{Sought, sought-none, sought-next, sought-here, sought-all}
-use Rattle.model.proofs.CheckLaws.{outside, refuses-none, refuses-many, refuses-range, passes}
-use Rattle.taskset.specs.TaskSet.{viewOf}
+use Rattle.model.proofs.CheckLaws.{wrong, is-fault, no-fault, fault-of, faultless-of, refuses-none, refuses-many, refuses-entry, passes}
+use Rattle.taskset.specs.TaskSet.{viewOf, refusalIn}
 use Rattle.taskset.proofs.check.Statement.{statement}
 use Rattle.taskset.proofs.check.Tie as tie
 
 abbrev Inv-loop : tie.InvT-loop
 Inv-loop s count i₀ i =
-    (1 ≤ count) × (count ≤ 32) × Sought (outside (viewOf s)) count i
+    (1 ≤ count) × (count ≤ 32) × Sought (wrong (viewOf s)) count i
 
 abbrev μ-loop : tie.MeasureT-loop
 μ-loop s count i₀ i = count - i
@@ -32,14 +31,22 @@ mul-t c = omega arith
 element-copy-out-t : tie.Need-element-copy-out-t Inv-loop μ-loop
 element-copy-out-t c = omega arith
 
-in-range-requires : tie.Need-in-range-requires Inv-loop μ-loop
-in-range-requires c κs = search needs
+check-entry-requires : tie.Need-check-entry-requires Inv-loop μ-loop
+check-entry-requires c κs = search needs
+
+enum-told : tie.Need-enum-told Inv-loop μ-loop
+enum-told c = search needs
+
+enum-told-2 : tie.Need-enum-told-2 Inv-loop μ-loop
+enum-told-2 c = search needs
 
 returns-3 : tie.Need-returns-3 Inv-loop μ-loop
 returns-3 c =
-    refuses-range _ _ (omega arith) (omega arith)
-    (sought-here _ _ _ (c .before .before .before .before .loop .inv .2) (c .before .before .before .loop-test .taken)
-    (ap not (sym (c .before .in-range .ensures)) ∙ c .if3 .taken))
+    let told = sym (ap refusalIn (c .enum-told2 .given .1)) ∙ c .before .before .check-entry .ensures in
+    let in-loop = c .before .before .before .before in
+    rw (c .enum-told2 .given .1)
+    (refuses-entry _ _ _ (omega arith) (omega arith)
+    (sought-here _ _ _ (in-loop .before .loop .inv .2) (in-loop .loop-test .taken) (is-fault _ _ (fault-of _ _ _ told .0))) told)
 
 add-i : tie.Need-add-i Inv-loop μ-loop
 add-i c = omega arith
@@ -51,8 +58,8 @@ loop-again : tie.Need-loop-again Inv-loop μ-loop
 loop-again c = (
   omega arith,
   omega arith,
-  sought-next _ _ _ (c .before .before .before .before .loop .inv .2) (c .before .before .before .loop-test .taken)
-      (ap not (sym (c .before .in-range .ensures)) ∙ c .if3 .left),
+  sought-next _ _ _ (c .before .before .before .before .before .loop .inv .2) (c .before .before .before .before .loop-test .taken)
+      (no-fault _ (faultless-of _ _ (sym (ap refusalIn (c .enum-told .given .1)) ∙ c .before .before .check-entry .ensures))),
 )
 
 returns-4 : tie.Need-returns-4 Inv-loop μ-loop
@@ -69,7 +76,9 @@ check-spec =
     loop-holds
     mul-t
     element-copy-out-t
-    in-range-requires
+    check-entry-requires
+    enum-told
+    enum-told-2
     returns-3
     add-i
     loop-less

@@ -36,7 +36,7 @@ passed c =
     (fine c)
 
 columns-of-requires : tie.Need-columns-of-requires
-columns-of-requires c κs = passed c .valid .few-tasks
+columns-of-requires c κs = passed c .valid
 
 mul-own : tie.Need-mul-own
 mul-own c = omega (arith, passed (c .before .before .before))

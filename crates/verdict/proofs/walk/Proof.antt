@@ -155,7 +155,7 @@ walk-again c =
     (walk-on _ _ _ _ _ _ (window-found _ _ _ _ _ (found (c .before .before .before .before .before)))
     (c .before .before .before .before .response .ensures .is) _
     (turn (c .before .before .before .before .before) .walk .inv)
-    (entry (turn (c .before .before .before .before .before)) .pre .search .cost-low)
+    (omega (arith, entry (turn (c .before .before .before .before .before)) .pre .search .cost-low))
     (found (c .before .before .before .before .before))
     (c .before .before .before .before .response .ensures .low)
     (c .before .before .before .if3 .left)

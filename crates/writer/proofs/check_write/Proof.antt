@@ -1,5 +1,5 @@
 -- Each check decides where those before it pass.
-use Prim.Native.Nat.{_≤_}
+use Prim.Native.Nat.{_+_, _*_, _≤_}
 use mathlib.Core.Path.{_≡_, sym, ap, _∙_}
 use mathlib.Core.Option.{some, none}
 use mathlib.Core.List.{List, [], _∷_}
@@ -12,8 +12,9 @@ use Rattle.model.proofs.CheckLaws.{valid-of, count-of, slots-first, slots-rest}
 use Rattle.model.proofs.OrderLaws.{no-single, no-kept, no-unfit, refused-tasks, refused-count, refused-slots, releases-decide}
 use Rattle.taskset.specs.TaskSet.{viewOf, refusalIn}
 use Rattle.releases.proofs.ReleaseLaws.{Columns, columns-of, length-releases}
-use Rattle.fileformat.specs.FileCalls.{listBytes}
+use Rattle.fileformat.specs.FileCalls.{chargeBytes, listBytes}
 use Rattle.fileformat.proofs.WidthLaws.{list-high}
+use Rattle.fileformat.proofs.RoundTrips.{charge-bytes-high}
 use Rattle.writer.proofs.WriteLaws.{rising-of, bytesLent, bytes-short, bytes-long}
 use Rattle.writer.proofs.check_write.Statement.{statement}
 use Rattle.writer.proofs.check_write.Tie as tie
@@ -22,7 +23,7 @@ abbrev columnsAt : tie.Start → List Lent
 columnsAt c = lends (c .args .count) (c .args .task .now) ∷ lends (c .args .count) (c .args .tick .now) ∷ lends (c .args .count) (c .args .cost .now) ∷ []
 
 abbrev bytesAt : tie.Start → List Lent
-bytesAt c = bytesLent (c .args .s .count) (releasesOf (c .args .count) (c .args .task .now) (c .args .tick .now) (c .args .cost .now)) (c .args .room) ∷ []
+bytesAt c = bytesLent (c .args .s .charge) (c .args .s .count) (releasesOf (c .args .count) (c .args .task .now) (c .args .tick .now) (c .args .cost .now)) (c .args .room) ∷ []
 
 -- the checks that passed
 sheet-fine : (c : tie.After-enum-told) → none ≡ checkTasks (viewOf (c .before .before .before .before .before .before .args .s))
@@ -92,8 +93,8 @@ returns-3 c =
 check-releases-requires : tie.Need-check-releases-requires
 check-releases-requires c κs = (few-tasks c, columns-long c .task-long, columns-long c .tick-long, columns-long c .cost-long)
 
-mul-end : tie.Need-mul-end
-mul-end c = omega (arith, few-tasks (c .before .before))
+sheet-size-requires : tie.Need-sheet-size-requires
+sheet-size-requires c κs = few-tasks (c .before)
 
 is-fine-requires : tie.Need-is-fine-requires
 is-fine-requires c κs = search needs
@@ -123,11 +124,17 @@ size-small c =
     let a = start (passed c) .args in
     omega (arith, size-is c, list-high (list c), length-releases (a .count) (a .task .now) (a .tick .now) (a .cost .now), few-releases (passed c))
 
+sheet-is : (c : tie.After-list-size) → let s = start (passed c) .args .s in c .before .before .sheet-size .result ≡ chargeBytes (s .charge) + 17 * s .count
+sheet-is c = c .before .before .sheet-size .ensures
+
+sheet-small : (c : tie.After-list-size) → c .before .before .sheet-size .result ≤ 546
+sheet-small c = let s = start (passed c) .args .s in omega (arith, sheet-is c, charge-bytes-high (s .charge), few-tasks (passed c))
+
 add-end : tie.Need-add-end
-add-end c = omega (arith, few-tasks (passed c), size-small c)
+add-end c = omega (arith, sheet-small c, size-small c)
 
 add-t15 : tie.Need-add-t15
-add-t15 c = omega (arith, few-tasks (passed (c .before)), size-small (c .before))
+add-t15 c = omega (arith, sheet-small (c .before), size-small (c .before))
 
 returns-4 : tie.Need-returns-4
 returns-4 c =
@@ -135,7 +142,8 @@ returns-4 c =
     let k = passed l in
     let a = start k in
     refused-slots _ _ (sheet-fine (k .before .before .before .before .before .before)) (no-single _) (count-fine (k .before .before .before))
-    (bytes-short (a .args .s .count) (l .list-size .result) (list l) (a .args .room) (size-is l) (omega arith) ∙ sym (slots-rest (columnsAt a) (bytesAt a) (columns-fine k)))
+    (bytes-short (a .args .s .charge) (a .args .s .count) (l .before .before .sheet-size .result) (l .list-size .result) (list l) (a .args .room) (sheet-is l) (size-is l)
+    (omega arith) ∙ sym (slots-rest (columnsAt a) (bytesAt a) (columns-fine k)))
 
 returns-5 : tie.Need-returns-5
 returns-5 c =
@@ -144,7 +152,8 @@ returns-5 c =
     let a = start k in
     l .before .before .before .check-releases .ensures
     ∙ releases-decide _ (sheet-fine (k .before .before .before .before .before .before)) (no-single _) (count-fine (k .before .before .before))
-    (bytes-long (a .args .s .count) (l .list-size .result) (list l) (a .args .room) (size-is l) (omega arith) ∙ sym (slots-rest (columnsAt a) (bytesAt a) (columns-fine k)))
+    (bytes-long (a .args .s .charge) (a .args .s .count) (l .before .before .sheet-size .result) (l .list-size .result) (list l) (a .args .room) (sheet-is l) (size-is l)
+    (omega arith) ∙ sym (slots-rest (columnsAt a) (bytesAt a) (columns-fine k)))
     (no-kept _) no-unfit
 
 pub check-write-spec : {M : Type 1} → statement M
@@ -164,7 +173,7 @@ check-write-spec =
     enum-told-6
     returns-3
     check-releases-requires
-    mul-end
+    sheet-size-requires
     is-fine-requires
     list-size-requires
     add-end

@@ -6,16 +6,16 @@ use Rattle.writer.proofs.put_tasks.Statement.{statement}
 use Rattle.writer.proofs.put_tasks.Tie as tie
 
 abbrev Inv-loop : tie.InvT-loop
-Inv-loop out₀ s count at₀ i₀ out at i =
-    TasksPut s out₀ count out at i
+Inv-loop out₀ from s count at₀ i₀ out at i =
+    TasksPut s out₀ from count out at i
 
 abbrev μ-loop : tie.MeasureT-loop
-μ-loop out₀ s count at₀ i₀ out at i =
+μ-loop out₀ from s count at₀ i₀ out at i =
     count - i
 
 loop-holds : tie.Need-loop-holds Inv-loop μ-loop
 loop-holds c =
-    tasks-none _ _ (c .before .pre .0) (c .before .pre .1) (c .before .pre .2)
+    tasks-none _ _ _ (c .before .pre .0) (c .before .pre .1) (c .before .pre .2)
 
 mul-t : tie.Need-mul-t Inv-loop μ-loop
 mul-t c =
@@ -43,7 +43,7 @@ loop-less c =
 
 loop-again : tie.Need-loop-again Inv-loop μ-loop
 loop-again c =
-    tasks-next _ _ _ _ _ _ (c .before .before .before .before .before .before .loop .inv) _ (c .before .before .before .before .before .loop-test .taken)
+    tasks-next _ _ _ _ _ _ _ (c .before .before .before .before .before .before .loop .inv) _ (c .before .before .before .before .before .loop-test .taken)
     (c .before .before .put-task .ensures) (stored-long _ _ _ _ (c .before .before .put-task .ensures))
 
 same-length : tie.Need-same-length Inv-loop μ-loop
@@ -52,7 +52,7 @@ same-length c =
 
 returns : tie.Need-returns Inv-loop μ-loop
 returns c =
-    tasks-all _ _ _ _ _ _ (c .before .loop .inv) (c .loop-test .left)
+    tasks-all _ _ _ _ _ _ _ (c .before .loop .inv) (c .loop-test .left)
 
 pub put-tasks-spec : {M : Type 1} → statement M
 put-tasks-spec =

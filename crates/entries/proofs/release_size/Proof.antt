@@ -1,7 +1,7 @@
 use mathlib.Core.Path.{sym, ap}
 use Rattle.fileformat.specs.Records.{widthIn, releaseSize}
-use Rattle.reader.proofs.release_size.Statement.{statement}
-use Rattle.reader.proofs.release_size.Tie as tie
+use Rattle.entries.proofs.release_size.Statement.{statement}
+use Rattle.entries.proofs.release_size.Tie as tie
 
 returns : tie.Need-returns
 returns c = ap (λ b. releaseSize (widthIn b)) (sym (c .if1 .taken))

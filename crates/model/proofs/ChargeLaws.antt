@@ -1,0 +1,106 @@
+-- A sheet with a charge is the sheet with E + S for E; one without a charge is document 01's.
+use Prim.Native.Nat.{ℕ, zero, suc, _+_}
+use mathlib.Core.Path.{_≡_, refl, sym, ap, ap₂, _∙_}
+use mathlib.Core.Bool.{Bool, true, false, not}
+use mathlib.Core.Option.{Option, some, none}
+use mathlib.Core.List.{[], _∷_, _++_}
+use native.Mathlib.Omega.{arith}
+use native.Mathlib.Nat.{add-zero}
+use lib.Dec.{ltb, eqb}
+use Rattle.model.specs.Search.{first}
+use Rattle.model.specs.Limits.{maxTasks}
+use Rattle.model.specs.Tasks.{Tasks, Valid, load}
+use Rattle.model.specs.Verdict.{verdict}
+use Rattle.model.specs.Choice.{Choice, unfit, chosen, andKeep, isFits, worstOf, leastKeep, choiceNext, choiceOf, choice}
+use Rattle.model.specs.Refusal.{Refusal, refuse, firstOf}
+use Rattle.model.specs.Checks.{inRange, entryFault, faultOf, faultAt, isFault, refuseAt, refuseIf, refuseBy, checkEntries, checkTasks}
+use Rattle.model.specs.Charge.{oldCheckTasks, UnchargedIsChecked, UnchargedIsCost, absorbed, AbsorbedIsValid, AbsorbedIsJudged, AbsorbedIsChosen}
+use Rattle.model.proofs.SearchLaws.{first-found}
+use Rattle.model.proofs.CheckLaws.{in-range-of, entry-outside, entry-fine}
+use Rattle.model.proofs.SameAnswers.{first-eq}
+use Rattle.model.proofs.SameVerdict.{verdict-same}
+
+pub uncharged-work : UnchargedIsCost
+uncharged-work cost = add-zero cost
+
+-- without a charge: 6 outside the ranges, and nothing else
+pub entry-uncharged : (P J E D : ℕ) → entryFault 0 P J E D ≡ elim (inRange P J E D) [ false ↦ some 6 | true ↦ none ]
+entry-uncharged P J E D = go (inRange P J E D) refl
+  where
+    go : (b : Bool) → inRange P J E D ≡ b → entryFault 0 P J E D ≡ elim (inRange P J E D) [ false ↦ some 6 | true ↦ none ]
+    go false e = rw e (entry-outside 0 P J E D e)
+    go true e =
+        let h = in-range-of P J E D e in
+        rw e (entry-fine 0 P J E D e (record { load-period = omega (arith, h .cost-period); load-deadline = omega (arith, h .cost-deadline) }))
+
+pub uncharged-checked : UnchargedIsChecked
+unfolding checkTasks oldCheckTasks checkEntries refuseBy refuseAt faultAt isFault
+uncharged-checked s e = λ x.
+    firstOf (refuseIf (eqb (s .count) 0) 5 0 ∷ refuseIf (ltb maxTasks (s .count)) 4 maxTasks ∷ entries x ∷ [])
+  where
+    outside : ℕ → Bool
+    outside i = not (inRange (s .period i) (s .jitter i) (s .cost i) (s .deadline i))
+
+    each : (i : ℕ) → faultOf s i ≡ elim (inRange (s .period i) (s .jitter i) (s .cost i) (s .deadline i)) [ false ↦ some 6 | true ↦ none ]
+    each i = ap (λ S. entryFault S (s .period i) (s .jitter i) (s .cost i) (s .deadline i)) e ∙ entry-uncharged _ _ _ _
+
+    test : (i : ℕ) (b : Bool) → inRange (s .period i) (s .jitter i) (s .cost i) (s .deadline i) ≡ b → isFault (faultOf s i) ≡ outside i
+    test i true h = rw (each i, h)
+    test i false h = rw (each i, h)
+
+    search : first (λ i. isFault (faultOf s i)) (s .count) 0 ≡ first outside (s .count) 0
+    search = first-eq _ _ (s .count) 0 (λ i l g. test i _ refl)
+
+    there : (o : Option ℕ) → first outside (s .count) 0 ≡ o → refuseBy (faultOf s) o ≡ refuseAt 6 o
+    there none h = refl
+    there (some p) h = numbered (inRange (s .period p) (s .jitter p) (s .cost p) (s .deadline p)) refl (first-found outside (s .count) 0 p h .holds)
+      where
+        numbered : (b : Bool) → inRange (s .period p) (s .jitter p) (s .cost p) (s .deadline p) ≡ b → outside p ≡ true → faultAt p (faultOf s p) ≡ refuse 6 p
+        numbered false g t = rw (each p, g)
+        numbered true g t = let w : false ≡ true = rw g at t in let z : _≡_ {A = ℕ} 0 1 = cc in absurd (omega arith)
+
+    entries : refuseBy (faultOf s) (first (λ i. isFault (faultOf s i)) (s .count) 0) ≡ refuseAt 6 (first outside (s .count) 0)
+    entries = ap (refuseBy (faultOf s)) search ∙ there _ refl
+
+pub absorbed-valid : AbsorbedIsValid
+absorbed-valid s v = record {
+  some-task = v .some-task;
+  few-tasks = v .few-tasks;
+  in-range = λ i l.
+      let r = v .in-range i l in
+      let g = v .carried i l in
+      record {
+        period-low = r .period-low;
+        period-high = r .period-high;
+        jitter-high = r .jitter-high;
+        cost-low = omega (arith, r .cost-low);
+        cost-period = g .load-period;
+        cost-deadline = g .load-deadline;
+        deadline-high = r .deadline-high;
+      };
+  carried = λ i l.
+      let g = v .carried i l in
+      record { load-period = omega (arith, g .load-period); load-deadline = omega (arith, g .load-deadline) };
+}
+
+pub absorbed-verdict : AbsorbedIsJudged
+absorbed-verdict s k i =
+    verdict-same (absorbed s) s k k i
+    (record { loads = λ j l. add-zero (load s j); periods = λ j l. refl; keeps = λ j l. refl; jitter = refl; deadline = refl })
+
+next-same : (s : Tasks) (i : ℕ) (c : Choice) → choiceNext (absorbed s) i c ≡ choiceNext s i c
+unfolding choiceNext leastKeep
+next-same s i (unfit n) = refl
+next-same s i (chosen ks ws) = λ x.
+    elim (first (λ K. isFits (absorbed-verdict s (andKeep ks K) i x)) (suc (s .jitter i)) 0) [
+      | none ↦ unfit i
+      | some K ↦ chosen (ks ++ (K ∷ [])) (ws ++ (worstOf (absorbed-verdict s (andKeep ks K) i x) ∷ []))
+    ]
+
+choices-same : (s : Tasks) (n : ℕ) → choiceOf (absorbed s) n ≡ choiceOf s n
+unfolding choiceOf
+choices-same s zero = refl
+choices-same s (suc n) = ap (choiceNext (absorbed s) n) (choices-same s n) ∙ next-same s n (choiceOf s n)
+
+pub absorbed-choice : AbsorbedIsChosen
+absorbed-choice s = choices-same s (s .count)
