@@ -60,8 +60,7 @@ pub fn in_range(t: Task) -> bool
     true
 }
 
-// What is wrong with a task of a sheet with a charge: 6, then 17, with the place given. Without a charge there is no more to look at
-// after 6.
+// What is wrong with a task of a sheet with a charge: 6, then 17, with the place given.
 pub fn check_entry(charge: u8, at: usize, t: Task) -> Checked
     ensures { λ r. ⌜ refusalIn r ≡ faultAt at (entryFault charge (t .period) (t .jitter) (t .cost) (t .deadline)) ⌝ }
 {
@@ -70,9 +69,6 @@ pub fn check_entry(charge: u8, at: usize, t: Task) -> Checked
             number: 6,
             place: at,
         };
-    }
-    if charge == 0 {
-        return Checked::Fine;
     }
     let load = t.cost + charge as u32;
     if t.period < load {

@@ -18,27 +18,21 @@ returns c = faulty _ 6 _ (entry-outside _ _ _ _ _ (sym (c .before .in-range .ens
 ranged : (c : tie.Else1) → let t = c .before .before .args .t in inRange (t .period) (t .jitter) (t .cost) (t .deadline) ≡ true
 ranged c = sym (c .before .in-range .ensures) ∙ not-false _ (c .if1 .left)
 
--- without a charge the load is the cost
-returns-2 : tie.Need-returns-2
-returns-2 c =
-    let r = in-range-of _ _ _ _ (ranged (c .before)) in
-    faultless _ _ (entry-fine _ _ _ _ _ (ranged (c .before)) (record { load-period = omega (arith, r .cost-period); load-deadline = omega (arith, r .cost-deadline) }))
-
 add-load : tie.Need-add-load
 add-load c =
-    let r = in-range-of _ _ _ _ (ranged (c .before .before)) in
+    let r = in-range-of _ _ _ _ (ranged (c .before)) in
     omega (arith, r .cost-period, r .period-high)
 
+returns-2 : tie.Need-returns-2
+returns-2 c = faulty _ 17 _ (entry-heavy _ _ _ _ _ (ranged (c .before .before .before)) (λ h. omega (arith, h .load-period)))
+
 returns-3 : tie.Need-returns-3
-returns-3 c = faulty _ 17 _ (entry-heavy _ _ _ _ _ (ranged (c .before .before .before .before)) (λ h. omega (arith, h .load-period)))
+returns-3 c = faulty _ 17 _ (entry-heavy _ _ _ _ _ (ranged (c .before .before .before .before .before)) (λ h. omega (arith, h .load-deadline)))
 
 returns-4 : tie.Need-returns-4
-returns-4 c = faulty _ 17 _ (entry-heavy _ _ _ _ _ (ranged (c .before .before .before .before .before .before)) (λ h. omega (arith, h .load-deadline)))
-
-returns-5 : tie.Need-returns-5
-returns-5 c =
+returns-4 c =
     faultless _ _
-    (entry-fine _ _ _ _ _ (ranged (c .before .before .before .before .before .before)) (record { load-period = omega arith; load-deadline = omega arith }))
+    (entry-fine _ _ _ _ _ (ranged (c .before .before .before .before .before)) (record { load-period = omega arith; load-deadline = omega arith }))
 
 pub check-entry-spec : {M : Type 1} → statement M
-check-entry-spec = tie.close (tie.spec in-range-requires returns returns-2 add-load returns-3 returns-4 returns-5)
+check-entry-spec = tie.close (tie.spec in-range-requires returns add-load returns-2 returns-3 returns-4)
