@@ -11,7 +11,8 @@ use lib.ListN.{length, take, drop, length-append, take-append-drop}
 use Rattle.model.specs.Tasks.{Release}
 use Rattle.taskset.specs.declared.Task.{Task}
 use Rattle.fileformat.specs.Numbers.{bytesOf, field, Bytes}
-use Rattle.fileformat.specs.Records.{Width, short, long, kindOf, tickBytes, bodySize, Record, broken, taskRecord, releaseRecord, chargeRecord, endRecord, taskFrom, releaseFrom, chargeFrom, whole, recordOf, taskBytes, releaseBytes, releaseSize, recordBytes, sizeOf}
+use Rattle.fileformat.specs.Records.{Width, short, long, kindOf, tickBytes, bodySize, Record, broken, taskRecord, releaseRecord, chargeRecord, endRecord}
+use Rattle.fileformat.specs.Records.{taskFrom, releaseFrom, chargeFrom, whole, recordOf, taskBytes, releaseBytes, releaseSize, recordBytes, sizeOf}
 use Rattle.fileformat.proofs.NumberLaws.{length-bytes, field-here, field-after, bytes-field, take-part, field-one}
 
 -- a whole body gives the record, a cut one 2

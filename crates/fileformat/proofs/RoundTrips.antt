@@ -22,7 +22,8 @@ use Rattle.fileformat.specs.FileCalls.{chargeBytes, listBytes}
 use Rattle.fileformat.specs.RoundTrips.{WrittenIsRead, ReadIsWritten, ReadIsValid, IsByte, ReadIsByte, RecordSizes, ReadIsShort}
 use Rattle.fileformat.proofs.WidthLaws.{any-kind, kind-written, written-kind, list-low, list-high}
 use Rattle.fileformat.proofs.RecordLaws.{shape, TaskFits, ReleaseFits, length-task, length-release, length-charge, task-read, release-read, charge-read, record-end, charge-byte, bytes-read}
-use Rattle.fileformat.proofs.StepLaws.{task-numbers, charge-fine, list-fine, end-fine, Ranged, Loaded, Moves, stops, takes-charge, takes-task, takes-release, ends, moves, charge-taken, task-taken, release-taken, end-taken, read-stop, read-next, read-last}
+use Rattle.fileformat.proofs.StepLaws.{task-numbers, charge-fine, list-fine, end-fine, Ranged, Loaded, Moves, stops, takes-charge, takes-task, takes-release, ends, moves}
+use Rattle.fileformat.proofs.StepLaws.{charge-taken, task-taken, release-taken, end-taken, read-stop, read-next, read-last}
 
 pub joined-append : (a b : List Record) → joined (a ++ b) ≡ joined a ++ joined b
 unfolding joined

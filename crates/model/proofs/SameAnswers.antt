@@ -23,7 +23,8 @@ use Rattle.model.specs.Stops.{different, stopTicks, stopCount}
 use Rattle.model.specs.Verdict.{verdict}
 use Rattle.model.specs.Choice.{Choice, unfit, chosen, column, andKeep, isFits, worstOf, leastKeep, choiceNext, choiceOf, choice}
 use Rattle.model.specs.Refusal.{Refusal, answered, firstOf}
-use Rattle.model.specs.Checks.{Lent, Inputs, entryFault, faultOf, faultAt, isFault, refuseAt, refuseIf, refuseBy, checkEntries, checkTasks, checkTask, checkCount, checkSlots, checkKept, releaseFault, checkReleases, checkChoice, refusalOf, answerOf}
+use Rattle.model.specs.Checks.{Lent, Inputs, checkEntries, checkTasks, checkTask, checkCount, checkSlots, checkKept, releaseFault, checkReleases, checkChoice, refusalOf}
+use Rattle.model.specs.Checks.{entryFault, faultOf, faultAt, isFault, refuseAt, refuseIf, refuseBy, answerOf}
 use Rattle.model.specs.Calls.{lends, releasesOf, columnAfter, taskInputs, arrivalCall, verdictCall, unfitOf, choiceInputs, keptColumn, worstColumn, listInputs, traceCall, readyInputs, runInputs, jumpCall}
 use Rattle.model.specs.SameTasks.{SameTasks, SameAnswers, SameTasksAnswerSame}
 use Rattle.model.proofs.SeriesLaws.{le-or-lt}

@@ -23,7 +23,7 @@ use Rattle.model.specs.Choice.{column, isFits, worstOf, leastKeep, choic
 use Rattle.model.specs.Refusal.{firstOf}
 use Rattle.model.specs.Checks.{inRange, carries, entryFault, faultAt, isFault, refuseIf, refuseBy, checkEntries, checkTasks}
 use Rattle.model.proofs.SearchLaws.{first-hit, first-none}
-use Rattle.model.specs.Sums.{AllSums, busy, pad, sheet, task}
+use Rattle.model.specs.Sums.{AllRows, AllSums, busy, chargeVerdicts, chargeRun, chargeChecks, pad, sheet, task}
 
 -- sum 11: below a task that takes every tick no demand is ever met
 never : (t : ℕ) → 1 ≤ t → meets (sheet (busy ∷ busy ∷ [])) (column (0 ∷ 0 ∷ [])) 1 0 t ≡ false
@@ -46,8 +46,23 @@ full : verdict (sheet (busy ∷ busy ∷ [])) (column (0 ∷ 0 ∷ [])) 1 ≡ ho
 unfolding window
 full = at-zero _ _ 1 (first-none (meets (sheet (busy ∷ busy ∷ [])) (column (0 ∷ 0 ∷ [])) 1 0) horizonTick 1 (λ m l g. never m l))
 
+judged-charges : AllRows chargeVerdicts
+unfolding arrivals ceilDiv gap window meets demand aboveLoad sum first verdict stops judge isLate isLast boundOf boundAt bound offset maxZ minZ peak isFits worstOf leastKeep choiceNext choiceOf
+judged-charges = (refl, (refl, (refl, (refl, (refl, tt)))))
+
+run-charges : AllRows chargeRun
+unfolding gap after readyNext readyFrom readyAt readyList own table sum most on pending prefer top pick less leftAt runs runsIn endOf finishOf finishAt finishList
+run-charges = (refl, tt)
+
+checked-charges : AllRows chargeChecks
+unfolding first inRange carries entryFault faultAt isFault refuseIf refuseBy checkEntries checkTasks firstOf
+checked-charges = (refl, (refl, (refl, (refl, (refl, tt)))))
+
+charges : AllSums (chargeVerdicts ∷ chargeRun ∷ chargeChecks ∷ [])
+charges = (judged-charges, (run-charges, (checked-charges, tt)))
+
 pub sums : AllSums pad
-unfolding arrivals ceilDiv gap after readyNext readyFrom readyAt readyList own table window meets demand aboveLoad sum most on first verdict stops judge isLate isLast boundOf boundAt bound offset maxZ minZ peak pending prefer top pick less leftAt runs runsIn endOf finishOf finishAt finishList has different stopTicks stopCount isFits worstOf leastKeep choiceNext choiceOf inRange carries entryFault faultAt isFault refuseIf refuseBy checkEntries checkTasks firstOf
+unfolding arrivals ceilDiv gap after readyNext readyFrom readyAt readyList own table window meets demand aboveLoad sum most on first verdict stops judge isLate isLast boundOf boundAt bound offset maxZ minZ peak pending prefer top pick less leftAt runs runsIn endOf finishOf finishAt finishList has different stopTicks stopCount isFits worstOf leastKeep choiceNext choiceOf
 sums = (
   (refl, tt),
   (
@@ -70,7 +85,7 @@ sums = (
                     (refl, tt),
                     (
                       (refl, (full, tt)),
-                      (((refl, refl), ((refl, refl), tt)), ((refl, (refl, (refl, ((refl, refl), (refl, (refl, tt)))))), ((refl, (refl, (refl, (refl, (refl, (refl, ((refl, refl), tt))))))), ((refl, (refl, (refl, (refl, (refl, (refl, (refl, (refl, (refl, (refl, (refl, tt))))))))))), tt)))),
+                      (((refl, refl), ((refl, refl), tt)), ((refl, (refl, (refl, ((refl, refl), (refl, (refl, tt)))))), ((refl, (refl, (refl, (refl, (refl, (refl, ((refl, refl), tt))))))), charges))),
                     ),
                   ),
                 ),

@@ -117,12 +117,37 @@ release i a c = record { task = i; tick = a; cost = c }
 abbrev pub printedReleases : List Release
 printedReleases = release 0 0 2 ∷ release 2 0 2 ∷ release 0 1 2 ∷ []
 
+-- R is 2 + 2 + 1 below one task without a charge, 3 + 3 + 1 with S = 1, 4 + 4 + 1 with S = 2
+abbrev pub chargeVerdicts : List Row
+chargeVerdicts =
+    judgedAt 0 pair (0 ∷ 0 ∷ []) 1 (fits (pos 5) 0)
+    ∷ judgedAt 1 pair (0 ∷ 0 ∷ []) 1 (fits (pos 7) 0)
+    ∷ judgedAt 2 pair (0 ∷ 0 ∷ []) 1 (late 0 (pos 9))
+    ∷ choseAt 1 pair (chosen (0 ∷ 0 ∷ []) (pos 4 ∷ pos 7 ∷ []))
+    ∷ choseAt 2 pair (unfit 1)
+    ∷ []
+
+-- a run of two jobs, the second of cost 1, with S = 1: ticks 1 to 3 and 4 to 5
+abbrev pub chargeRun : List Row
+chargeRun =
+    ranAt 1 pair (0 ∷ 0 ∷ []) (release 0 0 2 ∷ release 1 0 1 ∷ []) (4 ∷ 6 ∷ [])
+    ∷ []
+
+-- 17: not with E + S = P = D; with E + S over D alone, over P alone; 17 of task 0 before 6 of task 1; 6 of task 0 before its own 17
+abbrev pub chargeChecks : List Row
+chargeChecks =
+    checked 1 (task 3 0 2 3 ∷ []) none
+    ∷ checked 1 (task 3 0 2 2 ∷ []) (refuse 17 0)
+    ∷ checked 1 (task 2 0 2 3 ∷ []) (refuse 17 0)
+    ∷ checked 1 (task 2 0 2 2 ∷ task 2 0 3 2 ∷ []) (refuse 17 0)
+    ∷ checked 1 (task 2 0 3 2 ∷ task 2 0 2 2 ∷ []) (refuse 6 0)
+    ∷ []
+
 -- the sums, in document 01's order, 7 to 12 with the pickup of document 02's R-2; then R-2's own figures: the choice on the printed sheet, which ends in 15 at task 2,
 -- of its tasks 0 and 1 alone and with D 11, the run with D 11, and the stop of the walk, which has no pickup: W(0) = d_K(1), W(0) = d_K(1) + 1;
 -- then stops of R-5: no release, one, two with the same ready tick, a finish that is another's ready tick plus 1, a job that another interrupts, and the printed list;
 -- and a run in which the job of the higher task, though later in the list, goes before one with the same ready tick;
--- then charges of R-4: R is 2 + 2 + 1 below one task without a charge, 3 + 3 + 1 with S = 1, 4 + 4 + 1 with S = 2; a run of two jobs, the second of cost 1, with S = 1: ticks 1 to
--- 3 and 4 to 5; and 17: not with E + S = P = D; with E + S over D alone, over P alone; 17 of task 0 before 6 of task 1; 6 of task 0 before its own 17
+-- then the charges of R-4
 abbrev pub pad : List (List Row)
 pad =
     (counts 6 5 (0 ∷ 1 ∷ 2 ∷ 7 ∷ 8 ∷ []) (0 ∷ 1 ∷ 2 ∷ 2 ∷ 3 ∷ []) ∷ [])
@@ -158,16 +183,7 @@ pad =
     ∷ halts (printed 11) (2 ∷ 4 ∷ 0 ∷ []) printedReleases 4
     ∷ ran (printed 11) (2 ∷ 4 ∷ 0 ∷ []) (release 2 0 2 ∷ release 0 0 2 ∷ []) (0 ∷ 0 ∷ []) (5 ∷ 3 ∷ [])
     ∷ [])
-    ∷ (judgedAt 0 pair (0 ∷ 0 ∷ []) 1 (fits (pos 5) 0)
-    ∷ judgedAt 1 pair (0 ∷ 0 ∷ []) 1 (fits (pos 7) 0)
-    ∷ judgedAt 2 pair (0 ∷ 0 ∷ []) 1 (late 0 (pos 9))
-    ∷ choseAt 1 pair (chosen (0 ∷ 0 ∷ []) (pos 4 ∷ pos 7 ∷ []))
-    ∷ choseAt 2 pair (unfit 1)
-    ∷ ranAt 1 pair (0 ∷ 0 ∷ []) (release 0 0 2 ∷ release 1 0 1 ∷ []) (4 ∷ 6 ∷ [])
-    ∷ checked 1 (task 3 0 2 3 ∷ []) none
-    ∷ checked 1 (task 3 0 2 2 ∷ []) (refuse 17 0)
-    ∷ checked 1 (task 2 0 2 3 ∷ []) (refuse 17 0)
-    ∷ checked 1 (task 2 0 2 2 ∷ task 2 0 3 2 ∷ []) (refuse 17 0)
-    ∷ checked 1 (task 2 0 3 2 ∷ task 2 0 2 2 ∷ []) (refuse 6 0)
-    ∷ [])
+    ∷ chargeVerdicts
+    ∷ chargeRun
+    ∷ chargeChecks
     ∷ []

@@ -10,7 +10,8 @@ use lib.Dec.{leb, ltb, eqb}
 use Rattle.model.specs.Limits.{maxTick}
 use Rattle.model.specs.Tasks.{Tasks, Release}
 use Rattle.model.specs.Refusal.{Refusal, Answer, refused, answered, firstOf}
-use Rattle.model.specs.Checks.{Lent, Inputs, inRange, carries, entryFault, faultOf, faultAt, refuseAt, refuseIf, refuseBy, checkEntries, checkTasks, checkTask, checkCount, checkSlots, checkKept, releaseFault, checkReleases, checkChoice, refusalOf, answerOf}
+use Rattle.model.specs.Checks.{Lent, Inputs, checkEntries, checkTasks, checkTask, checkCount, checkSlots, checkKept, releaseFault, checkReleases, checkChoice, refusalOf, answerOf}
+use Rattle.model.specs.Checks.{inRange, carries, entryFault, faultOf, faultAt, refuseAt, refuseIf, refuseBy}
 use Rattle.model.proofs.CheckLaws.{slots-short, slots-next, slots-none, slots-first, slots-rest}
 use Rattle.nolkrada.specs.Interface.{afterSlots, tooFew, withSlots}
 use Rattle.nolkrada.specs.SlotsLast.{alsoLends, SlotsLast}

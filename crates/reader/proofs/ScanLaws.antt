@@ -22,7 +22,8 @@ use Rattle.model.proofs.CheckLaws.{faulty, fault-of, faultless-of}
 use Rattle.fileformat.specs.Records.{widthIn, Width, Record, broken, taskRecord, releaseRecord, chargeRecord, endRecord, releaseSize, recordOf, sizeOf}
 use Rattle.fileformat.specs.File.{State, stop, sheetWith, chargeFault, taskFault, lowTick, highTick, listFault, advance, afterEnd, readFrom, empty, decode}
 use Rattle.fileformat.specs.FileCalls.{tasksIn, setOf, setWith, chargeBytes, readSheet}
-use Rattle.fileformat.proofs.StepLaws.{charge-of, charge-stops, charge-taken, task-few, task-first, list-fault, end-early, end-fine, broken-stops, task-stops, task-taken, release-stops, release-taken, end-stops, end-taken, read-stop, read-next, read-last}
+use Rattle.fileformat.proofs.StepLaws.{charge-of, charge-stops, charge-taken, task-few, task-first, list-fault, end-early, end-fine}
+use Rattle.fileformat.proofs.StepLaws.{broken-stops, task-stops, task-taken, release-stops, release-taken, end-stops, end-taken, read-stop, read-next, read-last}
 use Rattle.fileformat.proofs.SheetLaws.{same-sheet, length-tasks, list-agrees, set-of-tasks}
 use Rattle.fileformat.proofs.NumberLaws.{by-order}
 use Rattle.fileformat.proofs.OffsetLaws.{room}
