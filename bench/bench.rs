@@ -12,113 +12,14 @@ mod library;
 #[allow(dead_code)]
 mod reference;
 mod same_method;
+mod sheets;
+mod timing;
 
 use generator::{legal_list_for, list_for, numbers_of, Random};
 use reference::{Budget, Release, Sheet, Task, MAX_SHORT_TICK, MAX_TICK};
+use sheets::{charged, full_sheet, light_sheet, long_walk, longest, short_periods, CHARGE, LONGEST};
 use std::hint::black_box;
-
-const REPETITIONS: usize = 21;
-
-/// The C library's `struct timespec` on 64-bit Linux.
-#[repr(C)]
-struct Timespec {
-    seconds: i64,
-    nanoseconds: i64,
-}
-
-extern "C" {
-    fn clock_gettime(clock: i32, time: *mut Timespec) -> i32;
-}
-
-/// Processor time of this thread in microseconds.
-fn processor_time() -> f64 {
-    const THREAD_CPUTIME: i32 = 3;
-    let mut t = Timespec { seconds: 0, nanoseconds: 0 };
-    assert_eq!(unsafe { clock_gettime(THREAD_CPUTIME, &mut t) }, 0);
-    t.seconds as f64 * 1e6 + t.nanoseconds as f64 / 1e3
-}
-
-/// Time of one call in microseconds.
-fn once(call: &mut dyn FnMut(), calls: u32) -> f64 {
-    let start = processor_time();
-    for _ in 0..calls {
-        call();
-    }
-    (processor_time() - start) / calls as f64
-}
-
-/// As many calls as take some milliseconds.
-fn calls_for(call: &mut dyn FnMut()) -> u32 {
-    let mut calls = 1;
-    while once(call, calls) * (calls as f64) < 3_000.0 && calls < 1 << 20 {
-        calls *= 2;
-    }
-    calls
-}
-
-/// Medians of the times of several calls, each timed in turn; of seven repetitions where a call takes over 0.1 s, and one call of
-/// each where one takes over 1 s.
-fn medians(all: &mut [&mut dyn FnMut()]) -> Vec<f64> {
-    let single: Vec<f64> = all.iter_mut().map(|c| once(*c, 1)).collect();
-    let longest = single.iter().copied().fold(0.0, f64::max);
-    if longest > 1_000_000.0 {
-        return single;
-    }
-    let calls: Vec<u32> = all.iter_mut().map(|c| calls_for(*c)).collect();
-    let mut times: Vec<Vec<f64>> = vec![Vec::new(); all.len()];
-    for _ in 0..if longest > 100_000.0 { 7 } else { REPETITIONS } {
-        for (i, call) in all.iter_mut().enumerate() {
-            times[i].push(once(*call, calls[i]));
-        }
-    }
-    times
-        .iter_mut()
-        .map(|t| {
-            t.sort_by(|a, b| a.partial_cmp(b).unwrap());
-            t[t.len() / 2]
-        })
-        .collect()
-}
-
-/// n tasks with a load of about 95 in 100 whatever n is, full jitters of half a period and deadlines that all tasks meet.
-fn full_sheet(n: u32) -> Sheet {
-    let tasks: Vec<Task> = (0..n)
-        .map(|i| {
-            let p = 3_000 + 211 * ((i * 7) % 32);
-            Task { p, j: p / 2, e: p * 95 / (100 * n), d: 1_000_000 }
-        })
-        .collect();
-    Sheet::of(&tasks)
-}
-
-/// The charge of the rows that have one.
-const CHARGE: u8 = 5;
-
-/// The charge taken off each cost: the sheet has the same load with it, so that a row with a charge has the walk, the run and the size
-/// of the row without it.
-fn charged(sheet: &Sheet) -> Sheet {
-    let tasks: Vec<Task> = sheet.tasks.iter().map(|t| Task { e: t.e - CHARGE as u32, ..*t }).collect();
-    Sheet::of(&tasks).charged(CHARGE)
-}
-
-/// A sheet of 32 tasks of which the lowest walks over many q.
-fn long_walk() -> (Sheet, Vec<u32>) {
-    let mut tasks: Vec<Task> = (0..31).map(|_| Task { p: 32, j: 31, e: 1, d: 1_000_000 }).collect();
-    tasks.push(Task { p: 40, j: 1, e: 1, d: 1_000_000 });
-    let kept = (0..32).map(|i| if i == 31 { 1 } else { i }).collect();
-    (Sheet::of(&tasks), kept)
-}
-
-/// Sheets of 32 tasks that load the processor whole or more, so that the verdict of the lowest walks over q up to the horizon or to a
-/// late job: the period of the 31 above, the kept jitter that each has more than the one above it, and the period of the lowest.
-const LONGEST: [(u32, u32, u32); 3] = [(62, 0, 2), (40, 1, 4), (32, 1, 32)];
-
-fn longest((above, step, lowest): (u32, u32, u32)) -> (Sheet, Vec<u32>) {
-    let mut tasks: Vec<Task> = (0..31).map(|_| Task { p: above, j: 31 * step, e: 1, d: 1_000_000 }).collect();
-    tasks.push(Task { p: lowest, j: 1, e: 1, d: 1_000_000 });
-    let kept = (0..32).map(|i| if i == 31 { 1 } else { step * i }).collect();
-    (Sheet::of(&tasks), kept)
-}
+use timing::medians;
 
 struct List {
     sheet: Sheet,
@@ -425,6 +326,13 @@ fn full_size() {
     let (sheet, kept) = long_walk();
     line("verdict of task 31 of 32, many q", &time_verdict(&sheet, &kept, 31));
     line("choice of 32 tasks", &time_choice(&full));
+    let short = short_periods();
+    let short_kept: Vec<u32> = short.tasks.iter().map(|t| t.j / 4).collect();
+    line("verdict of task 30 of 32, every fourth period below 12", &time_verdict(&short, &short_kept, 30));
+    line("choice of 32 tasks, every fourth period below 12", &time_choice(&short));
+    let light = light_sheet();
+    line("verdict of task 31 of 32, load of 5 in 100", &time_verdict(&light, &full_kept, 31));
+    line("choice of 32 tasks, load of 5 in 100", &time_choice(&light));
     let with_charge = charged(&full);
     line("verdict of task 31 of 32, with a charge", &time_verdict(&with_charge, &full_kept, 31));
     line("choice of 32 tasks, with a charge", &time_choice(&with_charge));

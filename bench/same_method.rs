@@ -94,26 +94,36 @@ fn check_list(tasks: &[Task], n: usize, list: Columns) -> Checked {
 
 // ---- Verdict and choice ------------------------------------------------------------------------------------------------
 
-/// Loads, which are costs and the charge, and periods of the tasks above, in flat columns.
+/// Loads, which are costs and the charge, and periods, in flat columns; and of the first periods the factors 2^44 ÷ P, rounded up, in
+/// two parts.
 struct Flat {
     loads: [u32; 32],
     periods: [u32; 32],
+    highs: [u32; 32],
+    lows: [u32; 32],
 }
 
-fn flat(tasks: &[Task], charge: u8) -> Flat {
-    let mut f = Flat { loads: [0; 32], periods: [0; 32] };
+fn flat(tasks: &[Task], charge: u8, factors: usize) -> Flat {
+    let mut f = Flat { loads: [0; 32], periods: [0; 32], highs: [0; 32], lows: [0; 32] };
     for (i, t) in tasks.iter().enumerate() {
         f.loads[i] = t.e + charge as u32;
         f.periods[i] = t.p;
+    }
+    for i in 0..factors {
+        let m = (1u64 << 44).div_ceil(f.periods[i] as u64);
+        f.highs[i] = (m >> 20) as u32;
+        f.lows[i] = (m & 0xfffff) as u32;
     }
     f
 }
 
 fn above_load(f: &Flat, kept: &[u32], n: usize, t: u32) -> u64 {
+    let (loads, periods, highs, lows, kept) = (&f.loads[..n], &f.periods[..n], &f.highs[..n], &f.lows[..n], &kept[..n]);
     let mut sum = 0u64;
     for j in 0..n {
-        let (e, p, k) = (f.loads[j], f.periods[j], kept[j]);
-        sum += e as u64 * ((t + k + p - 1) / p) as u64;
+        let y = (t + kept[j] + periods[j] - 1) as u64;
+        let count = (y * highs[j] as u64 + ((y * lows[j] as u64) >> 20)) >> 24;
+        sum += loads[j] as u64 * count as u32 as u64;
     }
     sum
 }
@@ -141,7 +151,7 @@ pub fn verdict(tasks: &[Task], charge: u8, task: usize, kept: &[u32]) -> Result<
     }
     check_slots(kept.len(), tasks.len())?;
     check_kept(tasks, kept)?;
-    let f = flat(tasks, charge);
+    let f = flat(tasks, charge, task);
     let t = tasks[task];
     let (p, j, d, k) = (t.p as i64, t.j as i64, t.d as i64, kept[task] as i64);
     let once: u64 = f.loads[..task].iter().map(|&e| e as u64).sum();
@@ -192,7 +202,7 @@ pub fn choice(tasks: &[Task], charge: u8, kept: &mut [u32], worst: &mut [u32]) -
     check_sheet(tasks, charge)?;
     check_slots(kept.len(), tasks.len())?;
     check_slots(worst.len(), tasks.len())?;
-    let f = flat(tasks, charge);
+    let f = flat(tasks, charge, tasks.len());
     let (mut keeps, mut worsts) = ([0u32; 32], [0u32; 32]);
     for (i, t) in tasks.iter().enumerate() {
         match least_keep(&f, &keeps, i, t) {

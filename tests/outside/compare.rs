@@ -1318,6 +1318,50 @@ fn check_reference_charge(r: &mut Random, cases: u32) {
     }
 }
 
+/// Some tasks of one period P and one kept jitter K above a task of which W(0) is kP − K: what they leave free of each P up to there is
+/// its cost and K. There the arrival count steps, a tick later it is one more.
+fn sheet_at_step(above: u32, p: u32, k: u32, keep: u32) -> Option<(Sheet, Vec<u32>)> {
+    let free = (keep + k) / k;
+    let (taken, cost) = (p.checked_sub(free)?, k * free - keep);
+    if taken < above || cost > 1_000_000 {
+        return None;
+    }
+    let share = |j: u32| taken / above + (j < taken % above) as u32;
+    let mut tasks: Vec<Task> = (0..above).map(|j| Task { p, j: keep, e: share(j), d: 1_000_000 }).collect();
+    tasks.push(Task { p: 1_000_000, j: 0, e: cost, d: 1_000_000 });
+    let mut kept = vec![keep; above as usize];
+    kept.push(0);
+    Some((Sheet::of(&tasks), kept))
+}
+
+/// Arrival counts at their steps, up to the horizon: every period up to 64, those around each power of 2, the largest ones, and others;
+/// over one task and over several. W(0) is known, and where it is over the deadline the verdict tells it.
+fn counts_at_steps(r: &mut Random, tally: &mut Tally, others: u32) {
+    let mut periods: Vec<u32> = (2..=64).chain((6..20).flat_map(|b| (1 << b) - 1..=(1 << b) + 1)).chain(999_980..=1_000_000).collect();
+    periods.extend((0..others).map(|_| r.within(65, 999_979)));
+    let mut last = 0;
+    for p in periods {
+        for keep in [0, 1, p - 1, p, 1_000_000] {
+            let most = (10_000_000 + keep) / p;
+            let above = r.of(&[1, 2, 3, 4, 5, 7, 8, 30, 31]);
+            for k in [most, most - most / 8, most / 2, r.within(1, most)] {
+                let Some((sheet, kept)) = sheet_at_step(above, p, k, keep) else { continue };
+                let w = k * p - keep;
+                let verdict = reference::verdict(&sheet, above as usize, &kept, &mut Budget::of(1_000_000));
+                if let (Ok(Ok(v)), true) = (verdict, w >= 1_000_000) {
+                    assert!(matches!(v, Verdict::Late { q: 0, r } if r as u32 == w + 1));
+                    last = last.max(w);
+                }
+                let mut case = Case::sound(r, &sheet, &[]);
+                case.kept = kept;
+                compare_verdict(r, tally, &case, above, 1_000_000);
+                compare_choice(r, tally, &case, 100_000);
+            }
+        }
+    }
+    assert_eq!(last, 10_000_000);
+}
+
 /// Walks that reach the horizon or take many q, and jitters for which every K in 0..J can only just be tried. With a charge too, where
 /// the costs leave a part for it.
 fn long_walks(r: &mut Random, tally: &mut Tally) {
@@ -1656,6 +1700,7 @@ fn main() {
     timed("the same with 1,024 releases", || write_places(r, tally, 20, &[1024]));
     timed("texts, cut and changed at every byte", || texts(r, tally, 200));
     timed("numbers and lines at the limits", || full_texts(r, tally));
+    timed("arrival counts at their steps", || counts_at_steps(r, tally, 1_000));
     timed("long walks", || long_walks(r, tally));
     for ((name, n), charged) in NAMES.iter().zip(tally.calls).zip(tally.charged) {
         println!("{:<14} {:8} calls, {} answered with a charge", name, n, charged);

@@ -263,6 +263,36 @@ fn horizon(v: &mut Vectors) {
     add_choice(v, "horizon at a late q, K 1 above", &choosing(&kept));
 }
 
+/// W(0) where the arrival count of the tasks above steps. Tasks of period P and kept jitter K leave `free` ticks of each P, above a cost of
+/// k × free − K: at each multiple of P before the k-th, less K, some ticks are missing, and at that one none. R(0) is kP − K + 1.
+fn steps(v: &mut Vectors) {
+    let mut add = |p: u32, k: u32, keep: u32, free: u32| {
+        for above in [1, 5, 31].into_iter().filter(|&n| n <= p - free) {
+            let part = |j: u32| (p - free) / above + (j < (p - free) % above) as u32;
+            let mut all: Vec<_> = (0..above).map(|j| (p, keep, part(j), MILLION)).collect();
+            all.push((MILLION, 0, k * free - keep, MILLION));
+            let mut kept = vec![keep; above as usize];
+            kept.push(0);
+            let c = about(&sheet(&all), above, &kept, 0);
+            let label = format!("verdict, step {k} of period {p}, K {keep}, {above} above");
+            v.worked(&label, &verdict_blocks(&c), &verdict_answer(&c), &format!(" late q 0 R {}", k * p - keep + 1));
+        }
+    };
+    for (p, k) in [(2, 1_000_000), (3, 1_000_000), (7, 1_000_000), (10, 1_000_000), (11, 909_090), (12, 833_333), (13, 769_230)] {
+        add(p, k, 0, 1);
+        add(p, k, p - 1, 1);
+    }
+    for p in [1_023, 1_024, 1_025, 65_535, 65_536, 65_537, 524_287, 524_288, 524_289] {
+        add(p, 10_000_000 / p, 0, 1);
+        add(p, 10_000_000 / p, 1, 1);
+    }
+    for p in [999_979, 999_983, 999_998, 999_999, MILLION] {
+        add(p, 10, 0, 1);
+        add(p, 10, 9, 1);
+        add(p, 11, p, 90_910);
+    }
+}
+
 /// 32 tasks that load a part of the processor.
 fn loaded(per_mille: u32, jitter: u32, deadlines: u32) -> Sheet {
     let all: Vec<_> = (0..32u32)
@@ -588,5 +618,6 @@ pub fn vectors() -> Vectors {
     charged_parts(&mut v);
     charged_small(&mut v);
     charged_checks(&mut v);
+    steps(&mut v);
     v
 }

@@ -58,8 +58,8 @@ module _ (s : TaskSet) (loads periods : List ℕ) where
       small m h =
           let r = f .valid .in-range m (omega arith) in
           let g = f .valid .carried m (omega arith) in
-          let e = f .copied .load-is m (omega arith) in
-          let d = f .copied .period-is m (omega arith) in
+          let e = f .copied .of-loads .each m (omega arith) in
+          let d = f .copied .of-periods .each m (omega arith) in
           record {
             load-high = omega (arith, g .load-period, r .period-high);
             period-low = omega (arith, r .period-low);
@@ -75,29 +75,29 @@ module _ (s : TaskSet) (loads periods : List ℕ) where
               above =
                   record {
                     few = omega (arith, f .valid .few-tasks);
-                    loads-long = omega (arith, f .valid .few-tasks, f .copied .loads-long);
-                    periods-long = omega (arith, f .valid .few-tasks, f .copied .periods-long);
+                    loads-long = omega (arith, f .valid .few-tasks, f .copied .of-loads .long);
+                    periods-long = omega (arith, f .valid .few-tasks, f .copied .of-periods .long);
                     keeps-long = omega (arith, f .valid .few-tasks, f .keep-long);
                     small = small;
                   };
-              loads-long = omega (arith, f .valid .few-tasks, f .copied .loads-long);
+              loads-long = omega (arith, f .valid .few-tasks, f .copied .of-loads .long);
               cost-low = omega (arith, own-load, own-range .cost-low);
               cost-high = omega (arith, own-load, own-range .cost-period, own-range .period-high);
             };
-        periods-long = omega (arith, f .valid .few-tasks, f .copied .periods-long);
-        own = rw (f .copied .load-is i l, f .copied .period-is i l) own-range;
+        periods-long = omega (arith, f .valid .few-tasks, f .copied .of-periods .long);
+        own = rw (f .copied .of-loads .each i l, f .copied .of-periods .each i l) own-range;
       }
         where
           own-range : InRange (viewOf s .period i) (viewOf s .jitter i) (load (viewOf s) i) (viewOf s .deadline i)
           own-range = absorbed-valid (viewOf s) (f .valid) .in-range i l
 
           own-load : column loads i ≡ load (viewOf s) i
-          own-load = f .copied .load-is i l
+          own-load = f .copied .of-loads .each i l
 
       flat-view : Flat (viewOf s) loads periods i (viewOf s .jitter i) (viewOf s .deadline i)
       flat-view = record {
-        load-is = λ m h. sym (f .copied .load-is m (omega arith));
-        period-is = λ m h. sym (f .copied .period-is m (omega arith));
+        load-is = λ m h. sym (f .copied .of-loads .each m (omega arith));
+        period-is = λ m h. sym (f .copied .of-periods .each m (omega arith));
         jitter-is = refl;
         deadline-is = refl;
       }

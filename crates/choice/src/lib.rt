@@ -8,9 +8,11 @@ ghost use Rattle.model.specs.Checks.{refusalOf};
 ghost use Rattle.model.specs.Choice.{choice};
 ghost use Rattle.model.specs.Calls.{choiceInputs, columnAfter, keptColumn, worstColumn};
 ghost use Rattle.taskset.specs.TaskSet.{viewOf, refusalIn};
+ghost use Rattle.demand.specs.Columns.{Factored};
 ghost use Rattle.choice.specs.Choices.{Searched, Walkable, windowOf, LeastOf, Product, Stepped, stepOf, ChoicesAre};
 use demand::above_load;
 use demand::columns_of;
+use demand::factors_of;
 use numbers::larger;
 use numbers::less;
 use numbers::wide;
@@ -52,14 +54,24 @@ fn product(n: u32, x: u32) -> u64
 }
 
 // W(q) of task n, by the rising list from a t below which no demand is met: the next t is the demand in the t just tried.
-fn window_from(loads: &[u32], periods: &[u32], keeps: &[u32], n: usize, q: u32, from: u32) -> Window
+fn window_from(
+    loads: &[u32],
+    periods: &[u32],
+    highs: &[u32],
+    lows: &[u32],
+    keeps: &[u32],
+    n: usize,
+    q: u32,
+    from: u32,
+) -> Window
     requires { ⌜ Searched (now loads) (now periods) (now keeps) n q from ⌝ }
+    requires { ⌜ Factored (now periods) (now highs) (now lows) n ⌝ }
     ensures { λ r. ⌜ windowOf (now (loads .entry)) (now (periods .entry)) (now (keeps .entry)) n q r ⌝ }
 {
     let own = product(q + 1, loads[n]);
     let mut t = from;
     loop {
-        let d = own + above_load(loads, periods, keeps, n, t);
+        let d = own + above_load(loads, periods, highs, lows, keeps, n, t);
         if d <= wide(t) {
             return Window::Within(t);
         }
@@ -97,12 +109,15 @@ fn step_at(period: u32, jitter: u32, deadline: u32, high: u32, q: u32, w: u32) -
 fn least_keep(
     loads: &[u32],
     periods: &[u32],
+    highs: &[u32],
+    lows: &[u32],
     keeps: &[u32],
     i: usize,
     jitter: u32,
     deadline: u32,
 ) -> Least
     requires { ⌜ Walkable (now loads) (now periods) (now keeps) i jitter deadline ⌝ }
+    requires { ⌜ Factored (now periods) (now highs) (now lows) i ⌝ }
     ensures { λ r. ⌜ LeastOf (now (loads .entry)) (now (periods .entry)) (now (keeps .entry)) i jitter deadline r ⌝ }
 {
     let period = periods[i];
@@ -110,7 +125,7 @@ fn least_keep(
     let mut high: u32 = 0;
     let mut from: u32 = 1;
     loop {
-        let found = window_from(loads, periods, keeps, i, q, from);
+        let found = window_from(loads, periods, highs, lows, keeps, i, q, from);
         let Window::Within(w) = found else {
             return Least::Unfit;
         };
@@ -128,7 +143,7 @@ fn least_keep(
     }
 }
 
-// The choice of a sheet within its limits, from task 0 down to the first task that fits at no K.
+// The choice of a sheet within its limits, from task 0 down to the first task that fits at no K. The lowest task is above no other, so its factor is not needed.
 fn choices_of(s: TaskSet) -> Choices
     requires { ⌜ Valid (viewOf s) ⌝ }
     ensures { λ r. ⌜ ChoicesAre (viewOf s) r ⌝ }
@@ -137,12 +152,24 @@ fn choices_of(s: TaskSet) -> Choices
     let loads = flat.loads;
     let periods = flat.periods;
     let count = s.count;
+    let by = factors_of(&periods, count - 1);
+    let highs = by.highs;
+    let lows = by.lows;
     let mut keep: [u32; 32] = [0; 32];
     let mut worst: [u32; 32] = [0; 32];
     let mut i = 0;
     while i < count {
         let own = s.tasks[i];
-        let least = least_keep(&loads, &periods, &keep, i, own.jitter, own.deadline);
+        let least = least_keep(
+            &loads,
+            &periods,
+            &highs,
+            &lows,
+            &keep,
+            i,
+            own.jitter,
+            own.deadline,
+        );
         let Least::Keep { keep: k, worst: w } = least else {
             return Choices {
                 keep: keep,

@@ -6,10 +6,14 @@ use native.Mathlib.Nat.{le-div-iff-mul-le}
 use Rattle.model.specs.Arrival.{ceilDiv, arrivals}
 
 -- from one tick on, the count is a quotient rounded up
+pub arrivals-ceil : (P K t : ℕ) → 1 ≤ t → arrivals P K t ≡ ceilDiv (t + K) P
+unfolding arrivals
+arrivals-ceil P K zero h = absurd (omega arith)
+arrivals-ceil P K (suc t) h = refl
+
 pub arrivals-at : (P K t : ℕ) → 1 ≤ t → arrivals P K t ≡ (t + K + P - 1) / P
-unfolding arrivals ceilDiv
-arrivals-at P K zero h = absurd (omega arith)
-arrivals-at P K (suc t) h = refl
+unfolding ceilDiv
+arrivals-at P K t h = arrivals-ceil P K t h
 
 -- none in 0 ticks
 pub arrivals-none : (P K : ℕ) → arrivals P K 0 ≡ 0

@@ -1,24 +1,24 @@
 -- Laws of the columns: the sums step by step, and the copy of a task set's columns.
 use Prim.Native.Nat.{ℕ, _+_, _-_, _*_, _/_, _≤_, _<_}
 use mathlib.Core.Path.{_≡_, refl, sym, ap, _∙_}
-use mathlib.Core.Logic.{dite}
 use mathlib.Core.List.{List}
 use native.Mathlib.Omega.{arith}
 use native.Mathlib.Nat.{add-zero, mul-le-mul, div-le-self}
-use native.Mathlib.Decide.{decLt}
 use native.Mathlib.Numerals.{add-one}
-use lib.ListN.{length, set, replicate, length-set, getD-replicate}
-use lib.Seq.{getD-set-same, getD-set-other}
+use lib.ListN.{set, replicate}
 use Rattle.model.specs.Series.{sum}
-use Rattle.model.specs.Limits.{maxTasks}
-use Rattle.model.specs.Tasks.{load}
-use Rattle.model.specs.Arrival.{arrivals}
+use Rattle.model.specs.Limits.{maxTasks, maxTime, horizonTick}
+use Rattle.model.specs.Tasks.{load, Valid}
+use Rattle.model.specs.Arrival.{ceilDiv, arrivals}
 use Rattle.model.specs.Demand.{aboveLoad}
 use Rattle.model.specs.Choice.{column}
+use Rattle.model.proofs.SlotLaws.{holds-none, holds-next}
 use Rattle.taskset.specs.declared.TaskSet.{TaskSet}
 use Rattle.taskset.specs.TaskSet.{viewOf}
-use Rattle.demand.specs.Columns.{columnLoad, flatTasks, Small, Tried, IsTerm, IsLoad, IsOnce, Copied}
-use Rattle.demand.proofs.ArrivalCountLaws.{arrivals-at}
+use Rattle.quotient.specs.declared.Factor.{Factor}
+use Rattle.quotient.specs.Factor.{partsOf, IsFactor, Divided}
+use Rattle.demand.specs.Columns.{columnLoad, flatTasks, Small, Tried, Periods, Factored, IsTerm, IsLoad, IsOnce, Copied, Prepared}
+use Rattle.demand.proofs.ArrivalCountLaws.{arrivals-ceil}
 
 -- the loads of a task set without a charge are its column
 pub flat-loads : (loads periods : List ℕ) (J D : ℕ) → load (flatTasks loads periods J D) ≡ column loads
@@ -30,14 +30,19 @@ unfolding columnLoad aboveLoad
 column-above loads periods keeps J D n t =
     ap (λ f. sum (λ j. f j * arrivals (column periods j) (column keeps j) t) n) (sym (flat-loads loads periods J D))
 
--- load × arrival count, as the code computes it, stays below 64 bits
-pub term-high : (E P K t : ℕ) → Small E P K → Tried t → E * ((t + K + P - 1) / P) ≤ 12000000000000
+-- what the search meets can be divided by the period of a task
+pub divided : (E P h l K x : ℕ) → Small E P K → IsFactor P h l → x ≤ horizonTick + maxTime → Divided x P h l
+divided E P h l K x s f r = record { period-low = s .period-low; period-high = s .period-high; dividend = r; by = f }
+
+-- load × arrival count stays below 64 bits
+pub term-high : (E P K t : ℕ) → Small E P K → Tried t → E * ceilDiv (t + K) P ≤ 12000000000000
+unfolding ceilDiv
 term-high E P K t s h =
     mul-le-mul {n₂ = 1000000} {m₂ = 12000000} (s .load-high) (omega (arith, div-le-self (t + K + P - 1) P))
 
 -- and is the definition's
-pub term-is : (E P K t : ℕ) → Small E P K → Tried t → IsTerm E P K t (E * ((t + K + P - 1) / P))
-term-is E P K t s h = record { is = ap (_*_ E) (sym (arrivals-at P K t (h .low))); high = term-high E P K t s h }
+pub term-is : (E P K t : ℕ) → Small E P K → Tried t → IsTerm E P K t (E * ceilDiv (t + K) P)
+term-is E P K t s h = record { is = ap (_*_ E) (sym (arrivals-ceil P K t (h .low))); high = term-high E P K t s h }
 
 -- the sum of the first j terms
 pub record Summed (loads periods keeps : List ℕ) (n t j r : ℕ) : Type 0 where
@@ -90,29 +95,9 @@ pub once-all : (loads : List ℕ) (n j r : ℕ) → n ≤ 32 → Once loads n j 
 once-all loads n j r few f l =
     let e : j ≡ n = omega arith in record { is = f .is ∙ ap (sum (column loads)) e; high = omega arith }
 
--- a slot set, and those before it kept
-slot-next : (l : List ℕ) (f : ℕ → ℕ) (j : ℕ) → j < length l → ((m : ℕ) → m < j → column l m ≡ f m) → (m : ℕ) → m < j + 1 → column (set l j (f j)) m ≡ f m
-slot-next l f j h g m k =
-    dite (decLt m j)
-    (λ b. getD-set-other l j m (f j) 0 (λ e. omega arith) ∙ g m b)
-    (λ b. let e : m ≡ j = omega arith in rw e (getD-set-same l j (f j) 0 h))
-
--- a slot set, and those past it kept
-past-next : (l : List ℕ) (j v : ℕ) → ((m : ℕ) → j ≤ m → m < maxTasks → column l m ≡ 0) → (m : ℕ) → j + 1 ≤ m → m < maxTasks → column (set l j v) m ≡ 0
-past-next l j v g m k h = getD-set-other l j m v 0 (λ e. omega arith) ∙ g m (omega arith) h
-
 -- nothing is copied
 pub copied-none : (s : TaskSet) → Copied s 0 (replicate maxTasks 0) (replicate maxTasks 0)
-copied-none s =
-    record {
-      within = omega arith;
-      loads-long = refl;
-      periods-long = refl;
-      load-is = λ m l. absurd (omega arith);
-      period-is = λ m l. absurd (omega arith);
-      load-past = λ m l h. getD-replicate maxTasks m 0 0 h;
-      period-past = λ m l h. getD-replicate maxTasks m 0 0 h;
-    }
+copied-none s = record { within = omega arith; of-loads = holds-none _ _; of-periods = holds-none _ _ }
 
 -- one task more
 pub copied-next : (s : TaskSet) (loads periods : List ℕ) (j : ℕ)
@@ -123,14 +108,44 @@ pub copied-next : (s : TaskSet) (loads periods : List ℕ) (j : ℕ)
 copied-next s loads periods j few f l =
     record {
       within = omega arith;
-      loads-long = simp length-set (f .loads-long);
-      periods-long = simp length-set (f .periods-long);
-      load-is = slot-next loads (λ m. load (viewOf s) m) j (omega arith) (f .load-is);
-      period-is = slot-next periods (λ m. viewOf s .period m) j (omega arith) (f .period-is);
-      load-past = past-next loads j _ (f .load-past);
-      period-past = past-next periods j _ (f .period-past);
+      of-loads = holds-next _ _ j _ loads (f .of-loads) (omega arith) refl;
+      of-periods = holds-next _ _ j _ periods (f .of-periods) (omega arith) refl;
     }
 
 -- all tasks
 pub copied-all : (s : TaskSet) (loads periods : List ℕ) (j : ℕ) → Copied s j loads periods → s .count ≤ j → Copied s (s .count) loads periods
 copied-all s loads periods j f l = let e : j ≡ s .count = omega arith in rw e at f
+
+-- the periods of the first i tasks of a valid sheet
+pub copied-periods : (s : TaskSet) (loads periods : List ℕ) (i : ℕ) → Valid (viewOf s) → Copied s (s .count) loads periods → i ≤ s .count → Periods periods i
+copied-periods s loads periods i v f h =
+    record {
+      few = omega (arith, v .few-tasks);
+      long = omega (arith, v .few-tasks, f .of-periods .long);
+      low = λ j l. omega (arith, f .of-periods .each j (omega arith), v .in-range j (omega arith) .period-low);
+    }
+
+-- no period is prepared
+pub prepared-none : (periods : List ℕ) → Prepared periods 0 (replicate maxTasks 0) (replicate maxTasks 0)
+prepared-none periods = record { of-highs = holds-none _ _; of-lows = holds-none _ _ }
+
+-- one period more
+pub prepared-next : (periods highs lows : List ℕ) (j : ℕ) (m : Factor)
+    → Prepared periods j highs lows
+    → j < 32
+    → m ≡ partsOf (column periods j)
+    → Prepared periods (j + 1) (set highs j (m .high)) (set lows j (m .low))
+prepared-next periods highs lows j m f l e =
+    record {
+      of-highs = holds-next _ _ j (m .high) highs (f .of-highs) l (ap (λ r. r .high) e);
+      of-lows = holds-next _ _ j (m .low) lows (f .of-lows) l (ap (λ r. r .low) e);
+    }
+
+-- what is prepared for n periods serves the sum over fewer tasks
+pub factored : (periods highs lows : List ℕ) (n i : ℕ) → Prepared periods n highs lows → n ≤ 32 → i ≤ n → Factored periods highs lows i
+factored periods highs lows n i f few h =
+    record {
+      highs-long = omega (arith, f .of-highs .long);
+      lows-long = omega (arith, f .of-lows .long);
+      each = λ j l. record { high-is = f .of-highs .each j (omega arith); low-is = f .of-lows .each j (omega arith) };
+    }

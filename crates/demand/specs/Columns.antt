@@ -5,11 +5,13 @@ use mathlib.Core.List.{List}
 use lib.ListN.{length}
 use Rattle.model.specs.Series.{sum}
 use Rattle.model.specs.Limits.{maxTasks, maxTime, horizonTick}
+use Rattle.model.specs.Slots.{Holds}
 use Rattle.model.specs.Tasks.{Tasks, load}
 use Rattle.model.specs.Arrival.{arrivals}
 use Rattle.model.specs.Choice.{column}
 use Rattle.taskset.specs.declared.TaskSet.{TaskSet}
 use Rattle.taskset.specs.TaskSet.{viewOf}
+use Rattle.quotient.specs.Factor.{highOf, lowOf, IsFactor}
 
 -- the sum over the first n tasks of load × arrival count in t ticks
 unfoldable pub columnLoad : List ℕ → List ℕ → List ℕ → ℕ → ℕ → ℕ
@@ -46,6 +48,18 @@ pub record Columns (loads periods keeps : List ℕ) (n : ℕ) : Type 0 where
   pub keeps-long : n ≤ length keeps
   pub small : (j : ℕ) → j < n → Small (column loads j) (column periods j) (column keeps j)
 
+-- n periods in a column
+pub record Periods (periods : List ℕ) (n : ℕ) : Type 0 where
+  pub few : n ≤ maxTasks
+  pub long : n ≤ length periods
+  pub low : (j : ℕ) → j < n → 1 ≤ column periods j
+
+-- columns that hold the factors of the first n periods, in two parts
+pub record Factored (periods highs lows : List ℕ) (n : ℕ) : Type 0 where
+  pub highs-long : n ≤ length highs
+  pub lows-long : n ≤ length lows
+  pub each : (j : ℕ) → j < n → IsFactor (column periods j) (column highs j) (column lows j)
+
 -- columns of the tasks above i, and the load of task i: what the search for W(q) needs
 pub record Searchable (loads periods keeps : List ℕ) (i : ℕ) : Type 0 where
   pub above : Columns loads periods keeps i
@@ -71,9 +85,10 @@ pub record IsOnce (loads : List ℕ) (n r : ℕ) : Type 0 where
 -- columns that hold loads and periods of the first j tasks of a task set, and 0 past them
 pub record Copied (s : TaskSet) (j : ℕ) (loads periods : List ℕ) : Type 0 where
   pub within : j ≤ s .count
-  pub loads-long : length loads ≡ 32
-  pub periods-long : length periods ≡ 32
-  pub load-is : (m : ℕ) → m < j → column loads m ≡ load (viewOf s) m
-  pub period-is : (m : ℕ) → m < j → column periods m ≡ viewOf s .period m
-  pub load-past : (m : ℕ) → j ≤ m → m < maxTasks → column loads m ≡ 0
-  pub period-past : (m : ℕ) → j ≤ m → m < maxTasks → column periods m ≡ 0
+  pub of-loads : Holds (load (viewOf s)) j maxTasks loads
+  pub of-periods : Holds (viewOf s .period) j maxTasks periods
+
+-- columns that hold the factors of the first n periods, in two parts, and 0 past them
+pub record Prepared (periods : List ℕ) (n : ℕ) (highs lows : List ℕ) : Type 0 where
+  pub of-highs : Holds (λ j. highOf (column periods j)) n maxTasks highs
+  pub of-lows : Holds (λ j. lowOf (column periods j)) n maxTasks lows

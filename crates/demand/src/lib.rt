@@ -6,9 +6,12 @@ ghost use Rattle.model.specs.Arrival as model_arrival;
 ghost use Rattle.model.specs.Checks.{refusalOf};
 ghost use Rattle.model.specs.Calls.{taskInputs, arrivalCall};
 ghost use Rattle.taskset.specs.TaskSet.{viewOf, refusalIn};
-ghost use Rattle.demand.specs.Columns.{Small, Tried, Columns, IsTerm, IsLoad, IsOnce, Copied};
+ghost use Rattle.quotient.specs.Factor.{IsFactor};
+ghost use Rattle.demand.specs.Columns.{Small, Tried, Columns, Periods, Factored, IsTerm, IsLoad, IsOnce, Copied, Prepared};
 ghost use Rattle.demand.specs.ArrivalAnswer.{arrivalIn};
 use numbers::wide;
+use quotient::ceil_div;
+use quotient::factor_of;
 use taskset::Checked;
 use taskset::TaskSet;
 
@@ -24,6 +27,12 @@ pub struct TaskColumns {
     pub periods: [u32; 32],
 }
 
+// Factors of periods in two parts, one slot for each period: what a division by the period needs.
+pub struct FactorColumns {
+    pub highs: [u32; 32],
+    pub lows: [u32; 32],
+}
+
 // Arrival count: ceil((t + K) ÷ P) in t ticks for t ≥ 1, zero in 0 ticks.
 fn arrivals(period: u32, keep: u32, t: u32) -> u64
     requires { ⌜ 1 ≤ period ⌝ }
@@ -36,25 +45,35 @@ fn arrivals(period: u32, keep: u32, t: u32) -> u64
     (wide(t) + wide(keep) + p - 1) / p
 }
 
-// Load × arrival count of one task in t ticks that the search tries.
-fn term(load: u32, period: u32, keep: u32, t: u32) -> u64
+// Load × arrival count of one task in t ticks that the search tries, by the parts of its period's factor.
+fn term(load: u32, period: u32, high: u32, low: u32, keep: u32, t: u32) -> u64
     requires { ⌜ Small load period keep ⌝ }
+    requires { ⌜ IsFactor period high low ⌝ }
     requires { ⌜ Tried t ⌝ }
     ensures { λ r. ⌜ IsTerm load period keep t r ⌝ }
 {
-    wide(load) * wide((t + keep + period - 1) / period)
+    wide(load) * wide(ceil_div(t + keep, period, high, low))
 }
 
 // The sum over the first n tasks of load × arrival count in t ticks.
-pub fn above_load(loads: &[u32], periods: &[u32], keeps: &[u32], n: usize, t: u32) -> u64
+pub fn above_load(
+    loads: &[u32],
+    periods: &[u32],
+    highs: &[u32],
+    lows: &[u32],
+    keeps: &[u32],
+    n: usize,
+    t: u32,
+) -> u64
     requires { ⌜ Columns (now loads) (now periods) (now keeps) n ⌝ }
+    requires { ⌜ Factored (now periods) (now highs) (now lows) n ⌝ }
     requires { ⌜ Tried t ⌝ }
     ensures { λ r. ⌜ IsLoad (now (loads .entry)) (now (periods .entry)) (now (keeps .entry)) n t r ⌝ }
 {
     let mut sum: u64 = 0;
     let mut j = 0;
     while j < n {
-        sum += term(loads[j], periods[j], keeps[j], t);
+        sum += term(loads[j], periods[j], highs[j], lows[j], keeps[j], t);
         j += 1;
     }
     sum
@@ -93,6 +112,26 @@ pub fn columns_of(s: TaskSet) -> TaskColumns
     TaskColumns {
         loads: loads,
         periods: periods,
+    }
+}
+
+// The factors of the first n periods, worked out once. Slots past them are 0.
+pub fn factors_of(periods: &[u32], n: usize) -> FactorColumns
+    requires { ⌜ Periods (now periods) n ⌝ }
+    ensures { λ r. ⌜ Prepared (now (periods .entry)) n (r .highs) (r .lows) ⌝ }
+{
+    let mut highs: [u32; 32] = [0; 32];
+    let mut lows: [u32; 32] = [0; 32];
+    let mut j = 0;
+    while j < n {
+        let m = factor_of(periods[j]);
+        highs[j] = m.high;
+        lows[j] = m.low;
+        j += 1;
+    }
+    FactorColumns {
+        highs: highs,
+        lows: lows,
     }
 }
 

@@ -12,6 +12,7 @@ use Rattle.model.specs.Limits.{maxTime}
 use Rattle.model.specs.Series.{table}
 use Rattle.model.specs.Stops.{has, different}
 use Rattle.model.specs.Run.{Jobs, leftAt, finishOf}
+use Rattle.model.specs.Slots.{Holds}
 use Rattle.model.proofs.SeriesLaws.{le-by}
 use Rattle.model.proofs.TableLaws.{length-table}
 use Rattle.model.proofs.StopLaws.{has-append, has-behind, has-either, has-table, table-has, below, below-none, below-next, below-all, below-le}
@@ -19,7 +20,7 @@ use Rattle.theory.proofs.RunLaws.{left-le}
 use Rattle.theory.proofs.WorkLaws.{supply-all}
 use Rattle.theory.proofs.FinishLaws.{finish-by, finish-done, finish-late}
 use Rattle.theory.proofs.JumpLaws.{Keeps, Rests, NoStart, left-rests, left-keeps, left-others, rests, keeps, finish-keeps, finish-soonest, rests-none, keeps-only}
-use Rattle.queues.specs.Queues.{jobsOf, maxFinish, firstFrom, nextOf, topReady, never, wakeOf, workOf, Holds, Runnable}
+use Rattle.queues.specs.Queues.{jobsOf, maxFinish, firstFrom, nextOf, topReady, never, wakeOf, workOf, Runnable}
 use Rattle.queues.proofs.SearchedLaws.{work-in}
 use Rattle.queues.proofs.HeadLaws.{Ordered, Heads, May, start-soon, head-first, head-none, heads-rest, heads-run, heads-done}
 use Rattle.queues.proofs.ColumnLaws.{ordered, timely, heads-start, none-above, none-found, one-found}

@@ -13,7 +13,8 @@ use borrow.Author.Tests.{leb-true, leb-false, eq-eqb, ne-eqb, eqb-true, eqb-fals
 use Rattle.model.proofs.SameAnswers.{first-eq}
 use Rattle.model.proofs.SeriesLaws.{below-suc, le-by, le-or-lt, clash, and-left, and-right}
 use Rattle.theory.proofs.JumpLaws.{same-or}
-use Rattle.queues.specs.Queues.{never, orElse, firstFrom, nextOf, topReady, wakeOf, Holds}
+use Rattle.model.specs.Slots.{Holds}
+use Rattle.queues.specs.Queues.{never, orElse, firstFrom, nextOf, topReady, wakeOf}
 use Rattle.queues.proofs.SearchedLaws.{Least, least-is, wake-in, wake-out}
 use Rattle.jumps.specs.Jumps.{comes, comingOf, startAt, Queued, Next, Awake, Waking, Sinces}
 

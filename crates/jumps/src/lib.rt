@@ -18,12 +18,13 @@ ghost use lib.ListN.{length, getD, drop};
 ghost use Rattle.model.specs.Series.{table};
 ghost use Rattle.model.specs.Stops.{different};
 ghost use Rattle.model.specs.Choice.{column};
+ghost use Rattle.model.specs.Slots.{Holds};
 ghost use Rattle.model.specs.Checks.{refusalOf};
 ghost use Rattle.model.specs.Ready.{readyList};
 ghost use Rattle.model.specs.Run.{finishOf, finishList};
 ghost use Rattle.model.specs.Calls.{releasesOf, columnAfter, runInputs, jumpCall};
 ghost use Rattle.taskset.specs.TaskSet.{viewOf};
-ghost use Rattle.queues.specs.Queues.{jobsOf, never, firstFrom, wakeOf, Holds, Timely, Runnable};
+ghost use Rattle.queues.specs.Queues.{jobsOf, never, firstFrom, wakeOf, Timely, Runnable};
 ghost use Rattle.jumps.specs.Jumps.{jumpIn, stopsOf, comes, comingOf, Queued, Next, Awake, Waking};
 
 // What the run that jumps answers: how often it stopped, or document 01's number and place.

@@ -3,6 +3,7 @@ pub mod SearchLaws
 pub mod CheckLaws
 pub mod OrderLaws
 pub mod TableLaws
+pub mod SlotLaws
 pub mod RefusalPlaces
 pub mod SeriesLaws
 pub mod StopLaws

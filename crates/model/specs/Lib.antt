@@ -1,6 +1,7 @@
 -- Document 01's definitions, in its order. What a reader must believe stands in these files, and no lemma does.
 pub mod Search
 pub mod Series
+pub mod Slots
 pub mod Limits
 pub mod Processor
 pub mod Tasks

@@ -9,7 +9,8 @@ use lib.Dec.{leb, eqb}
 use borrow.Author.Tests.{leb-true, leb-false, eqb-true, eqb-false}
 use Rattle.model.proofs.SeriesLaws.{le-by}
 use Rattle.theory.proofs.RunLaws.{left-zero}
-use Rattle.queues.specs.Queues.{jobsOf, maxFinish, nextOf, topReady, wakeOf, Holds, Timely, Runnable}
+use Rattle.model.specs.Slots.{Holds}
+use Rattle.queues.specs.Queues.{jobsOf, maxFinish, nextOf, topReady, wakeOf, Timely, Runnable}
 use Rattle.queues.proofs.SearchedLaws.{Least, least-is, wake-in, wake-out}
 use Rattle.queues.proofs.HeadLaws.{Ordered, Heads, May, start-soon}
 

@@ -8,9 +8,10 @@ use lib.ListN.{length, getD, set, length-set}
 use lib.Seq.{getD-set-same, getD-set-other}
 use lib.Dec.{eqb}
 use Rattle.model.specs.Run.{Jobs, leftAt}
+use Rattle.model.specs.Slots.{Holds}
 use Rattle.theory.proofs.RunLaws.{left-zero}
 use Rattle.theory.proofs.JumpLaws.{same-or}
-use Rattle.queues.specs.Queues.{jobsOf, firstFrom, workOf, Holds}
+use Rattle.queues.specs.Queues.{jobsOf, firstFrom, workOf}
 use Rattle.queues.proofs.SearchedLaws.{work-in}
 use Rattle.queues.proofs.HeadLaws.{Ordered, Heads, next-whole}
 

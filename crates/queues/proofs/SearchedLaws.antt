@@ -1,4 +1,4 @@
--- Laws of the searches over tasks and jobs, and of a column that is filled slot by slot.
+-- Laws of the searches over tasks and jobs.
 use Prim.Native.Nat.{ℕ, zero, suc, _+_, _-_, _≤_, _<_, min}
 use mathlib.Core.Path.{_≡_, refl, sym, ap, _∙_}
 use mathlib.Core.Logic.{_⊎_, inl, inr}
@@ -6,15 +6,13 @@ use mathlib.Core.Bool.{Bool, true, false}
 use mathlib.Core.Option.{Option, some, none}
 use mathlib.Core.List.{List}
 use native.Mathlib.Omega.{arith}
-use native.Mathlib.Nat.{eq-or-lt-of-le}
-use lib.ListN.{getD, set, replicate, length-set, length-replicate, getD-replicate}
-use lib.Seq.{getD-set-same, getD-set-other}
+use lib.ListN.{getD}
 use borrow.Author.Tests.{lt-ltb, le-ltb}
 use Rattle.model.specs.Search.{first}
 use Rattle.model.specs.Processor.{plain}
 use Rattle.model.proofs.SearchLaws.{Found, first-found, first-nothing, search-here, search-next, search-end}
 use Rattle.model.proofs.SeriesLaws.{below-suc, le-or-lt}
-use Rattle.queues.specs.Queues.{startOf, orElse, firstFrom, never, wakeOf, workOf, earliest, Holds}
+use Rattle.queues.specs.Queues.{startOf, orElse, firstFrom, never, wakeOf, workOf, earliest}
 
 -- a loop that looks at from, from + 1, .., n - 1 in turn and has passed all below p
 pub record Passed (test : ℕ → Bool) (n from p : ℕ) : Type 0 where
@@ -105,20 +103,3 @@ earliest-is f (suc n) = go (earliest-is f n) (le-or-lt (earliest f n) (f n))
 pub earliest-next : (f : ℕ → ℕ) (n w : ℕ) → w ≡ earliest f n → min w (f n) ≡ earliest f (n + 1)
 unfolding earliest
 earliest-next f n w e = let s : n + 1 ≡ suc n = omega arith in rw (s, e)
-
--- a column that is filled slot by slot
-module _ (f : ℕ → ℕ) (k : ℕ) where
-  pub holds-none : Holds f 0 k (replicate k 0)
-  holds-none = record { long = length-replicate k 0; each = λ p a. absurd (omega arith); past = λ p a h. getD-replicate k p 0 0 h }
-
-  pub holds-next : (i v : ℕ) (l : List ℕ) → Holds f i k l → i < k → v ≡ f i → Holds f (i + 1) k (set l i v)
-  holds-next i v l h a e =
-      record {
-        long = length-set l i v ∙ h .long;
-        each = λ p b. go p (eq-or-lt-of-le {n = p} {m = i} (omega arith));
-        past = λ p b d. getD-set-other l i p v 0 (λ (x : p ≡ i). omega arith) ∙ h .past p (omega arith) d;
-      }
-    where
-      go : (p : ℕ) → (p ≡ i) ⊎ (p < i) → getD (set l i v) p 0 ≡ f p
-      go p (inl g) = rw g (getD-set-same l i v 0 (omega (arith, h .long)) ∙ e)
-      go p (inr g) = getD-set-other l i p v 0 (λ (x : p ≡ i). omega arith) ∙ h .each p g

@@ -77,12 +77,6 @@ pub record Workable (n : ℕ) (cost : List ℕ) (charge : ℕ) : Type 0 where
   pub long : n ≤ length cost
   pub high : (p : ℕ) → p < n → plain charge .work (getD cost p 0) ≤ maxTime
 
--- the first n slots of a column of k slots hold f 0, .., f (n - 1), and the others 0
-pub record Holds (f : ℕ → ℕ) (n k : ℕ) (l : List ℕ) : Type 0 where
-  pub long : length l ≡ k
-  pub each : (p : ℕ) → p < n → getD l p 0 ≡ f p
-  pub past : (p : ℕ) → n ≤ p → p < k → getD l p 0 ≡ 0
-
 -- columns of n releases that can be run: tasks, work and finish ticks within their limits, some work for each, and ready ticks that never fall along a task
 pub record Runnable (n tasks : ℕ) (task cost : List ℕ) (charge : ℕ) (ready finish : List ℕ) : Type 0 where
   pub few : n ≤ maxReleases

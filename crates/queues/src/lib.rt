@@ -5,7 +5,8 @@ ghost use mathlib.Core.Path.{_≡_};
 ghost use Prim.Native.Nat.{_≤_, _<_, min};
 ghost use lib.Dec.{leb};
 ghost use lib.ListN.{length, getD};
-ghost use Rattle.queues.specs.Queues.{startOf, nextOf, never, wakeOf, topReady, wakeAll, workOf, Holds, Timely, Workable};
+ghost use Rattle.model.specs.Slots.{Holds};
+ghost use Rattle.queues.specs.Queues.{startOf, nextOf, never, wakeOf, topReady, wakeAll, workOf, Timely, Workable};
 
 // A tick over every start and finish tick of a run.
 pub const NEVER: u64 = 18446744073709551615;

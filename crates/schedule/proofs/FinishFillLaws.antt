@@ -8,9 +8,10 @@ use native.Mathlib.Omega.{arith}
 use lib.ListN.{getD, set, drop}
 use Rattle.model.specs.Series.{table}
 use Rattle.model.specs.Run.{Jobs, leftAt, runs, finishOf}
+use Rattle.model.specs.Slots.{Holds}
 use Rattle.model.proofs.SeriesLaws.{le-by}
 use Rattle.theory.proofs.RunLaws.{runs-nothing}
-use Rattle.queues.specs.Queues.{jobsOf, maxFinish, nextOf, topReady, wakeOf, wakeAll, never, workOf, Holds, Runnable}
+use Rattle.queues.specs.Queues.{jobsOf, maxFinish, nextOf, topReady, wakeOf, wakeAll, never, workOf, Runnable}
 use Rattle.queues.proofs.SearchedLaws.{work-in, wake-in, wake-out, earliest-le, earliest-is}
 use Rattle.queues.proofs.HeadLaws.{Ordered, May, start-soon, not-over, head-le, head-start, runs-head, runs-idle, all-finished}
 use Rattle.queues.proofs.ColumnLaws.{ordered, heads-start, none-above, none-found, one-found}

@@ -12,7 +12,8 @@ use Rattle.model.proofs.SameVerdict.{verdict-same}
 use Rattle.response.proofs.WindowLaws.{Window}
 use Rattle.taskset.specs.declared.TaskSet.{TaskSet}
 use Rattle.taskset.specs.TaskSet.{viewOf}
-use Rattle.demand.specs.Columns.{flatTasks, Small, Copied}
+use Rattle.demand.specs.Columns.{flatTasks, Small, Periods, Copied}
+use Rattle.demand.proofs.FlatColumnLaws.{copied-periods}
 use Rattle.demand.proofs.TaskCallLaws.{Passed}
 use Rattle.verdict.specs.declared.Best.{Best}
 use Rattle.verdict.specs.Walking.{Walkable, Met}
@@ -43,9 +44,9 @@ module _ (s : TaskSet) (i : ℕ) (kept loads periods : List ℕ) (p : Passed (vi
       let r = p .valid .in-range j l in
       let g = p .valid .carried j l in
       record {
-        load-high = omega (arith, c .load-is j l);
-        period-low = omega (arith, c .period-is j l);
-        period-high = omega (arith, c .period-is j l);
+        load-high = omega (arith, c .of-loads .each j l);
+        period-low = omega (arith, c .of-periods .each j l);
+        period-high = omega (arith, c .of-periods .each j l);
         keep-high = omega (arith, p .kept-in j l);
       }
 
@@ -59,29 +60,33 @@ module _ (s : TaskSet) (i : ℕ) (kept loads periods : List ℕ) (p : Passed (vi
               above =
                   record {
                     few = omega (arith, p .known, p .valid .few-tasks);
-                    loads-long = omega (arith, p .known, p .valid .few-tasks, c .loads-long);
-                    periods-long = omega (arith, p .known, p .valid .few-tasks, c .periods-long);
+                    loads-long = omega (arith, p .known, p .valid .few-tasks, c .of-loads .long);
+                    periods-long = omega (arith, p .known, p .valid .few-tasks, c .of-periods .long);
                     keeps-long = omega (arith, p .known, p .long);
                     small = λ j l. small j (omega (arith, p .known));
                   };
-              loads-long = omega (arith, p .known, p .valid .few-tasks, c .loads-long);
-              cost-low = omega (arith, c .load-is i (p .known));
+              loads-long = omega (arith, p .known, p .valid .few-tasks, c .of-loads .long);
+              cost-low = omega (arith, c .of-loads .each i (p .known));
               cost-high = small i (p .known) .load-high;
             };
-        periods-long = omega (arith, p .known, p .valid .few-tasks, c .periods-long);
+        periods-long = omega (arith, p .known, p .valid .few-tasks, c .of-periods .long);
         keeps-long = omega (arith, p .known, p .long);
         period-high = small i (p .known) .period-high;
         jitter-high = r .jitter-high;
         keep-high = p .kept-in i (p .known);
       }
 
+  -- the periods above
+  pub above-periods : Periods periods i
+  above-periods = copied-periods s loads periods i (p .valid) c (omega (arith, p .known))
+
   -- the verdict by the columns is the sheet's
   pub judged : verdict (flatTasks loads periods (viewOf s .jitter i) (viewOf s .deadline i)) (column kept) i ≡ verdict (viewOf s) (column kept) i
   judged =
       verdict-same (flatTasks loads periods (viewOf s .jitter i) (viewOf s .deadline i)) (viewOf s) (column kept) (column kept) i
       (record {
-        loads = λ j l. add-zero (column loads j) ∙ c .load-is j (omega (arith, p .known));
-        periods = λ j l. c .period-is j (omega (arith, p .known));
+        loads = λ j l. add-zero (column loads j) ∙ c .of-loads .each j (omega (arith, p .known));
+        periods = λ j l. c .of-periods .each j (omega (arith, p .known));
         keeps = λ j l. refl;
         jitter = refl;
         deadline = refl;

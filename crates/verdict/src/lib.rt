@@ -7,7 +7,7 @@ ghost use Rattle.model.specs.Bound as model_bound;
 ghost use Rattle.model.specs.Verdict as model_verdict;
 ghost use Rattle.model.specs.Calls.{verdictCall};
 ghost use Rattle.taskset.specs.TaskSet.{viewOf};
-ghost use Rattle.demand.specs.Columns.{flatTasks};
+ghost use Rattle.demand.specs.Columns.{flatTasks, Factored};
 ghost use Rattle.verdict.specs.VerdictAnswer.{verdictIn};
 ghost use Rattle.verdict.specs.Walking.{Walkable, Met, IsResponse, betterOf};
 use taskset::Checked;
@@ -74,16 +74,19 @@ fn response(period: u32, jitter: u32, keep: u32, q: u32, w: u32) -> u32
     (picked as i64 + shift) as u32
 }
 
-// The walk over q = 0, 1, .. of a task whose loads, periods and kept jitters, and those of the tasks above it, stand in columns.
+// The walk over q = 0, 1, .. of a task whose loads, periods and kept jitters, and those of the tasks above it, stand in columns, with the factors of the periods above.
 fn walk(
     loads: &[u32],
     periods: &[u32],
+    highs: &[u32],
+    lows: &[u32],
     keeps: &[u32],
     task: usize,
     jitter: u32,
     deadline: u32,
 ) -> VerdictAnswer
     requires { ⌜ Walkable (now loads) (now periods) (now keeps) task jitter ⌝ }
+    requires { ⌜ Factored (now periods) (now highs) (now lows) task ⌝ }
     ensures { λ r. ⌜
         verdictIn r
         ≡ answered (model_verdict.verdict (flatTasks (now (loads .entry)) (now (periods .entry)) jitter deadline) (column (now (keeps .entry))) task)
@@ -102,7 +105,7 @@ fn walk(
             if 10000000 < t {
                 break 'walk VerdictAnswer::Horizon { q: q };
             }
-            let d = own + demand::above_load(loads, periods, keeps, task, t as u32);
+            let d = own + demand::above_load(loads, periods, highs, lows, keeps, task, t as u32);
             if d <= t {
                 break 'find;
             }
@@ -137,8 +140,20 @@ pub fn verdict(s: TaskSet, task: usize, kept: &[u32]) -> VerdictAnswer
             let flat = demand::columns_of(s);
             let loads = flat.loads;
             let periods = flat.periods;
+            let by = demand::factors_of(&periods, task);
+            let highs = by.highs;
+            let lows = by.lows;
             let own = s.tasks[task];
-            walk(&loads, &periods, kept, task, own.jitter, own.deadline)
+            walk(
+                &loads,
+                &periods,
+                &highs,
+                &lows,
+                kept,
+                task,
+                own.jitter,
+                own.deadline,
+            )
         }
     }
 }

@@ -2,21 +2,31 @@
 use Prim.Native.Nat.{_-_}
 use borrow.Author.Needs.{needs}
 use native.Mathlib.Omega.{arith}
+use Rattle.demand.proofs.FlatColumnLaws.{copied-periods, factored}
 use Rattle.choice.proofs.ChoosingLaws.{Choosing, choosing-none, choosing-walk, choosing-unfit, choosing-next, choosing-all}
 use Rattle.choice.proofs.choices_of.Statement.{statement}
 use Rattle.choice.proofs.choices_of.Tie as tie
 
 abbrev Inv-loop : tie.InvT-loop
-Inv-loop s loads periods count keep₀ worst₀ i₀ keep worst i = Choosing s loads periods keep worst i
+Inv-loop s loads periods count highs lows keep₀ worst₀ i₀ keep worst i = Choosing s loads periods keep worst i
 
 abbrev μ-loop : tie.MeasureT-loop
-μ-loop s loads periods count keep₀ worst₀ i₀ keep worst i = count - i
+μ-loop s loads periods count highs lows keep₀ worst₀ i₀ keep worst i = count - i
 
 columns-of-requires : tie.Need-columns-of-requires Inv-loop μ-loop
 columns-of-requires c κs = c .pre
 
+slice-aggregate-factors-of : tie.Need-slice-aggregate-factors-of Inv-loop μ-loop
+slice-aggregate-factors-of c = search needs
+
+sub-factors-of : tie.Need-sub-factors-of Inv-loop μ-loop
+sub-factors-of c = omega arith
+
+factors-of-requires : tie.Need-factors-of-requires Inv-loop μ-loop
+factors-of-requires c κs = copied-periods _ _ _ _ (c .before .before .before .before .pre) (c .before .before .before .columns-of .ensures) (omega arith)
+
 loop-holds : tie.Need-loop-holds Inv-loop μ-loop
-loop-holds c = choosing-none _ _ _ (c .before .before .before .pre) (c .before .before .columns-of .ensures)
+loop-holds c = choosing-none _ _ _ (c .before .before .before .before .before .before .before .pre) (c .before .before .before .before .before .before .columns-of .ensures)
 
 mul-own : tie.Need-mul-own Inv-loop μ-loop
 mul-own c = omega arith
@@ -33,8 +43,20 @@ slice-aggregate-least-keep-2 c = search needs
 slice-aggregate-least-keep-3 : tie.Need-slice-aggregate-least-keep-3 Inv-loop μ-loop
 slice-aggregate-least-keep-3 c = search needs
 
+slice-aggregate-least-keep-4 : tie.Need-slice-aggregate-least-keep-4 Inv-loop μ-loop
+slice-aggregate-least-keep-4 c = search needs
+
+slice-aggregate-least-keep-5 : tie.Need-slice-aggregate-least-keep-5 Inv-loop μ-loop
+slice-aggregate-least-keep-5 c = search needs
+
 least-keep-requires : tie.Need-least-keep-requires Inv-loop μ-loop
-least-keep-requires c κs = choosing-walk _ _ _ _ _ _ (c .before .before .before .before .before .loop .inv) (c .before .before .before .before .loop-test .taken)
+least-keep-requires c κs =
+    let head = c .before .before .before .before .before .before .before in
+    let f = head .loop .inv in
+    let below = c .before .before .before .before .before .before .loop-test .taken in (
+      choosing-walk _ _ _ _ _ _ f below,
+      factored _ _ _ _ _ (head .before .before .before .factors-of .ensures) (omega (arith, f .valid .few-tasks)) (omega (arith, below)),
+    )
 
 enum-known-least : tie.Need-enum-known-least Inv-loop μ-loop
 enum-known-least c = search needs
@@ -44,8 +66,8 @@ enum-told c = search needs
 
 returns : tie.Need-returns Inv-loop μ-loop
 returns c =
-    choosing-unfit _ _ _ _ _ _ (c .before .before .before .before .before .before .before .before .loop .inv)
-    (c .before .before .before .before .before .before .before .loop-test .taken)
+    choosing-unfit _ _ _ _ _ _ (c .before .before .before .before .before .before .before .before .before .before .loop .inv)
+    (c .before .before .before .before .before .before .before .before .before .loop-test .taken)
     (rw (c .enum-told .given .1) at (c .before .before .least-keep .ensures))
 
 mul-keep : tie.Need-mul-keep Inv-loop μ-loop
@@ -68,8 +90,8 @@ loop-less c = omega arith
 
 loop-again : tie.Need-loop-again Inv-loop μ-loop
 loop-again c =
-    choosing-next _ _ _ _ _ _ (c .before .before .before .before .before .before .before .before .before .loop .inv)
-    (c .before .before .before .before .before .before .before .before .loop-test .taken) _ _
+    choosing-next _ _ _ _ _ _ (c .before .before .before .before .before .before .before .before .before .before .before .loop .inv)
+    (c .before .before .before .before .before .before .before .before .before .before .loop-test .taken) _ _
     (rw (c .before .least .given .1) at (c .before .before .before .least-keep .ensures))
 
 returns-2 : tie.Need-returns-2 Inv-loop μ-loop
@@ -82,12 +104,17 @@ choices-of-spec =
     Inv-loop
     μ-loop
     columns-of-requires
+    slice-aggregate-factors-of
+    sub-factors-of
+    factors-of-requires
     loop-holds
     mul-own
     element-copy-out-own
     slice-aggregate-least-keep
     slice-aggregate-least-keep-2
     slice-aggregate-least-keep-3
+    slice-aggregate-least-keep-4
+    slice-aggregate-least-keep-5
     least-keep-requires
     enum-known-least
     enum-told

@@ -10,13 +10,13 @@ use Rattle.choice.proofs.least_keep.Statement.{statement}
 use Rattle.choice.proofs.least_keep.Tie as tie
 
 abbrev Inv-loop : tie.InvT-loop
-Inv-loop loads periods keeps i jitter deadline period q₀ high₀ from₀ q high from = Walking loads periods keeps i jitter deadline q high from
+Inv-loop loads periods highs lows keeps i jitter deadline period q₀ high₀ from₀ q high from = Walking loads periods keeps i jitter deadline q high from
 
 abbrev μ-loop : tie.MeasureT-loop
-μ-loop loads periods keeps i jitter deadline period q₀ high₀ from₀ q high from = 10000001 - q
+μ-loop loads periods highs lows keeps i jitter deadline period q₀ high₀ from₀ q high from = 10000001 - q
 
 abbrev start : tie.At-loop Inv-loop μ-loop → tie.Start Inv-loop μ-loop
-start c = c .before .before .before .before .before
+start c = c .before .before .before .before .before .before .before
 
 -- W(q)
 is-window
@@ -43,10 +43,10 @@ shared-slice-read-period : tie.Need-shared-slice-read-period Inv-loop μ-loop
 shared-slice-read-period c = omega arith
 
 loop-holds : tie.Need-loop-holds Inv-loop μ-loop
-loop-holds c = walking-start _ _ _ _ _ _ (c .before .before .before .before .pre)
+loop-holds c = walking-start _ _ _ _ _ _ (c .before .before .before .before .before .before .pre .0)
 
 window-from-requires : tie.Need-window-from-requires Inv-loop μ-loop
-window-from-requires c κs = c .loop .inv .search
+window-from-requires c κs = (c .loop .inv .search, start c .pre .1)
 
 enum-known-found : tie.Need-enum-known-found Inv-loop μ-loop
 enum-known-found c = search needs

@@ -7,10 +7,10 @@ use Rattle.choice.proofs.window_from.Statement.{statement}
 use Rattle.choice.proofs.window_from.Tie as tie
 
 abbrev Inv-loop : tie.InvT-loop
-Inv-loop loads periods keeps n q from own t₀ t = Searching loads periods keeps n q own t
+Inv-loop loads periods highs lows keeps n q from own t₀ t = Searching loads periods keeps n q own t
 
 abbrev μ-loop : tie.MeasureT-loop
-μ-loop loads periods keeps n q from own t₀ t = 10000000 - t
+μ-loop loads periods highs lows keeps n q from own t₀ t = 10000000 - t
 
 add-product : tie.Need-add-product Inv-loop μ-loop
 add-product c = omega arith
@@ -25,10 +25,13 @@ product-requires : tie.Need-product-requires Inv-loop μ-loop
 product-requires c κs = omega arith
 
 loop-holds : tie.Need-loop-holds Inv-loop μ-loop
-loop-holds c = search-start _ _ _ _ _ _ _ (c .before .before .before .before .before .pre) (c .product .ensures)
+loop-holds c = search-start _ _ _ _ _ _ _ (c .before .before .before .before .before .before .before .pre .0) (c .product .ensures)
 
 above-load-requires : tie.Need-above-load-requires Inv-loop μ-loop
-above-load-requires c κs = (c .loop .inv .from .columns .above, record { low = c .loop .inv .from .search .low; high = c .loop .inv .from .high })
+above-load-requires c κs = (
+  c .loop .inv .from .columns .above,
+  (c .before .before .before .before .before .before .before .before .pre .1, record { low = c .loop .inv .from .search .low; high = c .loop .inv .from .high }),
+)
 
 add-d : tie.Need-add-d Inv-loop μ-loop
 add-d c = omega arith

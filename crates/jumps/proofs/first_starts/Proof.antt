@@ -4,8 +4,9 @@ use mathlib.Core.Path.{_≡_}
 use borrow.Author.Needs.{needs}
 use native.Mathlib.Omega.{arith}
 use lib.ListN.{getD}
-use Rattle.queues.specs.Queues.{wakeOf, Holds}
-use Rattle.queues.proofs.SearchedLaws.{holds-none, holds-next}
+use Rattle.model.specs.Slots.{Holds}
+use Rattle.model.proofs.SlotLaws.{holds-none, holds-next}
+use Rattle.queues.specs.Queues.{wakeOf}
 use Rattle.jumps.proofs.first_starts.Statement.{statement}
 use Rattle.jumps.proofs.first_starts.Tie as tie
 

@@ -2,8 +2,9 @@
 use Prim.Native.Nat.{_-_, _≤_}
 use mathlib.Core.Path.{_≡_}
 use native.Mathlib.Omega.{arith}
-use Rattle.queues.specs.Queues.{Holds, nextOf}
-use Rattle.queues.proofs.SearchedLaws.{holds-none, holds-next}
+use Rattle.model.specs.Slots.{Holds}
+use Rattle.model.proofs.SlotLaws.{holds-none, holds-next}
+use Rattle.queues.specs.Queues.{nextOf}
 use Rattle.queues.proofs.first_jobs.Statement.{statement}
 use Rattle.queues.proofs.first_jobs.Tie as tie
 

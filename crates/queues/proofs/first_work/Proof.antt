@@ -4,8 +4,9 @@ use mathlib.Core.Path.{_≡_}
 use borrow.Author.Needs.{needs}
 use native.Mathlib.Omega.{arith}
 use lib.ListN.{getD}
-use Rattle.queues.specs.Queues.{workOf, Holds}
-use Rattle.queues.proofs.SearchedLaws.{holds-none, holds-next}
+use Rattle.model.specs.Slots.{Holds}
+use Rattle.model.proofs.SlotLaws.{holds-none, holds-next}
+use Rattle.queues.specs.Queues.{workOf}
 use Rattle.queues.proofs.first_work.Statement.{statement}
 use Rattle.queues.proofs.first_work.Tie as tie
 

@@ -17,20 +17,20 @@ use Rattle.verdict.proofs.walk.Statement.{statement}
 use Rattle.verdict.proofs.walk.Tie as tie
 
 abbrev Inv-find : tie.InvT-find
-Inv-find loads periods keeps task jitter deadline cost period keep once best q own t₀ t = Search (flatTasks loads periods jitter deadline) (column keeps) task q t
+Inv-find loads periods highs lows keeps task jitter deadline cost period keep once best q own t₀ t = Search (flatTasks loads periods jitter deadline) (column keeps) task q t
 
 abbrev μ-find : tie.MeasureT-find
-μ-find loads periods keeps task jitter deadline cost period keep once best q own t₀ t = 10000001 - t
+μ-find loads periods highs lows keeps task jitter deadline cost period keep once best q own t₀ t = 10000001 - t
 
 abbrev Inv-walk : tie.InvT-walk
-Inv-walk loads periods keeps task jitter deadline cost period keep once best₀ q₀ best q = Walk (flatTasks loads periods jitter deadline) (column keeps) task q best
+Inv-walk loads periods highs lows keeps task jitter deadline cost period keep once best₀ q₀ best q = Walk (flatTasks loads periods jitter deadline) (column keeps) task q best
 
 abbrev μ-walk : tie.MeasureT-walk
-μ-walk loads periods keeps task jitter deadline cost period keep once best₀ q₀ best q = 10000001 - q
+μ-walk loads periods highs lows keeps task jitter deadline cost period keep once best₀ q₀ best q = 10000001 - q
 
 -- the places that the answers look back to: where the function starts, where a turn of the walk starts, where the search has found W(q)
 abbrev entry : tie.At-walk Inv-find μ-find Inv-walk μ-walk → tie.Start Inv-find μ-find Inv-walk μ-walk
-entry c = c .before .before .before .before .before .before .before .before
+entry c = c .before .before .before .before .before .before .before .before .before .before
 
 abbrev turn : tie.Then2 Inv-find μ-find Inv-walk μ-walk → tie.At-walk Inv-find μ-find Inv-walk μ-walk
 turn c = c .before .before .before .before .before .before
@@ -54,7 +54,7 @@ shared-slice-read-keep : tie.Need-shared-slice-read-keep Inv-find μ-find Inv-wa
 shared-slice-read-keep c = omega arith
 
 once-each-requires : tie.Need-once-each-requires Inv-find μ-find Inv-walk μ-walk
-once-each-requires c κs = c .before .before .before .before .before .before .pre .search .above
+once-each-requires c κs = c .before .before .before .before .before .before .before .before .pre .0 .search .above
 
 walk-holds : tie.Need-walk-holds Inv-find μ-find Inv-walk μ-walk
 walk-holds c = walk-start _ _ _
@@ -76,7 +76,7 @@ own-is c = ap₂ _*_ (c .before .wide .ensures) (c .wide2 .ensures)
 
 -- it stays far below 64 bits
 own-small : (c : tie.After-wide2 Inv-find μ-find Inv-walk μ-walk) → c .before .wide .result * c .wide2 .result ≤ 10000001000000
-own-small c = own-high _ _ _ _ 0 0 (entry (c .before .before) .pre .search) _ _ (c .before .before .walk .inv .q-high) (own-is c)
+own-small c = own-high _ _ _ _ 0 0 (entry (c .before .before) .pre .0 .search) _ _ (c .before .before .walk .inv .q-high) (own-is c)
 
 mul-own : tie.Need-mul-own Inv-find μ-find Inv-walk μ-walk
 mul-own c = omega (arith, own-small c)
@@ -86,17 +86,16 @@ add-t c = omega (arith, own-small c, c .before .before .before .once-each .ensur
 
 find-holds : tie.Need-find-holds Inv-find μ-find Inv-walk μ-walk
 find-holds c =
-    search-start _ _ _ _ _ _ (entry (c .before .before) .pre .search) _ _ (c .before .before .walk .inv .q-high) (own-is c) _
+    search-start _ _ _ _ _ _ (entry (c .before .before) .pre .0 .search) _ _ (c .before .before .walk .inv .q-high) (own-is c) _
     (c .before .before .before .once-each .ensures)
 
 cast-above-load : tie.Need-cast-above-load Inv-find μ-find Inv-walk μ-walk
 cast-above-load c = omega arith
 
 above-load-requires : tie.Need-above-load-requires Inv-find μ-find Inv-walk μ-walk
-above-load-requires c κs = (
-  entry (c .before .before .before .before) .pre .search .above,
-  record { low = c .before .find .inv .low; high = c .if1 .left },
-)
+above-load-requires c κs =
+    let may = entry (c .before .before .before .before) .pre in
+    (may .0 .search .above, (may .1, record { low = c .before .find .inv .low; high = c .if1 .left }))
 
 add-d : tie.Need-add-d Inv-find μ-find Inv-walk μ-walk
 add-d c = omega (arith, own-small (c .before .before .before), c .above-load .ensures .high)
@@ -106,7 +105,7 @@ find-less c = omega arith
 
 find-again : tie.Need-find-again Inv-find μ-find Inv-walk μ-walk
 find-again c =
-    search-next _ _ _ _ _ _ (entry (c .before .before .before .before .before .before) .pre .search) _ _
+    search-next _ _ _ _ _ _ (entry (c .before .before .before .before .before .before) .pre .0 .search) _ _
     (c .before .before .before .before .before .before .walk .inv .q-high)
     (own-is (c .before .before .before .before)) _ _
     (c .before .above-load .ensures)
@@ -122,7 +121,7 @@ found : (c : tie.Then2 Inv-find μ-find Inv-walk μ-walk)
     (turn c .walk .q)
     (c .before .before .before .find .t)
 found c =
-    search-found _ _ _ _ _ _ (entry (turn c) .pre .search) _ _ (turn c .walk .inv .q-high) (own-is (c .before .before .before .before)) _ _
+    search-found _ _ _ _ _ _ (entry (turn c) .pre .0 .search) _ _ (turn c .walk .inv .q-high) (own-is (c .before .before .before .before)) _ _
     (c .before .above-load .ensures)
     (c .before .before .before .find .inv)
     (c .before .before .if1 .left)
@@ -132,7 +131,7 @@ cast-response : tie.Need-cast-response Inv-find μ-find Inv-walk μ-walk
 cast-response c = omega arith
 
 response-requires : tie.Need-response-requires Inv-find μ-find Inv-walk μ-walk
-response-requires c κs = met-at _ _ _ _ _ _ _ _ _ (entry (turn c) .pre) (turn c .walk .inv) (found c)
+response-requires c κs = met-at _ _ _ _ _ _ _ _ _ (entry (turn c) .pre .0) (turn c .walk .inv) (found c)
 
 better-requires : tie.Need-better-requires Inv-find μ-find Inv-walk μ-walk
 better-requires c κs = tt
@@ -155,7 +154,7 @@ walk-again c =
     (walk-on _ _ _ _ _ _ (window-found _ _ _ _ _ (found (c .before .before .before .before .before)))
     (c .before .before .before .before .response .ensures .is) _
     (turn (c .before .before .before .before .before) .walk .inv)
-    (omega (arith, entry (turn (c .before .before .before .before .before)) .pre .search .cost-low))
+    (omega (arith, entry (turn (c .before .before .before .before .before)) .pre .0 .search .cost-low))
     (found (c .before .before .before .before .before))
     (c .before .before .before .before .response .ensures .low)
     (c .before .before .before .if3 .left)

@@ -1,0 +1,57 @@
+//! The sheets whose verdicts and choices are timed.
+
+use crate::reference::{Sheet, Task};
+
+/// n tasks with a load of about 95 in 100 whatever n is, full jitters of half a period and deadlines that all tasks meet.
+pub fn full_sheet(n: u32) -> Sheet {
+    let tasks: Vec<Task> = (0..n)
+        .map(|i| {
+            let p = 3_000 + 211 * ((i * 7) % 32);
+            Task { p, j: p / 2, e: p * 95 / (100 * n), d: 1_000_000 }
+        })
+        .collect();
+    Sheet::of(&tasks)
+}
+
+/// The charge of the rows that have one.
+pub const CHARGE: u8 = 5;
+
+/// The charge taken off each cost: the sheet has the same load with it, so that a row with a charge has the walk, the run and the size
+/// of the row without it.
+pub fn charged(sheet: &Sheet) -> Sheet {
+    let tasks: Vec<Task> = sheet.tasks.iter().map(|t| Task { e: t.e - CHARGE as u32, ..*t }).collect();
+    Sheet::of(&tasks).charged(CHARGE)
+}
+
+/// A sheet of 32 tasks of which the lowest walks over many q.
+pub fn long_walk() -> (Sheet, Vec<u32>) {
+    let mut tasks: Vec<Task> = (0..31).map(|_| Task { p: 32, j: 31, e: 1, d: 1_000_000 }).collect();
+    tasks.push(Task { p: 40, j: 1, e: 1, d: 1_000_000 });
+    let kept = (0..32).map(|i| if i == 31 { 1 } else { i }).collect();
+    (Sheet::of(&tasks), kept)
+}
+
+/// Sheets of 32 tasks that load the processor whole or more, so that the verdict of the lowest walks over q up to the horizon or to a
+/// late job: the period of the 31 above, the kept jitter that each has more than the one above it, and the period of the lowest.
+pub const LONGEST: [(u32, u32, u32); 3] = [(62, 0, 2), (40, 1, 4), (32, 1, 32)];
+
+pub fn longest((above, step, lowest): (u32, u32, u32)) -> (Sheet, Vec<u32>) {
+    let mut tasks: Vec<Task> = (0..31).map(|_| Task { p: above, j: 31 * step, e: 1, d: 1_000_000 }).collect();
+    tasks.push(Task { p: lowest, j: 1, e: 1, d: 1_000_000 });
+    let kept = (0..32).map(|i| if i == 31 { 1 } else { step * i }).collect();
+    (Sheet::of(&tasks), kept)
+}
+
+/// A sheet of 32 tasks with a load of about 5 in 100: the verdict of the lowest tries one t.
+pub fn light_sheet() -> Sheet {
+    let tasks: Vec<Task> = full_sheet(32).tasks.iter().map(|t| Task { e: (t.e / 19).max(1), ..*t }).collect();
+    Sheet::of(&tasks)
+}
+
+/// A sheet of 32 tasks with a load of about 95 in 100, of which every fourth has a period below 12.
+pub fn short_periods() -> Sheet {
+    let tasks: Vec<Task> = (full_sheet(32).tasks.iter().enumerate())
+        .map(|(i, t)| if i % 4 == 3 { Task { p: 11, j: 10, e: 1, d: 1_000_000 } } else { Task { e: t.e / 4, ..*t } })
+        .collect();
+    Sheet::of(&tasks)
+}

@@ -1,0 +1,2 @@
+-- Laws of the factor.
+pub mod FactorLaws
