@@ -11,6 +11,7 @@ unfolding arrivals
 arrivals-ceil P K zero h = absurd (omega arith)
 arrivals-ceil P K (suc t) h = refl
 
+-- the same with the quotient written out
 pub arrivals-at : (P K t : ℕ) → 1 ≤ t → arrivals P K t ≡ (t + K + P - 1) / P
 unfolding ceilDiv
 arrivals-at P K t h = arrivals-ceil P K t h

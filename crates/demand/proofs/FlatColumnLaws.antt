@@ -1,9 +1,9 @@
--- Laws of the columns: the sums step by step, and the copy of a task set's columns.
-use Prim.Native.Nat.{ℕ, _+_, _-_, _*_, _/_, _≤_, _<_}
+-- Laws of the columns: the sums step by step, the copy of a task set's columns, the factors of its periods.
+use Prim.Native.Nat.{ℕ, _+_, _*_, _≤_, _<_}
 use mathlib.Core.Path.{_≡_, refl, sym, ap, _∙_}
 use mathlib.Core.List.{List}
 use native.Mathlib.Omega.{arith}
-use native.Mathlib.Nat.{add-zero, mul-le-mul, div-le-self}
+use native.Mathlib.Nat.{add-zero, mul-le-mul}
 use native.Mathlib.Numerals.{add-one}
 use lib.ListN.{set, replicate}
 use Rattle.model.specs.Series.{sum}
@@ -17,6 +17,7 @@ use Rattle.taskset.specs.declared.TaskSet.{TaskSet}
 use Rattle.taskset.specs.TaskSet.{viewOf}
 use Rattle.quotient.specs.declared.Factor.{Factor}
 use Rattle.quotient.specs.Factor.{partsOf, IsFactor, Divided}
+use Rattle.quotient.proofs.FactorLaws.{ceil-high}
 use Rattle.demand.specs.Columns.{columnLoad, flatTasks, Small, Tried, Periods, Factored, IsTerm, IsLoad, IsOnce, Copied, Prepared}
 use Rattle.demand.proofs.ArrivalCountLaws.{arrivals-ceil}
 
@@ -36,9 +37,8 @@ divided E P h l K x s f r = record { period-low = s .period-low; period-high = s
 
 -- load × arrival count stays below 64 bits
 pub term-high : (E P K t : ℕ) → Small E P K → Tried t → E * ceilDiv (t + K) P ≤ 12000000000000
-unfolding ceilDiv
 term-high E P K t s h =
-    mul-le-mul {n₂ = 1000000} {m₂ = 12000000} (s .load-high) (omega (arith, div-le-self (t + K + P - 1) P))
+    mul-le-mul {n₂ = 1000000} {m₂ = 12000000} (s .load-high) (ceil-high (t + K) P (omega (arith, s .keep-high, h .high)) (s .period-high))
 
 -- and is the definition's
 pub term-is : (E P K t : ℕ) → Small E P K → Tried t → IsTerm E P K t (E * ceilDiv (t + K) P)

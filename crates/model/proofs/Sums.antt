@@ -47,7 +47,8 @@ unfolding window
 full = at-zero _ _ 1 (first-none (meets (sheet (busy ∷ busy ∷ [])) (column (0 ∷ 0 ∷ [])) 1 0) horizonTick 1 (λ m l g. never m l))
 
 judged-charges : AllRows chargeVerdicts
-unfolding arrivals ceilDiv gap window meets demand aboveLoad sum first verdict stops judge isLate isLast boundOf boundAt bound offset maxZ minZ peak isFits worstOf leastKeep choiceNext choiceOf
+unfolding arrivals ceilDiv gap window meets demand aboveLoad sum first verdict stops judge isLate isLast boundOf boundAt bound offset maxZ minZ peak
+    isFits worstOf leastKeep choiceNext choiceOf
 judged-charges = (refl, (refl, (refl, (refl, (refl, tt)))))
 
 run-charges : AllRows chargeRun
@@ -62,7 +63,9 @@ charges : AllSums (chargeVerdicts ∷ chargeRun ∷ chargeChecks ∷ [])
 charges = (judged-charges, (run-charges, (checked-charges, tt)))
 
 pub sums : AllSums pad
-unfolding arrivals ceilDiv gap after readyNext readyFrom readyAt readyList own table window meets demand aboveLoad sum most on first verdict stops judge isLate isLast boundOf boundAt bound offset maxZ minZ peak pending prefer top pick less leftAt runs runsIn endOf finishOf finishAt finishList has different stopTicks stopCount isFits worstOf leastKeep choiceNext choiceOf
+unfolding arrivals ceilDiv gap after readyNext readyFrom readyAt readyList own table
+    window meets demand aboveLoad sum most on first verdict stops judge isLate isLast boundOf boundAt bound offset maxZ minZ peak
+    pending prefer top pick less leftAt runs runsIn endOf finishOf finishAt finishList has different stopTicks stopCount isFits worstOf leastKeep choiceNext choiceOf
 sums = (
   (refl, tt),
   (

@@ -4,6 +4,7 @@ use mathlib.Core.Path.{_≡_, refl, sym, ap, _∙_}
 use native.Mathlib.Omega.{arith}
 use native.Mathlib.Nat.{mul-div-mul-right, div-div-eq-div-mul, mul-add-div-right, div-eq-of-lt, div-le-self, mul-le-mul, mul-assoc, mul-add}
 use native.Mathlib.Nat.{lt-div-mul-add, div-mul-le-self, div-add-mod', mod-lt}
+use Rattle.model.specs.Limits.{maxTime, horizonTick}
 use Rattle.model.specs.Arrival.{ceilDiv}
 use Rattle.quotient.specs.Factor.{factor, highOf, lowOf, Divided}
 
@@ -26,6 +27,7 @@ near P l =
     let b : y < m * P + P = lt-div-mul-add {a = y} {b = P} (omega arith) in
     rw (factor-at P) (record { over = m * P - 17592186044416; is = omega arith; small = omega arith })
 
+-- and so m is at most 2^44 and P more
 pub factor-high : (P : ℕ) → 1 ≤ P → factor P ≤ 17592186044415 + P
 factor-high P l =
     let f = near P l in
@@ -52,6 +54,11 @@ by-parts y h l a b p =
     ap (λ z. z / b) (sym (mul-add-div-right p (y * h) (y * l)) ∙ ap (λ z. z / a) (ap (λ z. z + y * l) (mul-assoc y h a) ∙ sym (mul-add y (h * a) l)))
     ∙ div-div-eq-div-mul (y * (h * a + l)) a b
 
+-- what the search meets, divided and rounded up, is small
+pub ceil-high : (x P : ℕ) → x ≤ horizonTick + maxTime → P ≤ maxTime → ceilDiv x P ≤ 12000000
+unfolding ceilDiv
+ceil-high x P a b = omega (arith, div-le-self (x + P - 1) P)
+
 module _ (x P h l : ℕ) (d : Divided x P h l) where
   dividend-high : x + P - 1 ≤ 11999999
   dividend-high = omega (arith, d .dividend, d .period-low, d .period-high)
@@ -68,12 +75,8 @@ module _ (x P h l : ℕ) (d : Divided x P h l) where
   unfolding ceilDiv
   ceil-is =
       let f = near P (d .period-low) in
-      let g : (x + P - 1) * f .over ≤ 12000000 * 1000000 = mul-le-mul {n₂ = 12000000} {m₂ = 1000000} (omega (arith, dividend-high)) (omega (arith, f .small, d .period-high)) in
+      let g : (x + P - 1) * f .over ≤ 12000000 * 1000000 =
+      mul-le-mul {n₂ = 12000000} {m₂ = 1000000} (omega (arith, dividend-high)) (omega (arith, f .small, d .period-high)) in
       by-parts (x + P - 1) h l (2 ^ 20) (2 ^ 24) (omega arith)
       ∙ ap (λ m. (x + P - 1) * m / 2 ^ 44) (rw (d .by .high-is, d .by .low-is) (div-add-mod' (factor P) (2 ^ 20)))
       ∙ by-product (x + P - 1) P (factor P) (f .over) (2 ^ 44) (omega (arith, d .period-low)) (omega arith) (f .is) (omega (arith, g))
-
-  -- which is no larger than what was divided
-  pub ceil-high : ceilDiv x P ≤ 11999999
-  unfolding ceilDiv
-  ceil-high = omega (arith, dividend-high, div-le-self (x + P - 1) P)

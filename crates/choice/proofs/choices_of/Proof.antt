@@ -26,7 +26,9 @@ factors-of-requires : tie.Need-factors-of-requires Inv-loop μ-loop
 factors-of-requires c κs = copied-periods _ _ _ _ (c .before .before .before .before .pre) (c .before .before .before .columns-of .ensures) (omega arith)
 
 loop-holds : tie.Need-loop-holds Inv-loop μ-loop
-loop-holds c = choosing-none _ _ _ (c .before .before .before .before .before .before .before .pre) (c .before .before .before .before .before .before .columns-of .ensures)
+loop-holds c =
+    let copied = c .before .before .before .before .before .before in
+    choosing-none _ _ _ (copied .before .pre) (copied .columns-of .ensures)
 
 mul-own : tie.Need-mul-own Inv-loop μ-loop
 mul-own c = omega arith

@@ -64,7 +64,9 @@ loop-less : tie.Need-loop-less Inv-loop μ-loop
 loop-less c = omega arith
 
 loop-again : tie.Need-loop-again Inv-loop μ-loop
-loop-again c = summed-next _ _ _ _ _ _ _ _ (c .before .before .before .before .before .before .before .loop .inv) (c .before .before .before .before .before .before .loop-test .taken) (c .term .ensures)
+loop-again c =
+    let turn = c .before .before .before .before .before .before in
+    summed-next _ _ _ _ _ _ _ _ (turn .before .loop .inv) (turn .loop-test .taken) (c .term .ensures)
 
 returns : tie.Need-returns Inv-loop μ-loop
 returns c = summed-all _ _ _ _ _ _ _ (c .before .before .before .before .before .before .before .pre .0 .few) (c .before .loop .inv) (c .loop-test .left)

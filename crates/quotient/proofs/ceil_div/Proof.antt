@@ -34,7 +34,8 @@ add-result c =
 cast-result : tie.Need-cast-result
 cast-result c =
     rw (c .before .before .wide .ensures, c .before .wide2 .ensures, c .wide3 .ensures)
-    (rw (ceil-is _ _ _ _ (c .before .before .before .pre)) (omega (arith, ceil-high _ _ _ _ (c .before .before .before .pre))))
+    (rw (ceil-is _ _ _ _ (c .before .before .before .pre))
+    (omega (arith, ceil-high _ _ (c .before .before .before .pre .dividend) (c .before .before .before .pre .period-high))))
 
 returns : tie.Need-returns
 returns c = rw (c .before .before .wide .ensures, c .before .wide2 .ensures, c .wide3 .ensures) (ceil-is _ _ _ _ (c .before .before .before .pre))

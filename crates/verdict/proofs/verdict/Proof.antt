@@ -68,7 +68,8 @@ walk-requires : tie.Need-walk-requires
 walk-requires c κs =
     let p = passed (copied c .before) in
     let f = copied c .columns-of .ensures in
-    (walkable _ _ _ _ _ p f, factored _ _ _ _ _ (c .before .before .before .before .before .before .before .factors-of .ensures) (above-periods _ _ _ _ _ p f .few) (omega arith))
+    let made = c .before .before .before .before .before .before .before .factors-of .ensures in
+    (walkable _ _ _ _ _ p f, factored _ _ _ _ _ made (above-periods _ _ _ _ _ p f .few) (omega arith))
 
 returns : tie.Need-returns
 unfolding verdictCall
