@@ -19,6 +19,7 @@ use generator::{legal_list_for, list_for, numbers_of, Random};
 use reference::{Budget, Release, Sheet, Task, MAX_SHORT_TICK, MAX_TICK};
 use sheets::{charged, full_sheet, light_sheet, long_walk, longest, short_periods, CHARGE, LONGEST};
 use std::hint::black_box;
+use std::ops::Range;
 use timing::medians;
 
 struct List {
@@ -109,16 +110,61 @@ impl List {
     }
 }
 
+/// The rows of verdicts and choices: name, evaluations, how many tasks above these go over, and microseconds of the archive.
+#[derive(Default)]
+struct Searches {
+    rows: Vec<(String, u64, u64, f64)>,
+}
+
+impl Searches {
+    fn verdict(&mut self, name: &str, sheet: &Sheet, kept: &[u32], task: usize) {
+        let times = time_verdict(sheet, kept, task);
+        let (evaluations, over) = evaluations_of(sheet, kept, task..task + 1);
+        self.add(name, &times, evaluations, over);
+    }
+    fn choice(&mut self, name: &str, sheet: &Sheet) {
+        let (mut kept, mut worst) = ([0u32; 32], [0u32; 32]);
+        let counted = same_method::choice(&sheet.tasks, sheet.charge, &mut kept, &mut worst).ok();
+        let times = time_choice(sheet);
+        let (evaluations, over) = evaluations_of(sheet, &kept, 0..sheet.count);
+        assert_eq!(counted, Some(evaluations));
+        self.add(name, &times, evaluations, over);
+    }
+    fn add(&mut self, name: &str, times: &[f64], evaluations: u64, over: u64) {
+        line(name, times);
+        self.rows.push((name.to_string(), evaluations, over, times[0]));
+    }
+    /// What an evaluation takes for each task that it goes over.
+    fn print(&self) {
+        println!("\n| Call | evaluations | tasks above that they go over | archive, µs | archive, ns for each of these tasks |");
+        println!("|---|---|---|---|---|");
+        for (name, evaluations, over, time) in &self.rows {
+            let each = if *over == 0 { "–".to_string() } else { format!("{:.2}", 1_000.0 * time / *over as f64) };
+            println!("| {} | {} | {} | {:.2} | {} |", name, evaluations, over, time, each);
+        }
+    }
+}
+
+/// The evaluations of the archive's verdicts of some tasks, and how many tasks above they go over: each time those above the task.
+fn evaluations_of(sheet: &Sheet, kept: &[u32], tasks: Range<usize>) -> (u64, u64) {
+    let numbers = numbers_of(sheet);
+    tasks.fold((0, 0), |(evaluations, over), i| {
+        let mut answer = [0u64; 4];
+        assert_eq!(library::verdict(&numbers, sheet.count as u32, sheet.charge, i as u32, kept, &mut answer), 0);
+        (evaluations + answer[3], over + answer[3] * i as u64)
+    })
+}
+
 /// Archive, same method and reference, in microseconds.
 fn time_verdict(sheet: &Sheet, kept: &[u32], task: usize) -> Vec<f64> {
     let numbers = numbers_of(sheet);
     let count = sheet.count as u32;
-    let mut answer = [0u64; 3];
+    let mut answer = [0u64; 4];
     assert_eq!(library::verdict(&numbers, count, sheet.charge, task as u32, kept, &mut answer), 0);
     assert_eq!(same_method::verdict(&sheet.tasks, sheet.charge, task, kept).unwrap(), answer);
     medians(&mut [
         &mut || {
-            let mut a = [0u64; 3];
+            let mut a = [0u64; 4];
             black_box(library::verdict(black_box(&numbers), count, sheet.charge, task as u32, black_box(kept), &mut a));
             black_box(a);
         },
@@ -318,24 +364,24 @@ fn head(first: &str) {
 }
 
 /// The calls at full size.
-fn full_size() {
+fn full_size(searches: &mut Searches) {
     head("Call");
     let full = full_sheet(32);
     let full_kept: Vec<u32> = full.tasks.iter().map(|t| t.j / 4).collect();
-    line("verdict of task 31 of 32", &time_verdict(&full, &full_kept, 31));
+    searches.verdict("verdict of task 31 of 32", &full, &full_kept, 31);
     let (sheet, kept) = long_walk();
-    line("verdict of task 31 of 32, many q", &time_verdict(&sheet, &kept, 31));
-    line("choice of 32 tasks", &time_choice(&full));
+    searches.verdict("verdict of task 31 of 32, many q", &sheet, &kept, 31);
+    searches.choice("choice of 32 tasks", &full);
     let short = short_periods();
     let short_kept: Vec<u32> = short.tasks.iter().map(|t| t.j / 4).collect();
-    line("verdict of task 30 of 32, every fourth period below 12", &time_verdict(&short, &short_kept, 30));
-    line("choice of 32 tasks, every fourth period below 12", &time_choice(&short));
+    searches.verdict("verdict of task 30 of 32, every fourth period below 12", &short, &short_kept, 30);
+    searches.choice("choice of 32 tasks, every fourth period below 12", &short);
     let light = light_sheet();
-    line("verdict of task 31 of 32, load of 5 in 100", &time_verdict(&light, &full_kept, 31));
-    line("choice of 32 tasks, load of 5 in 100", &time_choice(&light));
+    searches.verdict("verdict of task 31 of 32, load of 5 in 100", &light, &full_kept, 31);
+    searches.choice("choice of 32 tasks, load of 5 in 100", &light);
     let with_charge = charged(&full);
-    line("verdict of task 31 of 32, with a charge", &time_verdict(&with_charge, &full_kept, 31));
-    line("choice of 32 tasks, with a charge", &time_choice(&with_charge));
+    searches.verdict("verdict of task 31 of 32, with a charge", &with_charge, &full_kept, 31);
+    searches.choice("choice of 32 tasks, with a charge", &with_charge);
     line("trace check of 1,024 releases", &time_trace(&legal_list_of(1024)));
     let list = list_of(1024);
     line("ready ticks of 1,024 releases", &time_ready(&list));
@@ -363,13 +409,13 @@ fn full_size() {
 }
 
 /// How the cost grows.
-fn growth() {
+fn growth(searches: &mut Searches) {
     head("Tasks");
     for n in [1u32, 2, 4, 8, 16, 32] {
         let sheet = full_sheet(n);
         let kept: Vec<u32> = sheet.tasks.iter().map(|t| t.j / 4).collect();
-        line(&format!("verdict of the lowest of {}", n), &time_verdict(&sheet, &kept, n as usize - 1));
-        line(&format!("choice of {}", n), &time_choice(&sheet));
+        searches.verdict(&format!("verdict of the lowest of {}", n), &sheet, &kept, n as usize - 1);
+        searches.choice(&format!("choice of {}", n), &sheet);
     }
     head("Releases");
     for n in [64usize, 256, 1024] {
@@ -391,21 +437,23 @@ fn growth() {
     }
 }
 
-fn longest_verdicts() {
+fn longest_verdicts(searches: &mut Searches) {
     head("Sheet");
     for one in LONGEST {
         let (sheet, kept) = longest(one);
         let (a, t) = (sheet.tasks[0], sheet.tasks[31]);
         let name = format!("31 tasks ({},{},1,1000000) above ({},1,1,1000000)", a.p, a.j, t.p);
-        line(&name, &time_verdict(&sheet, &kept, 31));
+        searches.verdict(&name, &sheet, &kept, 31);
     }
 }
 
-/// Without an argument all tables; with `full` the first alone.
+/// Without an argument all tables; with `full` the first alone. Then the evaluations of the verdicts and choices timed.
 fn main() {
-    full_size();
+    let searches = &mut Searches::default();
+    full_size(searches);
     if std::env::args().nth(1).as_deref() != Some("full") {
-        growth();
-        longest_verdicts();
+        growth(searches);
+        longest_verdicts(searches);
     }
+    searches.print();
 }

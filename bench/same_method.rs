@@ -1,4 +1,4 @@
-//! The calls in plain Rust with the methods of the library: the rising search for W(q), one walk over q for the choice, a
+//! The calls in plain Rust with the methods of the library: the search for W(q) by the list of R-8, one walk over q for the choice, a
 //! shaper of two numbers for each task, a run tick by tick with one queue for each task, a run from one start or finish to the
 //! next, a reader in two passes, a writer in one, a loader that looks once at each byte.
 //! Each makes the checks of its call. Used as the measure of the archive's speed.
@@ -128,23 +128,26 @@ fn above_load(f: &Flat, kept: &[u32], n: usize, t: u32) -> u64 {
     sum
 }
 
-/// W(q) by the rising list from a t below which no demand is met.
-fn window(f: &Flat, kept: &[u32], n: usize, own: u64, from: u64) -> Option<u64> {
-    let mut t = from;
-    loop {
-        if t > HORIZON as u64 {
-            return None;
-        }
-        let d = own + above_load(f, kept, n, t as u32);
-        if d <= t {
-            return Some(t);
-        }
-        t = d;
-    }
+/// One load of each of the first n tasks.
+fn once_each(f: &Flat, n: usize) -> u64 {
+    f.loads[..n].iter().map(|&e| e as u64).sum()
 }
 
-/// Kind, q and R, as the archive answers.
-pub fn verdict(tasks: &[Task], charge: u8, task: usize, kept: &[u32]) -> Result<[u64; 3], Refusal> {
+/// The search for W(q), from the own load and one load of each task above on: the last t, W(q) or one over H, and how many were tried.
+fn search(f: &Flat, kept: &[u32], n: usize, own: u64, once: u64) -> (u64, u64) {
+    let (mut t, mut tried) = (own + once, 1);
+    while t <= HORIZON as u64 {
+        let d = own + above_load(f, kept, n, t as u32);
+        if d <= t {
+            break;
+        }
+        (t, tried) = (d, tried + 1);
+    }
+    (t, tried)
+}
+
+/// Kind, q, R and the number of evaluations, as the archive answers.
+pub fn verdict(tasks: &[Task], charge: u8, task: usize, kept: &[u32]) -> Result<[u64; 4], Refusal> {
     check_sheet(tasks, charge)?;
     if task >= tasks.len() {
         return refuse(14, task);
@@ -154,68 +157,72 @@ pub fn verdict(tasks: &[Task], charge: u8, task: usize, kept: &[u32]) -> Result<
     let f = flat(tasks, charge, task);
     let t = tasks[task];
     let (p, j, d, k) = (t.p as i64, t.j as i64, t.d as i64, kept[task] as i64);
-    let once: u64 = f.loads[..task].iter().map(|&e| e as u64).sum();
+    let once = once_each(&f, task);
     let (mut worst, mut first) = (0i64, 0i64);
-    let mut q = 0i64;
+    let (mut q, mut evaluations) = (0i64, 0);
     loop {
-        let own = (q as u64 + 1) * f.loads[task] as u64;
-        let Some(w) = window(&f, kept, task, own, own + once) else {
-            return Ok([0, q as u64, 0]);
-        };
+        let (w, tried) = search(&f, kept, task, (q as u64 + 1) * f.loads[task] as u64, once);
+        evaluations += tried;
+        if w > HORIZON as u64 {
+            return Ok([0, q as u64, 0, evaluations]);
+        }
         let x = j - q * p;
         let r = (w + PICKUP) as i64 + (x - k).max(x.min(0));
         if r > d {
-            return Ok([1, q as u64, r as u64]);
+            return Ok([1, q as u64, r as u64, evaluations]);
         }
         if worst < r {
             (worst, first) = (r, q);
         }
         if w as i64 <= ((q + 1) * p - k).max(0) {
-            return Ok([2, first as u64, worst as u64]);
+            return Ok([2, first as u64, worst as u64, evaluations]);
         }
         q += 1;
     }
 }
 
-/// The least kept jitter at which a task fits, and its largest R, by one walk over q.
-fn least_keep(f: &Flat, kept: &[u32], i: usize, t: &Task) -> Option<(u32, u32)> {
+/// The least kept jitter at which a task fits, its largest R, and the evaluations, by one walk over q.
+fn least_keep(f: &Flat, kept: &[u32], i: usize, t: &Task) -> Option<(u32, u32, u64)> {
     let (p, j, d) = (t.p as u64, t.j as u64, t.d as u64);
-    let (mut q, mut high, mut from) = (0u64, 0u64, 1u64);
+    let once = once_each(f, i);
+    let (mut q, mut high, mut evaluations) = (0u64, 0u64, 0);
     loop {
-        let w = window(f, kept, i, (q + 1) * f.loads[i] as u64, from)?;
+        let (w, tried) = search(f, kept, i, (q + 1) * f.loads[i] as u64, once);
+        evaluations += tried;
         let picked = w + PICKUP;
         let base = q * p;
-        if d + base.saturating_sub(j) < picked {
+        if w > HORIZON as u64 || d + base.saturating_sub(j) < picked {
             return None;
         }
         high = high.max((picked + j).saturating_sub(base));
         let keep = high.saturating_sub(d);
         if w <= ((q + 1) * p).saturating_sub(keep) {
-            return Some((keep as u32, high.min(d) as u32));
+            return Some((keep as u32, high.min(d) as u32, evaluations));
         }
-        from = w;
         q += 1;
     }
 }
 
-pub fn choice(tasks: &[Task], charge: u8, kept: &mut [u32], worst: &mut [u32]) -> Checked {
+/// The choice; returns its evaluations.
+pub fn choice(tasks: &[Task], charge: u8, kept: &mut [u32], worst: &mut [u32]) -> Result<u64, Refusal> {
     check_sheet(tasks, charge)?;
     check_slots(kept.len(), tasks.len())?;
     check_slots(worst.len(), tasks.len())?;
     let f = flat(tasks, charge, tasks.len());
-    let (mut keeps, mut worsts) = ([0u32; 32], [0u32; 32]);
+    let (mut keeps, mut worsts, mut evaluations) = ([0u32; 32], [0u32; 32], 0);
     for (i, t) in tasks.iter().enumerate() {
         match least_keep(&f, &keeps, i, t) {
             None => return refuse(15, i),
-            Some((k, w)) => {
+            Some((k, w, n)) => {
                 keeps[i] = k;
                 worsts[i] = w;
+                evaluations += n;
             }
         }
     }
     kept[..tasks.len()].copy_from_slice(&keeps[..tasks.len()]);
     worst[..tasks.len()].copy_from_slice(&worsts[..tasks.len()]);
-    Ok(())
+    Ok(evaluations)
 }
 
 // ---- Ready ticks and run -----------------------------------------------------------------------------------------------

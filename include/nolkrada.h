@@ -6,12 +6,13 @@
  * and has no writable data, so any number of threads may call it. A read or a load takes below 4096 bytes of stack, any other call
  * below 8192; what memcpy and memset take is counted, what the dynamic linker takes when it looks them up is not.
  *
- * Every call ends, but not always soon. A verdict or a choice takes microseconds on most sheets; where the tasks load the processor
- * whole or a little more, it may walk over millions of q: with 31 tasks (62,0,1,1000000) above (2,1,1,1000000), kept at 1, the
- * verdict of the lowest takes seconds. A run goes tick by tick: some 0.4 s for each 1000000000 ticks up to the last finish, so that
- * one release near the last tick allowed makes nolkrada_run go on for days. Take nolkrada_jump for such lists. A run that jumps goes
- * from one ready or finish moment to the next: microseconds for a few releases, whatever their ticks, and below a millisecond for
- * 1024. docs/BENCHMARK.md has the figures.
+ * Every call ends, but not always soon. A verdict or a choice takes microseconds on most sheets; where the tasks load the
+ * processor whole or a little more, it may walk over millions of q: with 31 tasks (62,0,1,1000000) above (2,1,1,1000000), kept at
+ * 1, the verdict of the lowest takes seconds, and so does the choice with 31 tasks (40,31,1,1000000) above (4,1,1,1000000), which
+ * is refused with 15. A run goes tick by tick: some 0.4 s for each 1000000000 ticks up to the last finish, so that one release
+ * near the last tick allowed makes nolkrada_run go on for days. Take nolkrada_jump for such lists. A run that jumps goes from one
+ * ready or finish moment to the next: microseconds for a few releases, whatever their ticks, and below a millisecond for 1024.
+ * docs/BENCHMARK.md has the figures; PLANNING A CHOICE says how to plan for a choice on a board.
  *
  * WHAT A CALL RETURNS
  *   0 where it answered. Otherwise a refusal, number * 2^32 + place; nolkrada_number and nolkrada_place take it apart.
@@ -49,6 +50,21 @@
  *   finished when it has run for its cost plus the charge; the charge is taken once for each job, however often it is interrupted.
  *   Verdicts, choices and runs are about that processor. W(q) is the least t >= 1 with (q + 1) * (E + S) + (the sum over the tasks
  *   above of (E + S) * arrival count in t ticks) <= t, and R(q) = W(q) + 1 + max(x - K, min(0, x)) with x = J - q * P.
+ *
+ * PLANNING A CHOICE
+ *   A verdict takes q = 0, 1, .. and finds each W(q) by a list of t. The first t is (q + 1) * (E + S) plus one E + S of each task
+ *   above. The next is the demand in the t before it: (q + 1) * (E + S) + (the sum over the tasks above of (E + S) * arrival count
+ *   in t ticks). The list ends where the demand equals t, or where t is over 10000000. Each t of it is one evaluation, a last one
+ *   over 10000000 too.
+ *   The fourth word of a verdict is the number of its evaluations, over all q that it took. It is at most 100000020000001.
+ *   For one q with W(q) up to 10000000 the list is at most as long as 1 + (the arrival counts of the tasks above in W(q) ticks,
+ *   added up) - (the number of tasks above).
+ *   The evaluations of a choice that succeeds are those of the verdicts of all tasks at the chosen kept jitters, added up. A choice
+ *   that ends in 15 is not covered.
+ *   One evaluation for task i goes once over the i tasks above it, so the time of a verdict is about its number * i * a constant.
+ *   To plan, make the choice on any machine, ask for these verdicts, and add up number * i over all tasks. Then time one verdict
+ *   with many evaluations on the board, divide by its own number * i, and multiply. That is a plan and no promise in time: checks
+ *   and the first steps of a call are not in it, which counts where the numbers are small.
  *
  * TEXT
  *   A sheet as text: a line P,J,E,D for each task, task 0 first, in decimal digits without signs, blanks or leading zeros (0 itself
@@ -96,9 +112,9 @@ extern "C" {
 
 /* The version of this interface. The archive has no symbol for it: take header and archive of one build. */
 #define NOLKRADA_VERSION_MAJOR 0
-#define NOLKRADA_VERSION_MINOR 6
+#define NOLKRADA_VERSION_MINOR 7
 #define NOLKRADA_VERSION_PATCH 0
-#define NOLKRADA_VERSION "0.6.0"
+#define NOLKRADA_VERSION "0.7.0"
 
 /* Tasks of a sheet, numbers of a sheet that is read or loaded (P, J, E, D of 32 tasks), releases of a list. */
 #define NOLKRADA_MAX_TASKS 32
@@ -159,14 +175,14 @@ uint64_t nolkrada_arrival_count(const uint32_t *sheet, size_t sheet_length, uint
 enum { NOLKRADA_HORIZON = 0, NOLKRADA_LATE = 1, NOLKRADA_FITS = 2 };
 
 /* Verdict of a task.
- * answer: 3 slots. NOLKRADA_HORIZON, q, 0: no W(q) up to 10000000 ticks, and nothing is claimed. NOLKRADA_LATE, q, R(q): some legal
- * list of releases makes a job of the task late. NOLKRADA_FITS, q, R: no job of the task is late in any list in which its own
- * releases keep its jitter, whatever the other tasks release; R is the largest response bound met and q the first that had it.
- *                                                                                                Refuses 5 4 6 17 14 13 12. */
+ * answer: 4 slots. NOLKRADA_HORIZON, q, 0, n: no W(q) up to 10000000 ticks, and nothing is claimed. NOLKRADA_LATE, q, R(q), n: some
+ * legal list of releases makes a job of the task late. NOLKRADA_FITS, q, R, n: no job of the task is late in any list in which its
+ * own releases keep its jitter, whatever the other tasks release; R is the largest response bound met and q the first that had it.
+ * n is the number of evaluations, at least 1: see PLANNING A CHOICE.                              Refuses 5 4 6 17 14 13 12. */
 uint64_t nolkrada_verdict(const uint32_t *sheet, size_t sheet_length, uint32_t count, uint8_t charge, uint32_t task,
                           const uint32_t *kept, size_t kept_length, uint64_t *answer, size_t answer_length);
 
-/* Choice: from task 0 down the least K at which the verdict is "fits", given the choices above.
+/* Choice: from task 0 down the least K at which the verdict is "fits", given the choices above. For its time see PLANNING A CHOICE.
  * kept, worst: `count` slots each, written: the kept jitters and the largest response bounds.          Refuses 5 4 6 17 13 15. */
 uint64_t nolkrada_choice(const uint32_t *sheet, size_t sheet_length, uint32_t count, uint8_t charge, uint32_t *kept,
                          size_t kept_length, uint32_t *worst, size_t worst_length);

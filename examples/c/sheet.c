@@ -1,6 +1,6 @@
 /*
- * The sheet of examples/folder.sheet from C: choice, verdicts, arrival count, trace check, ready ticks, both runs, a charge, write,
- * read and load.
+ * The sheet of examples/folder.sheet from C: choice and a plan for it, verdicts, arrival count, trace check, ready ticks, both runs,
+ * a charge, write, read and load.
  * Build, after ./install:
  *   cc -O2 examples/c/sheet.c -lnolkrada -o sheet
  * or, without installing, after `rt staticlib nolkrada`:
@@ -42,11 +42,25 @@ static int print_choice(uint32_t *kept) {
 
 static uint64_t print_verdict(const uint32_t *kept, uint32_t i) {
     static const char *const kinds[] = {[NOLKRADA_HORIZON] = "horizon", [NOLKRADA_LATE] = "late", [NOLKRADA_FITS] = "fits"};
-    uint64_t answer[3];
-    const uint64_t code = nolkrada_verdict(sheet, LENGTH(sheet), TASKS, NO_CHARGE, i, kept, TASKS, answer, 3);
+    uint64_t answer[4];
+    const uint64_t code = nolkrada_verdict(sheet, LENGTH(sheet), TASKS, NO_CHARGE, i, kept, TASKS, answer, 4);
     if (!refused("verdict", code))
-        printf("task %u with kept jitter %u: %s, q %" PRIu64 ", R %" PRIu64 "\n", i, kept[i], kinds[answer[0]], answer[1], answer[2]);
+        printf("task %u with kept jitter %u: %s, q %" PRIu64 ", R %" PRIu64 ", evaluations %" PRIu64 "\n", i, kept[i],
+               kinds[answer[0]], answer[1], answer[2], answer[3]);
     return code;
+}
+
+/* A plan for the choice on a board: how often it works demand out, and how many tasks above that goes over. The second number, times
+ * what a verdict takes on the board for each of its evaluations and each task above, is about the time of the choice. */
+static int print_plan(const uint32_t *kept) {
+    uint64_t answer[4], evaluations = 0, over = 0;
+    for (uint32_t i = 0; i < TASKS; i++) {
+        if (refused("verdict", nolkrada_verdict(sheet, LENGTH(sheet), TASKS, NO_CHARGE, i, kept, TASKS, answer, 4))) return 1;
+        evaluations += answer[3];
+        over += answer[3] * i;
+    }
+    printf("the choice takes %" PRIu64 " evaluations, which go over %" PRIu64 " tasks above\n", evaluations, over);
+    return 0;
 }
 
 static int print_run(const uint32_t *kept) {
@@ -138,6 +152,7 @@ int main(void) {
     uint32_t kept[TASKS];
     uint64_t arrivals[1];
     if (print_choice(kept)) return 1;
+    if (print_plan(kept)) return 1;
     if (print_verdict(kept, 1)) return 1;
     if (refused("arrival count", nolkrada_arrival_count(sheet, LENGTH(sheet), TASKS, NO_CHARGE, 0, kept, TASKS, 8, arrivals, 1)))
         return 1;

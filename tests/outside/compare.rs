@@ -9,8 +9,8 @@ mod sums;
 
 use generator::*;
 use std::collections::BTreeSet;
-use reference::{add_release, Budget, Refusal, Release, Sheet, Task, Verdict};
-use reference::{MAX_RELEASES, MAX_SHORT_TICK, MAX_TICK, MAX_TIME};
+use reference::{add_release, Budget, Judged, Refusal, Release, Sheet, Task, Verdict};
+use reference::{HORIZON, MAX_RELEASES, MAX_SHORT_TICK, MAX_TICK, MAX_TIME};
 
 const SEED: u64 = 20_240_601;
 
@@ -155,6 +155,11 @@ struct Tally {
     charged: [u64; 10],
     charges: BTreeSet<u8>,
     verdicts: [u64; 3],
+    /// Of the verdicts: the largest number of evaluations, and how many had each of LISTS.
+    most_evaluations: u64,
+    lists: [u64; 4],
+    /// Choices whose evaluations are those of the verdicts, added up.
+    added_up: u64,
     too_close: u64,
     /// Of the runs that jump: the most stops, and how many have fewer than two for each release.
     most_stops: u64,
@@ -171,7 +176,23 @@ struct Tally {
 const NAMES: [&str; 10] =
     ["arrival count", "verdict", "choice", "trace check", "ready ticks", "run", "read", "write", "load", "jumping run"];
 
+/// What the lists of t of a verdict may have: one member at q = 0, a last t over H after others, a first t over H; and more than one list.
+const LISTS: [&str; 4] = ["a list of one", "a last t over H", "a first t over H", "more than one q"];
+
 impl Tally {
+    /// Notes the evaluations of a verdict.
+    fn judged(&mut self, case: &Case, task: u32, judged: &Judged) {
+        let begins = |q: i64| reference::tried(&case.sheet(), &case.kept, task as usize, q).take(2).collect::<Vec<i64>>();
+        let one = matches!(begins(0)[..], [t] if t <= HORIZON);
+        let over = match judged.verdict {
+            Verdict::Horizon { q } => begins(q).len(),
+            _ => 0,
+        };
+        self.most_evaluations = self.most_evaluations.max(judged.evaluations);
+        for (count, seen) in self.lists.iter_mut().zip([one, over == 2, over == 1, judged.taken > 1]) {
+            *count += seen as u64;
+        }
+    }
     /// A ticking run that is not refused where it should be may go on for days: with such ticks none is made once something differed.
     fn may_tick(&self, case: &Case) -> bool {
         self.differences == 0 || case.tick.iter().all(|&tick| tick <= LATE)
@@ -243,16 +264,19 @@ fn compare_arrival_count(r: &mut Random, tally: &mut Tally, case: &Case, task: u
 }
 
 fn compare_verdict(r: &mut Random, tally: &mut Tally, case: &Case, task: u32, budget: u64) {
-    let slots = around(r, 3);
+    let slots = around(r, 4);
     let mut answer = words(r, slots);
     let Ok(given) = reference::verdict(&case.sheet(), task as usize, &case.kept, &mut Budget::of(budget)) else {
         tally.passed_over += 1;
         return;
     };
-    let expected = in_words(slots, 3, given).map(|v| match v {
-        Verdict::Horizon { q } => [0, q as u64, 0],
-        Verdict::Late { q, r } => [1, q as u64, r as u64],
-        Verdict::Fits { r, q } => [2, q as u64, r as u64],
+    let expected = in_words(slots, 4, given).map(|j| {
+        tally.judged(case, task, &j);
+        match j.verdict {
+            Verdict::Horizon { q } => [0, q as u64, 0, j.evaluations],
+            Verdict::Late { q, r } => [1, q as u64, r as u64, j.evaluations],
+            Verdict::Fits { r, q } => [2, q as u64, r as u64, j.evaluations],
+        }
     });
     if let Ok(a) = expected {
         tally.verdicts[a[0] as usize] += 1;
@@ -280,6 +304,27 @@ fn compare_choice(r: &mut Random, tally: &mut Tally, case: &Case, budget: u64) {
     tally.note(2, expected.as_ref().err().copied(), got, same, || {
         format!("kept {:?} worst {:?} expected {:?} {}", kept.now, worst.now, expected, case.show())
     });
+    if let Ok((kept, _)) = &expected {
+        compare_choice_evaluations(tally, case, kept, budget.max(1_000_000));
+    }
+}
+
+/// The evaluations of a choice that succeeds, which the reference counts without a verdict: those of the archive's verdicts at the chosen
+/// kept jitters, added up.
+fn compare_choice_evaluations(tally: &mut Tally, case: &Case, kept: &[u32], budget: u64) {
+    let Ok(counted) = reference::choice_evaluations(&case.sheet(), &mut Budget::of(budget)) else {
+        tally.passed_over += 1;
+        return;
+    };
+    let (mut fit, mut sum) = (true, 0);
+    for task in 0..case.count {
+        let mut answer = [0; 4];
+        let code = library::verdict(&case.numbers, case.count, case.charge, task, kept, &mut answer);
+        (fit, sum) = (fit && (code, answer[0]) == (0, 2), sum + answer[3]);
+    }
+    tally.added_up += 1;
+    let same = fit && counted == Some((kept.to_vec(), sum));
+    tally.note(1, None, 0, same, || format!("kept {:?}, {} evaluations, by one walk {:?} {}", kept, sum, counted, case.show()));
 }
 
 fn compare_trace_check(r: &mut Random, tally: &mut Tally, case: &Case) {
@@ -553,6 +598,28 @@ fn check_reference_windows(r: &mut Random, cases: u32) {
             }
         }
     }
+}
+
+/// The evaluations of a choice that succeeds, by one walk over q for each task: those of the verdicts at its kept jitters, added up. Some of
+/// the verdicts take more than one q, with more than one t each.
+fn check_reference_evaluations(r: &mut Random, cases: u32) {
+    let mut long = 0;
+    for _ in 0..cases {
+        let (tasks, top) = (r.of(&[1, 2, 5, 12]), r.of(&[40, 1_000]));
+        let sheet = if r.once_in(2) { small_sheet(r) } else { loaded_sheet(r, tasks, top) };
+        let sheet = with_part_charged(r, sheet);
+        let budget = || Budget::of(100_000);
+        let Ok(Ok((kept, _))) = reference::choice(&sheet, 32, 32, &mut budget()) else {
+            continue;
+        };
+        let judged = (0..sheet.count).map(|i| reference::judge(&sheet, &kept, i, &mut budget())).collect::<Result<Vec<Judged>, _>>();
+        let (Ok(judged), Ok(counted)) = (judged, reference::choice_evaluations(&sheet, &mut budget())) else {
+            continue;
+        };
+        assert_eq!(counted, Some((kept, judged.iter().map(|j| j.evaluations).sum())));
+        long += judged.iter().filter(|j| j.taken > 1 && j.evaluations > 2 * j.taken as u64).count();
+    }
+    assert!(long > 0);
 }
 
 /// The three ways in which the reference finds the finish ticks agree, and each is one tick later than where a job may run in its
@@ -1225,8 +1292,9 @@ fn charge_files(r: &mut Random, tally: &mut Tally) {
     }
 }
 
-/// A sheet with a charge, and the sheet in which each cost has it in it: the archive gives the same verdicts and choices of both, the same
-/// arrival counts, checks and ready ticks, and the same runs of a list and of the list in which each cost has it in it.
+/// A sheet with a charge, and the sheet in which each cost has it in it: the archive gives the same verdicts, with the same number of
+/// evaluations, and choices of both, the same arrival counts, checks and ready ticks, and the same runs of a list and of the list in which
+/// each cost has it in it.
 fn charge_law(r: &mut Random, tally: &mut Tally, cases: u32, releases: &[usize]) {
     for _ in 0..cases {
         let (tasks, top) = (r.of(&[1, 2, 5, 32]), r.of(&[40, 1_000, 20_000, 1_000_000]));
@@ -1258,7 +1326,7 @@ fn compare_charged(tally: &mut Tally, case: &Case, whole: &Case) {
         }));
         if reference::verdict(&case.sheet(), task as usize, &case.kept, &mut Budget::of(40_000)).is_ok() {
             same(1, both.map(|c| {
-                let mut answer = vec![7; 3];
+                let mut answer = vec![7; 4];
                 (library::verdict(&c.numbers, c.count, c.charge, task, &c.kept, &mut answer), vec![answer])
             }));
         }
@@ -1293,8 +1361,8 @@ fn compare_charged(tally: &mut Tally, case: &Case, whole: &Case) {
     }));
 }
 
-/// The law on the reference: W(q), verdicts, choices and runs of a sheet with a charge are those of the sheet and the list in which each
-/// cost has it in it.
+/// The law on the reference: W(q), verdicts with their evaluations, choices and runs of a sheet with a charge are those of the sheet and
+/// the list in which each cost has it in it.
 fn check_reference_charge(r: &mut Random, cases: u32) {
     for _ in 0..cases {
         let sheet = small_sheet(r);
@@ -1348,8 +1416,8 @@ fn counts_at_steps(r: &mut Random, tally: &mut Tally, others: u32) {
                 let Some((sheet, kept)) = sheet_at_step(above, p, k, keep) else { continue };
                 let w = k * p - keep;
                 let verdict = reference::verdict(&sheet, above as usize, &kept, &mut Budget::of(1_000_000));
-                if let (Ok(Ok(v)), true) = (verdict, w >= 1_000_000) {
-                    assert!(matches!(v, Verdict::Late { q: 0, r } if r as u32 == w + 1));
+                if let (Ok(Ok(j)), true) = (verdict, w >= 1_000_000) {
+                    assert!(matches!(j.verdict, Verdict::Late { q: 0, r } if r as u32 == w + 1));
                     last = last.max(w);
                 }
                 let mut case = Case::sound(r, &sheet, &[]);
@@ -1362,10 +1430,21 @@ fn counts_at_steps(r: &mut Random, tally: &mut Tally, others: u32) {
     assert_eq!(last, 10_000_000);
 }
 
+/// The verdicts whose evaluations were counted by hand.
+fn numbers_by_hand(r: &mut Random, tally: &mut Tally) {
+    for (sheet, kept, task, _, _) in sums::numbers() {
+        let case = Case { kept, ..Case::sound(r, &sheet, &[]) };
+        for _ in 0..5 {
+            compare_verdict(r, tally, &case, task as u32, 100_000_000);
+        }
+    }
+}
+
 /// Walks that reach the horizon or take many q, and jitters for which every K in 0..J can only just be tried. With a charge too, where
 /// the costs leave a part for it.
 fn long_walks(r: &mut Random, tally: &mut Tally) {
-    let sheets: [&[[u32; 4]]; 7] = [
+    let sheets: [&[[u32; 4]]; 8] = [
+        &[[300, 1, 300, 302]],
         &[[1, 0, 1, 2], [1, 0, 1, 2]],
         &[[2, 0, 1, 2], [2, 1, 1, 1_000_000]],
         &[[3, 2, 1, 9], [3, 2, 1, 90], [3, 1_000_000, 1, 1_000_000]],
@@ -1436,17 +1515,17 @@ fn short_answers(r: &mut Random, tally: &mut Tally) {
     };
     let refused = |number: u32, place: u64| Some(Refusal { number, place });
 
-    // one task: the change, the task, then what an arrival count with no slot and a verdict with two slots refuse
+    // one task: the change, the task, then what an arrival count with no slot and a verdict with up to three slots refuse
     let single: [(fn(&mut Case), u32, [(u32, u64); 2]); 16] = [
-        (|_| (), 1, [(13, 1), (13, 3)]),
+        (|_| (), 1, [(13, 1), (13, 4)]),
         (|c| c.count = 0, 1, [(5, 0), (5, 0)]),
         (|c| c.count = 33, 1, [(4, 32), (4, 32)]),
         (|c| c.numbers[6] = 0, 0, [(6, 1), (6, 1)]),
         (|_| (), 7, [(14, 7), (14, 7)]),
         (|c| c.kept.clear(), 1, [(13, 3), (13, 3)]),
-        (|c| c.kept[1] = 8, 1, [(13, 1), (13, 3)]),
+        (|c| c.kept[1] = 8, 1, [(13, 1), (13, 4)]),
         // a charge: the tasks hold up to 4
-        (|c| c.charge = 4, 1, [(13, 1), (13, 3)]),
+        (|c| c.charge = 4, 1, [(13, 1), (13, 4)]),
         (|c| c.charge = 5, 1, [(17, 0), (17, 0)]),
         (|c| (c.charge, c.numbers[10]) = (4, 7), 1, [(17, 2), (17, 2)]),
         (|c| (c.charge, c.numbers[6]) = (5, 0), 1, [(17, 0), (17, 0)]),
@@ -1458,11 +1537,19 @@ fn short_answers(r: &mut Random, tally: &mut Tally) {
     ];
     for (change, task, [count, verdict]) in single {
         let case = changed(change);
-        let mut answer = words(r, 2);
+        let mut answer = words(r, 3);
         let got = library::arrival_count(&case.numbers, case.count, case.charge, task, &case.kept, 7, &mut answer.now[..0]);
         tally.note(0, refused(count.0, count.1), got, answer.holds(None), || format!("no slot, task {} {}", task, case.show()));
-        let got = library::verdict(&case.numbers, case.count, case.charge, task, &case.kept, &mut answer.now);
-        tally.note(1, refused(verdict.0, verdict.1), got, answer.holds(None), || format!("two slots, task {} {}", task, case.show()));
+        for slots in 0..=3 {
+            let got = library::verdict(&case.numbers, case.count, case.charge, task, &case.kept, &mut answer.now[..slots]);
+            tally.note(1, refused(verdict.0, verdict.1), got, answer.holds(None), || format!("{slots} slots, task {task} {}", case.show()));
+        }
+    }
+    // four slots and more: late at q = 0 with R(0) = 9 after one t
+    for slots in 4..=6 {
+        let (case, mut answer) = (changed(|_| ()), words(r, slots));
+        let got = library::verdict(&case.numbers, case.count, case.charge, 1, &case.kept, &mut answer.now);
+        tally.note(1, None, got, answer.holds(Some(&[1, 0, 9, 1])), || format!("{} slots: {:?}", slots, answer.now));
     }
 
     // a list of three: what a trace check with one slot and a write with none refuse, and the bytes that the write needs
@@ -1662,6 +1749,7 @@ fn main() {
     println!("seed {}", seed);
     println!("reference: {} sums and examples of documents 01 and 02 agree", sums::check());
     timed("reference: W(q) by step and by tick", || check_reference_windows(r, 2_000));
+    timed("reference: evaluations of a choice", || check_reference_evaluations(r, 20_000));
     timed("reference: run by event, tick and job", || check_reference_run(r, 4_000));
     timed("reference: forms and late ticks", || check_reference_jump(r, 500));
     timed("reference: texts there and back", || check_reference_texts(r, 20_000));
@@ -1701,6 +1789,7 @@ fn main() {
     timed("texts, cut and changed at every byte", || texts(r, tally, 200));
     timed("numbers and lines at the limits", || full_texts(r, tally));
     timed("arrival counts at their steps", || counts_at_steps(r, tally, 1_000));
+    timed("evaluations counted by hand", || numbers_by_hand(r, tally));
     timed("long walks", || long_walks(r, tally));
     for ((name, n), charged) in NAMES.iter().zip(tally.calls).zip(tally.charged) {
         println!("{:<14} {:8} calls, {} answered with a charge", name, n, charged);
@@ -1709,6 +1798,8 @@ fn main() {
     println!("refusals by number  {}", each.join("  "));
     let [horizon, late, fits] = tally.verdicts;
     println!("verdicts  horizon {}  late {}  fits {}; too close {}; passed over {}", horizon, late, fits, tally.too_close, tally.passed_over);
+    let lists: Vec<String> = LISTS.iter().zip(tally.lists).map(|(name, n)| format!("{name} {n}")).collect();
+    println!("evaluations  most {}; {}; choices added up {}", tally.most_evaluations, lists.join("  "), tally.added_up);
     println!("jumping runs  most stops {}; fewer than two stops for each release {}", tally.most_stops, tally.shared_stops);
     println!("charges with which a call was answered: {}", tally.charges.len());
     println!("largest ready tick {}, finish {}; too many ticks to be ticked through {}", tally.last_ready, tally.last_finish, tally.not_ticked);
@@ -1717,9 +1808,10 @@ fn main() {
     let ticks = (tally.last_ready, tally.last_finish) == (1_000_001_023_000_000, 1_000_001_024_000_001);
     // a load has no charge
     let charges = tally.charges.len() == 255 && (0..10).all(|call| (tally.charged[call] > 0) != (call == 8));
-    let missing = (1..18).any(|n| tally.refusals[n] == 0) || tally.verdicts.contains(&0) || !stops || !ticks || !charges;
+    let lists = !tally.lists.contains(&0) && tally.most_evaluations > 1_000_000 && tally.added_up > 0;
+    let missing = (1..18).any(|n| tally.refusals[n] == 0) || tally.verdicts.contains(&0) || !lists || !stops || !ticks || !charges;
     if missing {
-        println!("some refusal, verdict, number of stops, largest tick or charge never came up");
+        println!("some refusal, verdict, kind of list, number of evaluations or stops, largest tick or charge never came up");
     }
     std::process::exit(if tally.differences == 0 && !missing { 0 } else { 1 });
 }

@@ -1,6 +1,6 @@
 /*
  * The constants of include/nolkrada.h: the limits of documents 01 and 02, the sizes of files and texts, the largest charge, the
- * largest finish and the most stops of a run, and each refusal by its name, got from the archive.
+ * largest finish and the most stops of a run, each refusal by its name, and verdicts with their evaluations, got from the archive.
  */
 #include <stdio.h>
 #include <string.h>
@@ -37,7 +37,7 @@ static const uint32_t printed[] = {6, 5, 2, 6, 8, 7, 2, 8, 10, 0, 2, 10};
 static const uint32_t unfit[] = {2, 1, 1, 2, 2, 0, 2, 2};
 
 static uint32_t sheet[NOLKRADA_SHEET_NUMBERS], task[NOLKRADA_MAX_RELEASES], cost[NOLKRADA_MAX_RELEASES];
-static uint64_t tick[NOLKRADA_MAX_RELEASES], answer[3];
+static uint64_t tick[NOLKRADA_MAX_RELEASES], answer[4];
 /* The charge of the sheet that is written. */
 static uint8_t charge;
 static int wrong;
@@ -153,9 +153,9 @@ static void refusals(void) {
            NOLKRADA_REFUSED_RELEASE_COST, 0);
     expect("too many releases", nolkrada_trace_check(printed, n, 3, 0, 1025, one, 3, at_0, 3, one, 3, answer, 3),
            NOLKRADA_REFUSED_TOO_MANY_RELEASES, 1024);
-    expect("kept", nolkrada_verdict(printed, n, 3, 0, 0, five, 3, answer, 3), NOLKRADA_REFUSED_KEPT, 2);
+    expect("kept", nolkrada_verdict(printed, n, 3, 0, 0, five, 3, answer, 4), NOLKRADA_REFUSED_KEPT, 2);
     expect("short array", nolkrada_choice(printed, n, 3, 0, kept, 2, worst, 3), NOLKRADA_REFUSED_SHORT_ARRAY, 3);
-    expect("no such task", nolkrada_verdict(printed, n, 3, 0, 3, zero, 3, answer, 3), NOLKRADA_REFUSED_NO_SUCH_TASK, 3);
+    expect("no such task", nolkrada_verdict(printed, n, 3, 0, 3, zero, 3, answer, 4), NOLKRADA_REFUSED_NO_SUCH_TASK, 3);
     expect("unfit", nolkrada_choice(unfit, 8, 2, 0, kept, 3, worst, 3), NOLKRADA_REFUSED_UNFIT, 1);
     expect("line", load("6,5,2,6\n8,7,2,8\r\n"), NOLKRADA_REFUSED_LINE, 1);
     expect("line before range", load("0,5,2,6 \n"), NOLKRADA_REFUSED_LINE, 0);
@@ -165,15 +165,41 @@ static void refusals(void) {
     expect("short answer", nolkrada_load((const uint8_t *)"6,5,2,6\n", 8, sheet, 128, answer, 0), NOLKRADA_REFUSED_SHORT_ARRAY, 1);
 }
 
-/* The verdicts of the printed sheet's second task, and of a task under a full load. */
+/* The four words of a verdict. */
+static void expect_words(const char *name, uint64_t kind, uint64_t q, uint64_t bound, uint64_t evaluations) {
+    if (answer[0] == kind && answer[1] == q && answer[2] == bound && answer[3] == evaluations) return;
+    printf("%s: not the words of its verdict\n", name);
+    wrong = 1;
+}
+
+/* The verdicts of the printed sheet's second task and, with full jitters, of its second and third, and of a task under a full load;
+ * with the t that they try: 4; 4; 4, 6 and 6, 8, 10; 6, 10, 14, 16; 2 and each up to 10000001. Then too few words. */
 static void verdicts(void) {
-    static const uint32_t busy[] = {1, 0, 1, 1, 1, 0, 1, 1}, kept[3] = {1, 4, 0}, less[3] = {1, 3, 0};
-    expect("fits", nolkrada_verdict(printed, 12, 3, 0, 1, kept, 3, answer, 3), 0, 0);
-    if (answer[0] != NOLKRADA_FITS || answer[2] != 8) wrong = 1;
-    expect("late", nolkrada_verdict(printed, 12, 3, 0, 1, less, 3, answer, 3), 0, 0);
-    if (answer[0] != NOLKRADA_LATE || answer[2] != 9) wrong = 1;
-    expect("horizon", nolkrada_verdict(busy, 8, 2, 0, 1, (const uint32_t[]){0, 0}, 2, answer, 3), 0, 0);
-    if (answer[0] != NOLKRADA_HORIZON || answer[1] != 0 || answer[2] != 0) wrong = 1;
+    static const uint32_t busy[] = {1, 0, 1, 1, 1, 0, 1, 1}, kept[3] = {1, 4, 0}, less[3] = {1, 3, 0}, whole[3] = {5, 7, 0};
+    expect("fits", nolkrada_verdict(printed, 12, 3, 0, 1, kept, 3, answer, 4), 0, 0);
+    expect_words("fits", NOLKRADA_FITS, 0, 8, 1);
+    expect("late", nolkrada_verdict(printed, 12, 3, 0, 1, less, 3, answer, 4), 0, 0);
+    expect_words("late", NOLKRADA_LATE, 0, 9, 1);
+    expect("late at q 1", nolkrada_verdict(printed, 12, 3, 0, 1, whole, 3, answer, 4), 0, 0);
+    expect_words("late at q 1", NOLKRADA_LATE, 1, 10, 5);
+    expect("late, task 2", nolkrada_verdict(printed, 12, 3, 0, 2, whole, 3, answer, 4), 0, 0);
+    expect_words("late, task 2", NOLKRADA_LATE, 0, 17, 4);
+    expect("horizon", nolkrada_verdict(busy, 8, 2, 0, 1, (const uint32_t[]){0, 0}, 2, answer, 4), 0, 0);
+    expect_words("horizon", NOLKRADA_HORIZON, 0, 0, 10000000);
+    for (size_t n = 0; n < 4; n++)
+        expect("too few words", nolkrada_verdict(printed, 12, 3, 0, 1, kept, 3, answer, n), NOLKRADA_REFUSED_SHORT_ARRAY, 4);
+}
+
+/* A plan for a choice: the evaluations of the verdicts at the chosen kept jitters, 1 + 1 + 2 with a deadline of 11 for the last task. */
+static void plan(void) {
+    static const uint32_t folder[] = {6, 5, 2, 6, 8, 7, 2, 8, 10, 0, 2, 11};
+    static const uint64_t numbers[3] = {1, 1, 2};
+    uint32_t kept[3], worst[3];
+    expect("choice", nolkrada_choice(folder, 12, 3, 0, kept, 3, worst, 3), 0, 0);
+    for (uint32_t i = 0; i < 3; i++) {
+        expect("verdict of a chosen task", nolkrada_verdict(folder, 12, 3, 0, i, kept, 3, answer, 4), 0, 0);
+        expect_words("verdict of a chosen task", NOLKRADA_FITS, 0, worst[i], numbers[i]);
+    }
 }
 
 /* The charge: in every call that takes a sheet 17 where a task holds no more than 4, and answers with 4; a release with a cost over E
@@ -191,7 +217,7 @@ static void charges(void) {
         const uint8_t c = (uint8_t)s;
         const uint32_t number = s == 5 ? NOLKRADA_REFUSED_CHARGE : 0;
         expect("charge, arrival count", nolkrada_arrival_count(printed, n, 3, c, 0, loose, 3, 8, answer, 1), number, 0);
-        expect("charge, verdict", nolkrada_verdict(printed, n, 3, c, 0, loose, 3, answer, 3), number, 0);
+        expect("charge, verdict", nolkrada_verdict(printed, n, 3, c, 0, loose, 3, answer, 4), number, 0);
         expect("charge, choice", nolkrada_choice(printed, n, 3, c, kept, 3, worst, 3), s == 5 ? number : NOLKRADA_REFUSED_UNFIT, 0);
         expect("charge, trace check", nolkrada_trace_check(printed, n, 3, c, 1, zero, 1, at_0, 1, two, 1, answer, 2), number, 0);
         expect("charge, ready", nolkrada_ready(printed, n, 3, c, loose, 3, 1, zero, 1, at_0, 1, two, 1, ready, 1), number, 0);
@@ -276,11 +302,11 @@ typedef uint64_t (*whole_register)(const uint32_t *, size_t, uint32_t, uint32_t,
 
 static void upper_bits(void) {
     static const uint32_t none[3] = {0, 0, 0};
-    uint64_t other[3];
+    uint64_t other[4];
     whole_register verdict = (whole_register)(void (*)(void))nolkrada_verdict;
     for (uint32_t c = 0; c < 6; c++) {
-        uint64_t code = nolkrada_verdict(printed, 12, 3, (uint8_t)c, 1, none, 3, answer, 3);
-        if (verdict(printed, 12, 3, UINT32_C(0xabcdef00) + c, 1, none, 3, other, 3) != code) wrong = 1;
+        uint64_t code = nolkrada_verdict(printed, 12, 3, (uint8_t)c, 1, none, 3, answer, 4);
+        if (verdict(printed, 12, 3, UINT32_C(0xabcdef00) + c, 1, none, 3, other, 4) != code) wrong = 1;
         if (code == 0 && memcmp(answer, other, sizeof other) != 0) wrong = 1;
     }
 }
@@ -292,11 +318,12 @@ int main(void) {
     text_sizes();
     refusals();
     verdicts();
+    plan();
     charges();
     upper_bits();
     runs();
     jumps();
     puts(wrong ? "header: something is not as it says"
-               : "header: limits, sizes, refusals, verdicts, charge, pickup, largest finish and stops as it says");
+               : "header: limits, sizes, refusals, verdicts, evaluations, charge, pickup, largest finish and stops as it says");
     return wrong;
 }

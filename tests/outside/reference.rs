@@ -1,8 +1,9 @@
-//! An implementation of document 01 with document 02's text sheets, pickup, long ticks, charge for each switch
-//! and stops of a run, for comparison, written from their words alone. It shares no code and no method with the library: ready
-//! ticks and the trace check look at every pair of jobs, W(q) is found by walking over the ticks at which the demand steps, the choice
-//! tries every K in rising order, the ticking run is compared with one from event to event and the run that jumps with one that allots
-//! free ticks job by job, a file is taken apart in one pass, and a text is split into whole lines and fields.
+//! An implementation of document 01 with document 02's text sheets, pickup, long ticks, charge for each switch,
+//! stops of a run and evaluations of a verdict, for comparison, written from their words alone. It shares no code and no
+//! method with the library: ready ticks and the trace check look at every pair of jobs, W(q) is found by walking over the ticks at which
+//! the demand steps, the choice tries every K in rising order, the ticking run is compared with one from event to event and the run that
+//! jumps with one that allots free ticks job by job, a file is taken apart in one pass, and a text is split into whole lines and fields.
+//! Only what R-8 counts is gone through as it is counted: the lists of t, and the walk over q of a choice. No answer is taken from them.
 
 use std::collections::BTreeSet;
 use std::ops::RangeInclusive;
@@ -76,6 +77,14 @@ pub enum Verdict {
     Horizon { q: i64 },
     Late { q: i64, r: i64 },
     Fits { r: i64, q: i64 },
+}
+
+/// A verdict, how many q it took, and the number of evaluations: how often demand was worked out.
+#[derive(Clone, Copy, Debug, PartialEq, Eq)]
+pub struct Judged {
+    pub verdict: Verdict,
+    pub taken: i64,
+    pub evaluations: u64,
 }
 
 /// A limit on the steps of a search, so that a comparison can pass over a case that takes too long.
@@ -240,6 +249,11 @@ pub fn stops(ready: &[i64], finish: &[i64]) -> u64 {
     ticks.len() as u64
 }
 
+/// P, K, and E with the charge, of each task above.
+fn tasks_above(sheet: &Sheet, kept: &[u32], i: usize) -> Vec<(i64, i64, i64)> {
+    (0..i).map(|j| (sheet.task(j).p as i64, kept[j] as i64, sheet.most_work(j))).collect()
+}
+
 /// W(q) of one task for q = 0, 1, .., found when asked for. None: over the horizon, or no such t.
 pub struct Windows<'a> {
     own_cost: i64,
@@ -250,10 +264,7 @@ pub struct Windows<'a> {
 
 impl<'a> Windows<'a> {
     pub fn of(sheet: &Sheet, kept: &[u32], i: usize, budget: &'a mut Budget) -> Windows<'a> {
-        let above = (0..i)
-            .map(|j| (sheet.task(j).p as i64, kept[j] as i64, sheet.most_work(j)))
-            .collect();
-        Windows { own_cost: sheet.most_work(i), above, found: Vec::new(), budget }
+        Windows { own_cost: sheet.most_work(i), above: tasks_above(sheet, kept, i), found: Vec::new(), budget }
     }
 
     /// The least t from `from` on with (q + 1)E + sum of E_j σ_j(t) ≤ t, each E with the charge. The demand is constant up to the
@@ -293,45 +304,112 @@ impl<'a> Windows<'a> {
     }
 }
 
-/// The walk over q of a task with kept jitter K: R(q) has the pickup, the stop has not.
-fn walk(task: Task, keep: u32, windows: &mut Windows) -> Result<Verdict, Exhausted> {
+/// The list of t of the search for W(q): it starts from (q + 1) × E plus one E of each task above, S added to each E, and goes on
+/// with the demand just found until it equals t, or t is over H, which ends the list.
+pub fn tried(sheet: &Sheet, kept: &[u32], i: usize, q: i64) -> impl Iterator<Item = i64> {
+    let (own, above) = ((q + 1) * sheet.most_work(i), tasks_above(sheet, kept, i));
+    let start = own + above.iter().map(|&(_, _, e)| e).sum::<i64>();
+    std::iter::successors(Some(start), move |&t| {
+        let demand = own + above.iter().map(|&(p, k, e)| e * sigma(p, k, t)).sum::<i64>();
+        if demand == t || t > HORIZON { None } else { Some(demand) }
+    })
+}
+
+/// The length of that list. It rises, and its last member is W(q) or the first t over H; where it is W(q), the list is at most as long as
+/// 1 + (sum over tasks above of σ_j at W(q)) − (number of tasks above).
+fn evaluations_at(sheet: &Sheet, kept: &[u32], i: usize, q: i64, windows: &mut Windows) -> Result<u64, Exhausted> {
+    let (mut length, mut last) = (0, 0);
+    for t in tried(sheet, kept, i, q) {
+        windows.budget.spend(1 + i as u64)?;
+        assert!(last < t && last <= HORIZON);
+        (length, last) = (length + 1, t);
+    }
+    match windows.get(q)? {
+        None => assert!(last > HORIZON),
+        Some(w) => {
+            let jobs = windows.above.iter().map(|&(p, k, _)| sigma(p, k, w)).sum::<i64>();
+            assert!(last == w && length <= 1 + jobs - i as i64);
+        }
+    }
+    Ok(length as u64)
+}
+
+/// The walk over q of a task with kept jitter K: R(q) has the pickup, the stop has not. The verdict, and the q at which the walk stops.
+fn walk(task: Task, keep: u32, windows: &mut Windows) -> Result<(Verdict, i64), Exhausted> {
     let (p, j, d, k) = (task.p as i64, task.j as i64, task.d as i64, keep as i64);
     let mut best: Option<(i64, i64)> = None;
     let mut q = 0;
     loop {
         windows.budget.spend(1)?;
         let Some(w) = windows.get(q)? else {
-            return Ok(Verdict::Horizon { q });
+            return Ok((Verdict::Horizon { q }, q));
         };
         let x = j - q * p;
         let r = w + PICKUP + std::cmp::max(x - k, std::cmp::min(0, x));
         if r > d {
-            return Ok(Verdict::Late { q, r });
+            return Ok((Verdict::Late { q, r }, q));
         }
         if best.map_or(true, |(b, _)| r > b) {
             best = Some((r, q));
         }
         if w <= gap(p, k, q + 1) {
-            let (r, q) = best.unwrap();
-            return Ok(Verdict::Fits { r, q });
+            let (r, first) = best.unwrap();
+            return Ok((Verdict::Fits { r, q: first }, q));
         }
         q += 1;
     }
 }
 
+/// The verdict alone.
 pub fn verdict_of(sheet: &Sheet, kept: &[u32], i: usize, budget: &mut Budget) -> Result<Verdict, Exhausted> {
-    walk(sheet.task(i), kept[i], &mut Windows::of(sheet, kept, i, budget))
+    Ok(walk(sheet.task(i), kept[i], &mut Windows::of(sheet, kept, i, budget))?.0)
+}
+
+/// The verdict with its number: the lengths of the lists of t, added up over the q that it took.
+pub fn judge(sheet: &Sheet, kept: &[u32], i: usize, budget: &mut Budget) -> Result<Judged, Exhausted> {
+    let mut windows = Windows::of(sheet, kept, i, budget);
+    let (verdict, last) = walk(sheet.task(i), kept[i], &mut windows)?;
+    let mut evaluations = 0;
+    for q in 0..=last {
+        evaluations += evaluations_at(sheet, kept, i, q, &mut windows)?;
+    }
+    Ok(Judged { verdict, taken: last + 1, evaluations })
 }
 
 /// The least K in 0..J at which the verdict is "fits", with the largest R.
 pub fn least_keep(sheet: &Sheet, kept: &[u32], i: usize, budget: &mut Budget) -> Result<Option<(u32, u32)>, Exhausted> {
     let mut windows = Windows::of(sheet, kept, i, budget);
     for k in 0..=sheet.task(i).j {
-        if let Verdict::Fits { r, .. } = walk(sheet.task(i), k, &mut windows)? {
+        if let (Verdict::Fits { r, .. }, _) = walk(sheet.task(i), k, &mut windows)? {
             return Ok(Some((k, r as u32)));
         }
     }
     Ok(None)
+}
+
+/// The kept jitters of a choice that succeeds, and how often demand is worked out for it, both without a verdict: for each task one walk
+/// over q. The least K grows to what R(q) ≤ D asks for, and the walk ends where W(q) is within d_K(q + 1). None where no K fits some task.
+pub fn choice_evaluations(sheet: &Sheet, budget: &mut Budget) -> Result<Option<(Vec<u32>, u64)>, Exhausted> {
+    let (mut kept, mut evaluations) = (Vec::new(), 0);
+    for i in 0..sheet.count {
+        let (p, j, d) = (sheet.task(i).p as i64, sheet.task(i).j as i64, sheet.task(i).d as i64);
+        let mut windows = Windows::of(sheet, &kept, i, budget);
+        let (mut q, mut least) = (0, 0);
+        loop {
+            evaluations += evaluations_at(sheet, &kept, i, q, &mut windows)?;
+            let x = j - q * p;
+            let Some(w) = windows.get(q)?.filter(|w| w + PICKUP + std::cmp::min(0, x) <= d) else {
+                return Ok(None);
+            };
+            least = std::cmp::max(least, w + PICKUP + x - d);
+            if w <= gap(p, least, q + 1) {
+                break;
+            }
+            q += 1;
+        }
+        kept.push(least as u32);
+    }
+    Ok(Some((kept, evaluations)))
 }
 
 // ---- Checks of a call on values, in the stated order -------------------------------------------------------------------
@@ -446,11 +524,11 @@ pub fn arrival_count(sheet: &Sheet, i: usize, kept: &[u32], t: u32) -> Result<u6
     Ok(sigma(sheet.task(i).p as i64, kept[i] as i64, t as i64) as u64)
 }
 
-pub fn verdict(sheet: &Sheet, i: usize, kept: &[u32], budget: &mut Budget) -> Result<Result<Verdict, Refusal>, Exhausted> {
+pub fn verdict(sheet: &Sheet, i: usize, kept: &[u32], budget: &mut Budget) -> Result<Result<Judged, Refusal>, Exhausted> {
     if let Err(r) = check_single(sheet, i, kept) {
         return Ok(Err(r));
     }
-    Ok(Ok(verdict_of(sheet, kept, i, budget)?))
+    Ok(Ok(judge(sheet, kept, i, budget)?))
 }
 
 /// The choice: kept jitters and worst values. The lengths of the two lent columns decide 13.

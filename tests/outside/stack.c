@@ -20,7 +20,7 @@ static uint64_t tick[SLOTS], ready[SLOTS], finish[SLOTS];
 static uint8_t file[NOLKRADA_READ_BYTES];
 static const char line[] = "1000000,1000000,1000000,1000000\n";
 static char text[NOLKRADA_MAX_TEXT + sizeof line - 1];
-static uint64_t answer[3], code;
+static uint64_t answer[4], code;
 /* The parts of a call that a case changes: the charge, how many tasks, releases, slots, bytes, characters, numbers of a sheet that
  * is read or loaded and words there are, and which task is asked for. */
 static uint8_t charge;
@@ -86,7 +86,7 @@ static void full(void) {
     for (size_t at = 0; at < sizeof text; at += sizeof line - 1) memcpy(text + at, line, sizeof line - 1);
     characters = NOLKRADA_MAX_TEXT;
     numbers_lent = NUMBERS;
-    words = 3;
+    words = 4;
     list();
 }
 

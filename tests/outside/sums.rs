@@ -1,6 +1,6 @@
 //! The reference implementation on the twelve sums and the two printed examples of document 01, 7 to 12 and the examples as document
-//! 02's R-2 has them, on R-2's own figures, on stops of R-5 that were counted by hand, on records of written by hand, and on
-//! verdicts, choices and runs with a charge that were worked out by hand.
+//! 02's R-2 has them, on R-2's own figures, on stops of R-5 and lists of t and evaluations of R-8 that were counted by hand, on records of
+//! written by hand, and on verdicts, choices and runs with a charge that were worked out by hand.
 
 use crate::reference::*;
 
@@ -148,6 +148,75 @@ fn charges() -> usize {
     assert_eq!(refusal(&[task(MAX_TIME, 0, u32::MAX, MAX_TIME)], 255), Some((6, 0)));
     assert_eq!(refusal(&[], 255), Some((5, 0)));
     11 + 5 + 11
+}
+
+/// Lists of t and evaluations of verdicts and choices.
+fn evaluations() -> usize {
+    let (s, large) = (printed_sheet(), task(MAX_TIME, 0, MAX_TIME, MAX_TIME));
+    let pair = Sheet::of(&[task(10, 0, 2, 6), task(20, 0, 2, 8)]).charged(1);
+    // one member without a task above and below one that brings one job; two, three and four; with a charge; W(q) = H; a first t over H; a
+    // last one
+    let lists: [(&Sheet, &[u32], usize, i64, &[i64]); 12] = [
+        (&s, &[5, 7, 0], 0, 1, &[4]),
+        (&s, &[1, 3, 0], 1, 0, &[4]),
+        (&s, &[1, 3, 0], 1, 1, &[6, 8]),
+        (&s, &[5, 7, 0], 1, 0, &[4, 6]),
+        (&s, &[5, 7, 0], 1, 1, &[6, 8, 10]),
+        (&s, &[5, 7, 0], 2, 0, &[6, 10, 14, 16]),
+        (&s.charged(1), &[3, 7, 0], 1, 0, &[6, 9]),
+        (&pair, &[9, 0], 1, 0, &[6, 9]),
+        (&Sheet::of(&[large]), &[0], 0, 9, &[10_000_000]),
+        (&Sheet::of(&[large]), &[0], 0, 10, &[11_000_000]),
+        (&Sheet::of(&[large; 12]), &[0; 12], 11, 0, &[12_000_000]),
+        (&Sheet::of(&[large; 2]), &[0; 2], 1, 3, &[5_000_000, 9_000_000, 13_000_000]),
+    ];
+    for (sheet, kept, i, q, list) in lists {
+        assert_eq!(tried(sheet, kept, i, q).collect::<Vec<i64>>(), list);
+    }
+    let numbers = numbers();
+    for (sheet, kept, i, taken, number) in &numbers {
+        let judged = judge(sheet, kept, *i, &mut Budget::of(u64::MAX)).ok().unwrap();
+        assert_eq!((judged.taken, judged.evaluations), (*taken, *number));
+    }
+    // the folder sheet: 1 + 1 + 2, since task 2 tries 6 and 10; the printed one is refused; a choice that takes two q, below no task
+    let choice = |sheet: &Sheet| choice_evaluations(sheet, &mut Budget::of(u64::MAX)).ok().unwrap();
+    assert_eq!(choice(&folder_sheet()), Some((vec![2, 4, 0], 4)));
+    assert_eq!(choice(&s), None);
+    assert_eq!(choice(&Sheet::of(&[task(6, 7, 2, 5)])), Some((vec![5], 2)));
+    lists.len() + numbers.len() + 3
+}
+
+/// Sheets with kept jitters and a task: how many q its verdict takes, and the number of evaluations.
+pub fn numbers() -> Vec<(Sheet, Vec<u32>, usize, i64, u64)> {
+    let (s, large) = (printed_sheet(), task(MAX_TIME, 0, MAX_TIME, MAX_TIME));
+    // W(q) is (q + 1)P: with K = 1 it is over d_1(q + 1), and R(q) is at most P + 2, up to the first t over H
+    let steps = |p: u32| Sheet::of(&[task(p, 1, p, MAX_TIME)]);
+    // q = 0 has t = 99,999 and W(0) = 100,099. Each q from 1 to 99 has (q + 1) × 99,899 + 100 times 1, q + 1 and q + 2, which is W(q). The
+    // walk stops at q = 99, where W(q) is H
+    let many = Sheet::of(&[task(100_000, 101, 100, 101), task(100_000, 0, 99_899, 200_000)]);
+    let many_charged = Sheet::of(&[task(100_000, 101, 10, 101), task(100_000, 0, 99_809, 200_000)]).charged(90);
+    // 7, 10, 13 and 16 with costs of 3 and 4
+    let four = Sheet::of(&[task(4, 0, 1, 4), task(8, 0, 2, 16)]).charged(2);
+    vec![
+        (s.clone(), vec![5, 7, 0], 2, 1, 4),
+        (s.clone(), vec![5, 7, 0], 1, 2, 2 + 3),
+        (s.clone(), vec![1, 4, 0], 1, 1, 1),
+        (s.clone(), vec![1, 3, 0], 2, 1, 2),
+        (s.charged(1), vec![3, 7, 0], 1, 1, 2),
+        (Sheet::of(&[task(8, 7, 2, 8)]), vec![7], 0, 2, 1 + 1),
+        (Sheet::of(&[task(10, 9, 2, 6), task(20, 0, 2, 10)]).charged(1), vec![9, 0], 1, 1, 2),
+        (four, vec![0, 0], 1, 1, 4),
+        // a first t over H: after ten q and after a hundred, each with one t; at q = 0
+        (steps(999_998), vec![1], 0, 11, 11),
+        (steps(100_000), vec![1], 0, 101, 101),
+        (Sheet::of(&[task(100_000, 1, 99_800, MAX_TIME)]).charged(200), vec![1], 0, 101, 101),
+        (Sheet::of(&[large; 12]), vec![0; 12], 11, 1, 1),
+        // a last t over H: 10,000,000 and 91,000,000; 2, 3, .. up to 10,000,001
+        (Sheet::of(&[large; 12]), vec![0; 12], 9, 1, 2),
+        (Sheet::of(&[task(1, 0, 1, 1); 2]), vec![0, 0], 1, 1, 10_000_000),
+        (many, vec![101, 0], 1, 100, 2 + 99 * 3),
+        (many_charged, vec![101, 0], 1, 100, 2 + 99 * 3),
+    ]
 }
 
 /// The same, but the record at this offset is refused with 8.
@@ -306,6 +375,6 @@ pub fn check() -> usize {
     assert_eq!(stops_of(&[(1, 0, 1), (0, 0, 1)]), 3);
     // two releases alone, at tick 0 and at the limit
     assert_eq!(stops_of(&[(0, 0, 1), (0, MAX_TICK, 1)]), 4);
-    // twelve sums, two examples, these with D 11, three figures more, seven of stops, the records, and those of a charge
-    12 + 2 + 2 + 3 + 7 + records() + charge_records() + charges()
+    // twelve sums, two examples, these with D 11, three figures more, seven of stops, the records, those of a charge, and evaluations
+    12 + 2 + 2 + 3 + 7 + records() + charge_records() + charges() + evaluations()
 }

@@ -27,12 +27,21 @@ fn arrival_answer(c: &TaskCall) -> String {
 }
 
 fn verdict_answer(c: &TaskCall) -> String {
-    match verdict(&c.sheet, c.task as usize, &c.kept, &mut Budget::of(u64::MAX)).ok().unwrap() {
-        Err(r) => refused(r),
-        Ok(Verdict::Horizon { q }) => format!(" horizon q {q}"),
-        Ok(Verdict::Late { q, r }) => format!(" late q {q} R {r}"),
-        Ok(Verdict::Fits { r, q }) => format!(" fits R {r} q {q}"),
-    }
+    let judged = match verdict(&c.sheet, c.task as usize, &c.kept, &mut Budget::of(u64::MAX)).ok().unwrap() {
+        Err(r) => return refused(r),
+        Ok(j) => j,
+    };
+    let line = match judged.verdict {
+        Verdict::Horizon { q } => format!(" horizon q {q}"),
+        Verdict::Late { q, r } => format!(" late q {q} R {r}"),
+        Verdict::Fits { r, q } => format!(" fits R {r} q {q}"),
+    };
+    counted(&line, judged.evaluations)
+}
+
+/// The line of a verdict with the number of its evaluations.
+fn counted(line: &str, evaluations: u64) -> String {
+    format!("{line} evaluations {evaluations}")
 }
 
 fn arrival_blocks(c: &TaskCall) -> Vec<Vec<u8>> {
@@ -75,6 +84,11 @@ fn add_verdict(v: &mut Vectors, label: &str, c: &TaskCall) {
     v.case(&format!("verdict, {label}"), &verdict_blocks(c), &verdict_answer(c));
 }
 
+/// A verdict that was worked out by hand, with its evaluations.
+fn worked_verdict(v: &mut Vectors, label: &str, c: &TaskCall, line: &str, evaluations: u64) {
+    v.worked(&format!("verdict, {label}"), &verdict_blocks(c), &verdict_answer(c), &counted(line, evaluations));
+}
+
 fn add_choice(v: &mut Vectors, label: &str, c: &ChoiceCall) {
     v.case(&format!("choice, {label}"), &choice_blocks(c), &choice_answer(c));
 }
@@ -95,65 +109,95 @@ fn worked_tasks(v: &mut Vectors) {
     }
     let most = about(&sheet(&[(1, MILLION, 1, 1)]), 0, &[MILLION], u32::MAX);
     v.worked("arrivals, most", &arrival_blocks(&most), &arrival_answer(&most), " 4295967295");
-    let mut add = |label: &str, sheet: &Sheet, task: u32, kept: &[u32], line: &str| {
-        let c = about(sheet, task, kept, 0);
-        v.worked(&format!("verdict, {label}"), &verdict_blocks(&c), &verdict_answer(&c), line);
+    let mut add = |label: &str, sheet: &Sheet, task: u32, kept: &[u32], line: &str, evaluations: u64| {
+        worked_verdict(v, label, &about(sheet, task, kept, 0), line, evaluations);
     };
     // With K = J = 7, R(0) is W(0) + 1 and R(1) is W(1): 5 and 8.
-    add("sum 6, W(0)", &with_deadline(1, 4), 1, &[1, 7, 0], " late q 0 R 5");
-    add("sum 6, W(1)", &with_deadline(1, 7), 1, &[1, 7, 0], " late q 1 R 8");
-    add("sum 7, K 2", &s, 1, &[1, 2, 0], " late q 0 R 10");
-    add("sum 7, K 3", &s, 1, &[1, 3, 0], " late q 0 R 9");
-    add("sum 7, K 4", &s, 1, &[1, 4, 0], " fits R 8 q 0");
-    add("sum 8, W(0)", &with_deadline(1, 6), 1, &[5, 7, 0], " late q 0 R 7");
-    add("sum 8", &s, 1, &[5, 7, 0], " late q 1 R 10");
-    add("sum 9", &s, 2, &[1, 3, 0], " late q 0 R 11");
-    add("sum 9, D 9", &with_deadline(2, 9), 2, &[1, 3, 0], " late q 0 R 11");
-    add("sum 9, D 11", &with_deadline(2, 11), 2, &[1, 3, 0], " fits R 11 q 0");
-    add("sum 10", &s, 2, &[5, 7, 0], " late q 0 R 17");
+    add("sum 6, W(0)", &with_deadline(1, 4), 1, &[1, 7, 0], " late q 0 R 5", 1);
+    add("sum 6, W(1)", &with_deadline(1, 7), 1, &[1, 7, 0], " late q 1 R 8", 3);
+    add("sum 7, K 2", &s, 1, &[1, 2, 0], " late q 0 R 10", 1);
+    add("sum 7, K 3", &s, 1, &[1, 3, 0], " late q 0 R 9", 1);
+    add("sum 7, K 4", &s, 1, &[1, 4, 0], " fits R 8 q 0", 1);
+    add("sum 8, W(0)", &with_deadline(1, 6), 1, &[5, 7, 0], " late q 0 R 7", 2);
+    add("sum 8", &s, 1, &[5, 7, 0], " late q 1 R 10", 5);
+    add("sum 9", &s, 2, &[1, 3, 0], " late q 0 R 11", 2);
+    add("sum 9, D 9", &with_deadline(2, 9), 2, &[1, 3, 0], " late q 0 R 11", 2);
+    add("sum 9, D 11", &with_deadline(2, 11), 2, &[1, 3, 0], " fits R 11 q 0", 2);
+    add("sum 10", &s, 2, &[5, 7, 0], " late q 0 R 17", 4);
     let busy = sheet(&[(1, 0, 1, 1), (1, 0, 1, 1)]);
-    add("sum 11, task 0", &busy, 0, &[0, 0], " late q 0 R 2");
-    add("sum 11, task 1", &busy, 1, &[0, 0], " horizon q 0");
+    add("sum 11, task 0", &busy, 0, &[0, 0], " late q 0 R 2", 1);
+    add("sum 11, task 1", &busy, 1, &[0, 0], " horizon q 0", 10_000_000);
 }
 
 /// R-2's figures on the printed sheet; R(q) at D and one over it; and the stop of the walk, which has no pickup.
 fn picked_up_tasks(v: &mut Vectors) {
-    let mut add = |label: &str, sheet: &Sheet, task: u32, kept: &[u32], line: &str| {
-        let c = about(sheet, task, kept, 0);
-        v.worked(&format!("verdict, pickup, {label}"), &verdict_blocks(&c), &verdict_answer(&c), line);
+    let mut add = |label: &str, sheet: &Sheet, task: u32, kept: &[u32], line: &str, evaluations: u64| {
+        worked_verdict(v, &format!("pickup, {label}"), &about(sheet, task, kept, 0), line, evaluations);
     };
     let s = printed_sheet();
     // W(0) is 2, R(0) is 2 + 1 + 5 − K.
-    add("task 0, K 1", &s, 0, &[1, 0, 0], " late q 0 R 7");
-    add("task 0, K 2", &s, 0, &[2, 0, 0], " fits R 6 q 0");
+    add("task 0, K 1", &s, 0, &[1, 0, 0], " late q 0 R 7", 1);
+    add("task 0, K 2", &s, 0, &[2, 0, 0], " fits R 6 q 0", 1);
     // W(0) is 4, R(0) is 4 + 1 + 7 − K.
-    add("task 1, K 3", &s, 1, &[2, 3, 0], " late q 0 R 9");
-    add("task 1, K 4", &s, 1, &[2, 4, 0], " fits R 8 q 0");
+    add("task 1, K 3", &s, 1, &[2, 3, 0], " late q 0 R 9", 1);
+    add("task 1, K 4", &s, 1, &[2, 4, 0], " fits R 8 q 0", 1);
     // W(0) is 10.
-    add("task 2", &s, 2, &[2, 4, 0], " late q 0 R 11");
-    add("task 2, D 11", &with_deadline(2, 11), 2, &[2, 4, 0], " fits R 11 q 0");
+    add("task 2", &s, 2, &[2, 4, 0], " late q 0 R 11", 2);
+    add("task 2, D 11", &with_deadline(2, 11), 2, &[2, 4, 0], " fits R 11 q 0", 2);
     // W(0) is 3.
-    add("R(0) is D", &sheet(&[(10, 0, 3, 4)]), 0, &[0], " fits R 4 q 0");
-    add("R(0) is D + 1", &sheet(&[(10, 0, 3, 3)]), 0, &[0], " late q 0 R 4");
-    add("D 1", &sheet(&[(10, 0, 1, 1)]), 0, &[0], " late q 0 R 2");
-    add("D 2", &sheet(&[(10, 0, 1, 2)]), 0, &[0], " fits R 2 q 0");
+    add("R(0) is D", &sheet(&[(10, 0, 3, 4)]), 0, &[0], " fits R 4 q 0", 1);
+    add("R(0) is D + 1", &sheet(&[(10, 0, 3, 3)]), 0, &[0], " late q 0 R 4", 1);
+    add("D 1", &sheet(&[(10, 0, 1, 1)]), 0, &[0], " late q 0 R 2", 1);
+    add("D 2", &sheet(&[(10, 0, 1, 2)]), 0, &[0], " fits R 2 q 0", 1);
     // W is 2, 4. With K 7 R is 3, 4, and d_7 is 1, 9: W(0) is over d_7(1) by 1. With K 6 R(0) is 4, and W(0) is d_6(1).
-    add("R(1) is D", &sheet(&[(8, 7, 2, 4)]), 0, &[7], " fits R 4 q 1");
-    add("R(1) is D + 1", &sheet(&[(8, 7, 2, 3)]), 0, &[7], " late q 1 R 4");
-    add("W(0) is d(1) + 1", &sheet(&[(8, 7, 2, 8)]), 0, &[7], " fits R 4 q 1");
-    add("W(0) is d(1), K 6", &sheet(&[(8, 7, 2, 8)]), 0, &[6], " fits R 4 q 0");
+    add("R(1) is D", &sheet(&[(8, 7, 2, 4)]), 0, &[7], " fits R 4 q 1", 2);
+    add("R(1) is D + 1", &sheet(&[(8, 7, 2, 3)]), 0, &[7], " late q 1 R 4", 2);
+    add("W(0) is d(1) + 1", &sheet(&[(8, 7, 2, 8)]), 0, &[7], " fits R 4 q 1", 2);
+    add("W(0) is d(1), K 6", &sheet(&[(8, 7, 2, 8)]), 0, &[6], " fits R 4 q 0", 1);
     // W(q) is d_0(q + 1) for every q: a walk that does not stop at q 0 goes up to the horizon.
-    add("W(0) is d(1), period 1", &sheet(&[(1, 0, 1, 2)]), 0, &[0], " fits R 2 q 0");
-    add("W(0) is d(1), period 5", &sheet(&[(5, 0, 5, 6)]), 0, &[0], " fits R 6 q 0");
-    add("W(0) is d(1), a task above", &sheet(&[(4, 0, 2, 4), (8, 0, 4, 9)]), 1, &[0, 0], " fits R 9 q 0");
+    add("W(0) is d(1), period 1", &sheet(&[(1, 0, 1, 2)]), 0, &[0], " fits R 2 q 0", 1);
+    add("W(0) is d(1), period 5", &sheet(&[(5, 0, 5, 6)]), 0, &[0], " fits R 6 q 0", 1);
+    add("W(0) is d(1), a task above", &sheet(&[(4, 0, 2, 4), (8, 0, 4, 9)]), 1, &[0, 0], " fits R 9 q 0", 2);
     // W is 7, 10, d_0 is 5, 10, R is 8, 6.
-    add("W(1) is d(2)", &sheet(&[(10, 0, 4, 10), (5, 0, 3, 8)]), 1, &[0, 0], " fits R 8 q 0");
-    add("W(1) is d(2), D one less", &sheet(&[(10, 0, 4, 10), (5, 0, 3, 7)]), 1, &[0, 0], " late q 0 R 8");
+    add("W(1) is d(2)", &sheet(&[(10, 0, 4, 10), (5, 0, 3, 8)]), 1, &[0, 0], " fits R 8 q 0", 2);
+    add("W(1) is d(2), D one less", &sheet(&[(10, 0, 4, 10), (5, 0, 3, 7)]), 1, &[0, 0], " late q 0 R 8", 1);
     // W is 7, 10, d_5 is 3, 11, R is 8, 8.
-    add("R(0) is R(1)", &sheet(&[(100, 0, 4, 100), (8, 5, 3, 8)]), 1, &[0, 5], " fits R 8 q 0");
+    add("R(0) is R(1)", &sheet(&[(100, 0, 4, 100), (8, 5, 3, 8)]), 1, &[0, 5], " fits R 8 q 0", 2);
     // W(0) is the horizon and J the largest.
     let largest = sheet(&[(MILLION, 0, 999_999, MILLION), (MILLION, MILLION, 10, MILLION)]);
-    add("largest R", &largest, 1, &[0, 0], " late q 0 R 11000001");
+    add("largest R", &largest, 1, &[0, 0], " late q 0 R 11000001", 10);
+}
+
+/// Lists of t and how many evaluations they are.
+fn counted_tasks(v: &mut Vectors) {
+    let mut add = |label: &str, sheet: &Sheet, task: u32, kept: &[u32], line: &str, evaluations: u64| {
+        worked_verdict(v, &format!("evaluations, {label}"), &about(sheet, task, kept, 0), line, evaluations);
+    };
+    let (s, large) = (printed_sheet(), (MILLION, 0, MILLION, MILLION));
+    add("no task above", &s, 0, &[2, 4, 0], " fits R 6 q 0", 1);
+    add("t 4", &s, 1, &[2, 4, 0], " fits R 8 q 0", 1);
+    add("t 4, 6", &with_deadline(1, 6), 1, &[5, 7, 0], " late q 0 R 7", 2);
+    add("t 4, 6 and 6, 8, 10", &s, 1, &[5, 7, 0], " late q 1 R 10", 5);
+    add("t 7, 9, 11", &sheet(&[(4, 0, 2, 4), (100, 0, 5, 100)]), 1, &[0, 0], " fits R 12 q 0", 3);
+    add("t 6, 10, 14, 16", &s, 2, &[5, 7, 0], " late q 0 R 17", 4);
+    // 7, 10, 13, 16 and 11, 17, 23, 26, 29, 32: demand is 4(q + 1) + 3σ(t).
+    add("four and six t, with a charge", &sheet(&[(4, 0, 1, 4), (8, 0, 2, 17)]).charged(2), 1, &[0, 0], " late q 1 R 25", 4 + 6);
+    // W(q) is (q + 1)P, each with one t: with K 1 the walk does not stop, and R is P + 1, then P + 2, up to the first t over H.
+    add("a first t over H, q 10", &sheet(&[(999_998, 1, 999_998, MILLION)]), 0, &[1], " horizon q 10", 11);
+    add("a first t over H, q 10, D one less", &sheet(&[(999_998, 1, 999_998, 999_999)]), 0, &[1], " late q 1 R 1000000", 2);
+    add("a first t over H, q 100, with a charge", &sheet(&[(100_000, 1, 99_745, MILLION)]).charged(255), 0, &[1], " horizon q 100", 101);
+    add("over 2^16, with a charge", &sheet(&[(100, 1, 90, 102)]).charged(10), 0, &[1], " horizon q 100000", 100_001);
+    // One E of each task is over H; or it is H, and the demand in it is over H.
+    add("a first t over H, q 0", &sheet(&[large; 11]), 10, &[0; 11], " horizon q 0", 1);
+    add("H and a t over it", &sheet(&[large; 11]), 9, &[0; 11], " horizon q 0", 2);
+    // 2,000,000, 3,000,000, .. 11,000,000.
+    add("a last t over H", &sheet(&[large; 2]), 1, &[0; 2], " horizon q 0", 10);
+    // Of q 0 99,999 and 100,099. Of each q up to 99 (q + 1) × 99,899, and 100 times 1, q + 1 and q + 2, which is W(q).
+    let many = sheet(&[(100_000, 101, 100, 101), (100_000, 0, 99_899, 200_000)]);
+    add("100 q", &many, 1, &[101, 0], " fits R 100100 q 0", 2 + 99 * 3);
+    add("100 q, with a charge", &part_charged(&many, 99), 1, &[101, 0], " fits R 100100 q 0", 2 + 99 * 3);
+    let longer = sheet(&[(1000, 1, 500, 502), (1000, 500, 500, MILLION)]);
+    add_verdict(v, "evaluations, 10,000 q, with a charge", &about(&part_charged(&longer, 200), 1, &[1, 500], 0));
 }
 
 /// The choice of the printed sheet, and choices that follow from the sums.
@@ -274,8 +318,9 @@ fn steps(v: &mut Vectors) {
             let mut kept = vec![keep; above as usize];
             kept.push(0);
             let c = about(&sheet(&all), above, &kept, 0);
-            let label = format!("verdict, step {k} of period {p}, K {keep}, {above} above");
-            v.worked(&label, &verdict_blocks(&c), &verdict_answer(&c), &format!(" late q 0 R {}", k * p - keep + 1));
+            let answer = verdict_answer(&c);
+            assert!(answer.starts_with(&format!(" late q 0 R {} ", k * p - keep + 1)), "{answer}");
+            v.case(&format!("verdict, step {k} of period {p}, K {keep}, {above} above"), &verdict_blocks(&c), &answer);
         }
     };
     for (p, k) in [(2, 1_000_000), (3, 1_000_000), (7, 1_000_000), (10, 1_000_000), (11, 909_090), (12, 833_333), (13, 769_230)] {
@@ -435,40 +480,39 @@ fn choice_refusals() -> Vec<(&'static str, ChoiceCall)> {
 
 /// Verdicts with a charge.
 fn charged_tasks(v: &mut Vectors) {
-    let mut add = |label: &str, sheet: &Sheet, task: u32, kept: &[u32], line: &str| {
-        let c = about(sheet, task, kept, 0);
-        v.worked(&format!("verdict, charge, {label}"), &verdict_blocks(&c), &verdict_answer(&c), line);
+    let mut add = |label: &str, sheet: &Sheet, task: u32, kept: &[u32], line: &str, evaluations: u64| {
+        worked_verdict(v, &format!("charge, {label}"), &about(sheet, task, kept, 0), line, evaluations);
     };
     // Without a charge W(0) of task 1 is 2 + 1 = 3. With 1 the demand is 3 + 2σ(t), so that it is 7. With 2 it is 4 + 3σ(t): t − 4 is at
     // least 3σ(t) first at t = 16, where σ is 4.
     let two = |d: u32| sheet(&[(4, 0, 1, 4), (8, 0, 2, d)]);
-    add("none", &two(4), 1, &[0, 0], " fits R 4 q 0");
-    add("1", &two(4).charged(1), 1, &[0, 0], " late q 0 R 8");
-    add("1, D 8", &two(8).charged(1), 1, &[0, 0], " fits R 8 q 0");
-    add("2, D 16", &two(16).charged(2), 1, &[0, 0], " late q 0 R 17");
+    add("none", &two(4), 1, &[0, 0], " fits R 4 q 0", 1);
+    add("1", &two(4).charged(1), 1, &[0, 0], " late q 0 R 8", 2);
+    add("1, D 8", &two(8).charged(1), 1, &[0, 0], " fits R 8 q 0", 2);
+    add("2, D 16", &two(16).charged(2), 1, &[0, 0], " late q 0 R 17", 4);
     // R(0) is E + S + 1.
-    add("R(0) is D", &sheet(&[(10, 0, 1, 4)]).charged(2), 0, &[0], " fits R 4 q 0");
-    add("R(0) is D + 1", &sheet(&[(10, 0, 1, 3)]).charged(2), 0, &[0], " late q 0 R 4");
-    add("255, R(0) is D", &sheet(&[(900, 0, 1, 257)]).charged(255), 0, &[0], " fits R 257 q 0");
-    add("255, R(0) is D + 1", &sheet(&[(900, 0, 1, 256)]).charged(255), 0, &[0], " late q 0 R 257");
+    add("R(0) is D", &sheet(&[(10, 0, 1, 4)]).charged(2), 0, &[0], " fits R 4 q 0", 1);
+    add("R(0) is D + 1", &sheet(&[(10, 0, 1, 3)]).charged(2), 0, &[0], " late q 0 R 4", 1);
+    add("255, R(0) is D", &sheet(&[(900, 0, 1, 257)]).charged(255), 0, &[0], " fits R 257 q 0", 1);
+    add("255, R(0) is D + 1", &sheet(&[(900, 0, 1, 256)]).charged(255), 0, &[0], " late q 0 R 257", 1);
     // E + S is P: W(q) is d_0(q + 1).
-    add("E + S is P", &sheet(&[(5, 0, 2, 6)]).charged(3), 0, &[0], " fits R 6 q 0");
+    add("E + S is P", &sheet(&[(5, 0, 2, 6)]).charged(3), 0, &[0], " fits R 6 q 0", 1);
     // W is 3, 6. With K 7 R is 4, 6, and d_7 is 1, 9.
-    add("R(1)", &sheet(&[(8, 7, 2, 6)]).charged(1), 0, &[7], " fits R 6 q 1");
-    add("R(1) is D + 1", &sheet(&[(8, 7, 2, 5)]).charged(1), 0, &[7], " late q 1 R 6");
+    add("R(1)", &sheet(&[(8, 7, 2, 6)]).charged(1), 0, &[7], " fits R 6 q 1", 2);
+    add("R(1) is D + 1", &sheet(&[(8, 7, 2, 5)]).charged(1), 0, &[7], " late q 1 R 6", 2);
     // The printed sheet: R(0) of task 0 is 3 + 1 + 5 − K, of task 1 with K 3 above 9 + 1 + 7 − K.
-    add("printed sheet, task 0, K 3", &printed_sheet().charged(1), 0, &[3, 0, 0], " fits R 6 q 0");
-    add("printed sheet, task 0, K 2", &printed_sheet().charged(1), 0, &[2, 0, 0], " late q 0 R 7");
-    add("printed sheet, task 1", &printed_sheet().charged(1), 1, &[3, 7, 0], " late q 0 R 10");
+    add("printed sheet, task 0, K 3", &printed_sheet().charged(1), 0, &[3, 0, 0], " fits R 6 q 0", 1);
+    add("printed sheet, task 0, K 2", &printed_sheet().charged(1), 0, &[2, 0, 0], " late q 0 R 7", 1);
+    add("printed sheet, task 1", &printed_sheet().charged(1), 1, &[3, 7, 0], " late q 0 R 10", 2);
     // Both tasks take the whole processor, and there is no W(0).
     let busy = sheet(&[(2, 0, 1, 2), (2, 0, 1, 2)]);
-    add("horizon", &busy.charged(1), 1, &[0, 0], " horizon q 0");
+    add("horizon", &busy.charged(1), 1, &[0, 0], " horizon q 0", 5_000_000);
     // W(0) is the horizon: the task above leaves 1 tick of each 1,000,000, and 10 are needed.
     let at = sheet(&[(MILLION, 0, 999_744, MILLION), (MILLION, 0, 1, MILLION)]);
-    add("no horizon", &at, 1, &[0, 0], " fits R 999746 q 0");
+    add("no horizon", &at, 1, &[0, 0], " fits R 999746 q 0", 1);
     let far = sheet(&[(MILLION, 0, 999_990, MILLION), (50, 9, 1, MILLION)]);
-    add("W(0) is the horizon", &far.charged(9), 1, &[0, 9], " late q 0 R 10000001");
-    add("W(0) over the horizon", &sheet(&[(MILLION, 0, 999_989, MILLION), (50, 9, 1, MILLION)]).charged(10), 1, &[0, 9], " horizon q 0");
+    add("W(0) is the horizon", &far.charged(9), 1, &[0, 9], " late q 0 R 10000001", 10);
+    add("W(0) over the horizon", &sheet(&[(MILLION, 0, 999_989, MILLION), (50, 9, 1, MILLION)]).charged(10), 1, &[0, 9], " horizon q 0", 10);
 }
 
 /// Choices with a charge.
@@ -619,5 +663,6 @@ pub fn vectors() -> Vectors {
     charged_small(&mut v);
     charged_checks(&mut v);
     steps(&mut v);
+    counted_tasks(&mut v);
     v
 }

@@ -6,13 +6,12 @@ use native.Mathlib.Nat.{add-mul}
 use borrow.Author.Tests.{lt-ltb, le-ltb, le-leb, lt-leb}
 use Rattle.model.specs.Processor.{pickup}
 use Rattle.model.specs.Gap.{gap}
-use Rattle.choice.specs.declared.Least.the-variants.{Keep, Unfit}
-use Rattle.choice.specs.declared.Step.the-variants.{Done, Next}
+use Rattle.choice.specs.declared.Step.the-variants.{Stops, Fails, Next}
 use Rattle.choice.specs.Choices.{nextHigh, stepOf}
 
 module _ (P J D high q w : ℕ) where
   -- W(q) + pickup + min(0, x) is over D
-  pub step-over : D + (q * P - J) < w + pickup → Done Unfit ≡ stepOf P J D high q w
+  pub step-over : D + (q * P - J) < w + pickup → Fails ≡ stepOf P J D high q w
   unfolding stepOf
   step-over h = rw (stepOf, lt-ltb (D + (q * P - J)) (w + pickup) h)
 
@@ -23,7 +22,7 @@ module _ (P J D high q w : ℕ) where
       → k ≡ n - D
       → m ≡ min n D
       → w ≤ gap P k (q + 1)
-      → Done (Keep k m) ≡ stepOf P J D high q w
+      → Stops k m ≡ stepOf P J D high q w
   unfolding stepOf
   step-keep u n k m e f g h =
       rw (stepOf, le-ltb (D + (q * P - J)) (w + pickup) u, le-leb w (gap P (nextHigh P J high q w - D) (q + 1)) (rw (← e, ← f) h), ← e, ← f, ← g)

@@ -20,6 +20,7 @@ use Rattle.model.specs.Gap.{gap}
 use Rattle.model.specs.Demand.{window}
 use Rattle.model.specs.Bound.{bound}
 use Rattle.model.specs.Verdict.{fits, isLate, isLast, stops, boundOf, boundAt, peak, verdict}
+use Rattle.model.specs.Evaluations.{taken}
 use Rattle.model.specs.Choice.{isFits, worstOf, andKeep, leastKeep}
 use Rattle.model.proofs.SearchLaws.{first-none, first-is}
 use Rattle.response.proofs.BoundLaws.{late-test, not-late}
@@ -27,7 +28,7 @@ use Rattle.response.specs.VerdictSays.{Passed}
 use Rattle.response.proofs.VerdictLaws.{goes-on}
 use Rattle.choice.specs.Choices.{nextHigh}
 use Rattle.choice.proofs.WorstPeakLaws.{bound-under, bound-equal, peak-is}
-use Rattle.choice.proofs.VerdictOfKeepLaws.{keep-own, Passes, passes-on, horizon-at, late-at, fits-at}
+use Rattle.choice.proofs.VerdictOfKeepLaws.{keep-own, Passes, passes-on, horizon-at, late-at, fits-at, taken-at}
 
 -- x = J − qP: max(0, −x), and max(0, x − K)
 abbrev pub beyond : Tasks → ℕ → ℕ → ℕ
@@ -184,6 +185,12 @@ module _ (s : Tasks) (above : List ℕ) (i : ℕ) (W : ℕ → Option ℕ) (len 
           fits-next =
               let K = N - s .deadline i in
               fits-at s (andKeep above K) i q w (walked .within) (walked .passes K (omega arith)) (same K q ∙ is) (in-time K (omega arith)) (last-yes K q w stop)
+
+          -- its verdict takes the q up to here
+          pub walk-taken : taken s (andKeep above (N - s .deadline i)) i ≡ suc q
+          walk-taken =
+              let K = N - s .deadline i in
+              taken-at s (andKeep above K) i q w (walked .within) (walked .passes K (omega arith)) (same K q ∙ is) (in-time K (omega arith)) (last-yes K q w stop)
 
           -- where it stops there, it is the choice
           pub walk-keep : leastKeep s above i ≡ some (N - s .deadline i)

@@ -1,6 +1,6 @@
 -- The loop over the tasks that makes the choice.
-use Prim.Native.Nat.{ℕ, suc, _+_, _≤_, _<_}
-use mathlib.Core.Path.{_≡_, refl, sym, _∙_}
+use Prim.Native.Nat.{ℕ, suc, _+_, _*_, _≤_, _<_}
+use mathlib.Core.Path.{_≡_, refl, sym, ap, _∙_}
 use mathlib.Core.Logic.{dite}
 use mathlib.Core.List.{List, [], _∷_, map, map-append}
 use native.Mathlib.Omega.{arith}
@@ -8,26 +8,30 @@ use native.Mathlib.Decide.{decLt}
 use native.Mathlib.Numerals.{add-one}
 use borrow.Author.Tests.{le-leb, lt-leb}
 use lib.ListN.{length, take, set, replicate, length-set, getD-replicate}
-use lib.Seq.{take-suc-set, getD-set-same, getD-set-other}
+use lib.Seq.{take-suc-set, getD-take, getD-set-same, getD-set-other}
 use lib.IntN.{pos}
+use Rattle.model.specs.Series.{sum}
 use Rattle.model.specs.Limits.{maxTasks, maxTime}
 use Rattle.model.specs.Tasks.{InRange, Valid, load}
-use Rattle.model.specs.Choice.{column, chosen, choiceOf, choice}
+use Rattle.model.specs.Evaluations.{evaluations}
+use Rattle.model.specs.Choice.{column, andKeep, chosen, choiceOf, choice}
+use Rattle.model.proofs.SeriesLaws.{sum-eq}
+use Rattle.model.proofs.SameVerdict.{evaluations-kept}
 use Rattle.model.proofs.ChargeLaws.{absorbed-valid}
 use Rattle.taskset.specs.declared.TaskSet.{TaskSet}
 use Rattle.taskset.specs.TaskSet.{viewOf}
 use Rattle.response.proofs.ChoiceLaws.{least-keep}
 use Rattle.demand.specs.Columns.{Small, Copied}
 use Rattle.choice.specs.declared.Least.the-variants.{Keep, Unfit}
-use Rattle.choice.specs.Choices.{Flat, Walkable, LeastOf, choiceIn, ChoicesAre}
+use Rattle.choice.specs.Choices.{Flat, Walkable, KeepIs, LeastOf, choiceIn, ChoicesAre}
 use Rattle.choice.proofs.NextChoiceLaws.{choice-start, next-keep, next-unfit, unfit-stays}
 
 -- a slot set, and those past it kept
 past-next : (l : List ℕ) (i v : ℕ) → ((m : ℕ) → i ≤ m → m < maxTasks → column l m ≡ 0) → (m : ℕ) → i + 1 ≤ m → m < maxTasks → column (set l i v) m ≡ 0
 past-next l i v g m k h = getD-set-other l i m v 0 (λ e. omega arith) ∙ g m (omega arith) h
 
--- the choice of the tasks above i is made
-pub record Choosing (s : TaskSet) (loads periods keep worst : List ℕ) (i : ℕ) : Type 0 where
+-- the choice of the tasks above i is made, with n evaluations
+pub record Choosing (s : TaskSet) (loads periods keep worst : List ℕ) (n i : ℕ) : Type 0 where
   pub valid : Valid (viewOf s)
   pub within : i ≤ s .count
   pub copied : Copied s (s .count) loads periods
@@ -37,9 +41,12 @@ pub record Choosing (s : TaskSet) (loads periods keep worst : List ℕ) (i : ℕ
   pub so-far : choiceOf (viewOf s) i ≡ chosen (take i keep) (map pos (take i worst))
   pub keep-past : (m : ℕ) → i ≤ m → m < maxTasks → column keep m ≡ 0
   pub worst-past : (m : ℕ) → i ≤ m → m < maxTasks → column worst m ≡ 0
+  pub counted : n ≡ sum (λ j. evaluations (viewOf s) (column keep) j) i
+  pub few : n ≤ i * 100000020000001
 
 module _ (s : TaskSet) (loads periods : List ℕ) where
-  pub choosing-none : Valid (viewOf s) → Copied s (s .count) loads periods → Choosing s loads periods (replicate maxTasks 0) (replicate maxTasks 0) 0
+  pub choosing-none : Valid (viewOf s) → Copied s (s .count) loads periods → Choosing s loads periods (replicate maxTasks 0) (replicate maxTasks 0) 0 0
+  unfolding sum
   choosing-none v c = record {
     valid = v;
     within = omega arith;
@@ -50,9 +57,11 @@ module _ (s : TaskSet) (loads periods : List ℕ) where
     so-far = choice-start (viewOf s);
     keep-past = λ m l h. getD-replicate maxTasks m 0 0 h;
     worst-past = λ m l h. getD-replicate maxTasks m 0 0 h;
+    counted = refl;
+    few = omega arith;
   }
 
-  module _ (keep worst : List ℕ) (i : ℕ) (f : Choosing s loads periods keep worst i) where
+  module _ (keep worst : List ℕ) (n i : ℕ) (f : Choosing s loads periods keep worst n i) where
     module _ (l : i < s .count) where
       small : (m : ℕ) → m < i → Small (column loads m) (column periods m) (column keep m)
       small m h =
@@ -104,7 +113,7 @@ module _ (s : TaskSet) (loads periods : List ℕ) where
 
       -- a task that fits at no K
       pub choosing-unfit
-          : LeastOf loads periods keep i (viewOf s .jitter i) (viewOf s .deadline i) Unfit → ChoicesAre (viewOf s) (record { keep = keep; worst = worst; fitted = i })
+          : LeastOf loads periods keep i (viewOf s .jitter i) (viewOf s .deadline i) Unfit → ChoicesAre (viewOf s) (record { keep = keep; worst = worst; fitted = i; evaluations = n })
       choosing-unfit h = record {
         is =
             rw (choiceIn, lt-leb (s .count) i l) (sym (unfit-stays (viewOf s) i (suc i) (s .count) l (next-unfit (viewOf s) i _ _ (f .so-far) (h (viewOf s) flat-view))));
@@ -114,13 +123,19 @@ module _ (s : TaskSet) (loads periods : List ℕ) where
         worst-past = f .worst-past;
         keep-long = f .keep-long;
         worst-long = f .worst-long;
+        counted = f .counted;
       }
 
+      -- the evaluations with those of task i stay far below 64 bits
+      pub choosing-few : (K w q m : ℕ) → LeastOf loads periods keep i (viewOf s .jitter i) (viewOf s .deadline i) (Keep K w q m) → n + m ≤ (i + 1) * 100000020000001
+      choosing-few K w q m h = omega (arith, f .few, h (viewOf s) flat-view .small)
+
       -- a task with a least K
-      pub choosing-next : (K w : ℕ)
-          → LeastOf loads periods keep i (viewOf s .jitter i) (viewOf s .deadline i) (Keep K w)
-          → Choosing s loads periods (set keep i K) (set worst i w) (i + 1)
-      choosing-next K w h = record {
+      pub choosing-next : (K w q m : ℕ)
+          → LeastOf loads periods keep i (viewOf s .jitter i) (viewOf s .deadline i) (Keep K w q m)
+          → Choosing s loads periods (set keep i K) (set worst i w) (n + m) (i + 1)
+      unfolding sum
+      choosing-next K w q m h = record {
         valid = f .valid;
         within = omega arith;
         copied = f .copied;
@@ -129,16 +144,38 @@ module _ (s : TaskSet) (loads periods : List ℕ) where
         kept-small = small-next;
         so-far =
             rw (add-one, take-suc-set keep i K keep-there, take-suc-set worst i w worst-there, map-append pos (take i worst) (w ∷ []))
-            (next-keep (viewOf s) i K (pos w) _ _ (f .so-far) (h (viewOf s) flat-view .0) (h (viewOf s) flat-view .1));
+            (next-keep (viewOf s) i K (pos w) _ _ (f .so-far) (is .least) (is .worst));
         keep-past = past-next keep i K (f .keep-past);
         worst-past = past-next worst i w (f .worst-past);
+        counted = rw add-one counted-next;
+        few = choosing-few K w q m h;
       }
         where
+          is : KeepIs (viewOf s) (take i keep) i K w q m
+          is = h (viewOf s) flat-view
+
           keep-there : i < length keep
           keep-there = omega (arith, f .valid .few-tasks, f .keep-long)
 
           worst-there : i < length worst
           worst-there = omega (arith, f .valid .few-tasks, f .worst-long)
+
+          -- the slots up to task i, as the verdicts of these tasks see them
+          kept-before : (j : ℕ) → j < i → column keep j ≡ column (set keep i K) j
+          kept-before j g = sym (getD-set-other keep i j K 0 (λ e. omega arith))
+
+          kept-to : (j : ℕ) → j ≤ i → andKeep (take i keep) K j ≡ column (set keep i K) j
+          kept-to j g = ap (λ (l : List ℕ). column l j) (sym (take-suc-set keep i K keep-there)) ∙ getD-take (suc i) (set keep i K) j 0 (omega arith)
+
+          counted-next : n + m ≡ sum (λ j. evaluations (viewOf s) (column (set keep i K)) j) (suc i)
+          counted-next = omega (
+            arith,
+            f .counted,
+            sum-eq (λ j. evaluations (viewOf s) (column keep) j) (λ j. evaluations (viewOf s) (column (set keep i K)) j) i
+                (λ j g. evaluations-kept (viewOf s) (column keep) (column (set keep i K)) j (λ x b. kept-before x (omega arith))),
+            is .counted,
+            evaluations-kept (viewOf s) (andKeep (take i keep) K) (column (set keep i K)) i kept-to,
+          )
 
           small-next : (m : ℕ) → m < i + 1 → column (set keep i K) m ≤ maxTime
           small-next m g =
@@ -147,10 +184,10 @@ module _ (s : TaskSet) (loads periods : List ℕ) where
               (λ b.
               let e : m ≡ i = omega arith in
               rw (e, getD-set-same keep i K 0 keep-there)
-              (omega (arith, least-keep (viewOf s) _ i K (h (viewOf s) flat-view .0) .in-jitter, f .valid .in-range i l .jitter-high)))
+              (omega (arith, least-keep (viewOf s) _ i K (is .least) .in-jitter, f .valid .in-range i l .jitter-high)))
 
     -- every task fits
-    pub choosing-all : s .count ≤ i → ChoicesAre (viewOf s) (record { keep = keep; worst = worst; fitted = s .count })
+    pub choosing-all : s .count ≤ i → ChoicesAre (viewOf s) (record { keep = keep; worst = worst; fitted = s .count; evaluations = n })
     choosing-all h =
         let e : i ≡ s .count = omega arith in
         record {
@@ -161,4 +198,5 @@ module _ (s : TaskSet) (loads periods : List ℕ) where
           worst-past = rw e at (f .worst-past);
           keep-long = f .keep-long;
           worst-long = f .worst-long;
+          counted = rw e at (f .counted);
         }

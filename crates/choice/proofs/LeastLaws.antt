@@ -1,8 +1,8 @@
 -- The walk over q that finds the least kept jitter of a task, over the columns that the code looks at.
 use Prim.Native.Nat.{ℕ, suc, _+_, _-_, _*_, _≤_, _<_, min}
-use mathlib.Core.Path.{_≡_, refl, sym, _∙_}
+use mathlib.Core.Path.{_≡_, refl, sym, ap, _∙_}
 use mathlib.Core.Logic.{dite}
-use mathlib.Core.Option.{Option, some, none}
+use mathlib.Core.Option.{Option, none}
 use mathlib.Core.List.{List}
 use native.Mathlib.Omega.{arith}
 use native.Mathlib.Nat.{add-zero}
@@ -10,74 +10,108 @@ use native.Mathlib.Decide.{decLt}
 use native.Mathlib.Numerals.{add-one}
 use lib.ListN.{length, take, length-take}
 use lib.Seq.{getD-take}
+use Rattle.model.specs.Series.{sum}
+use Rattle.model.specs.Limits.{horizonTick}
 use Rattle.model.specs.Processor.{pickup}
 use Rattle.model.specs.Tasks.{Tasks}
 use Rattle.model.specs.Gap.{gap}
 use Rattle.model.specs.Demand.{window}
+use Rattle.model.specs.Evaluations.{tried, taken, evaluations}
 use Rattle.model.specs.Choice.{column, andKeep}
+use Rattle.model.proofs.SeriesLaws.{sum-eq}
+use Rattle.model.proofs.SameVerdict.{SameAbove, window-same, tried-same}
 use Rattle.response.proofs.WindowLaws.{Window, window-some, window-over}
-use Rattle.demand.proofs.DemandLaws.{short-more}
+use Rattle.demand.specs.Columns.{IsOnce}
 use Rattle.choice.specs.declared.Least.the-variants.{Keep, Unfit}
 use Rattle.choice.specs.declared.Step.{Step}
-use Rattle.choice.specs.declared.Step.the-variants.{Done, Next}
-use Rattle.choice.specs.Choices.{flat, Searched, Flat, Walkable, LeastOf, nextHigh, stepOf, Stepped}
+use Rattle.choice.specs.declared.Step.the-variants.{Stops, Fails, Next}
+use Rattle.choice.specs.Choices.{flat, Searched, WithinIs, Flat, Walkable, LeastOf, nextHigh, stepOf, Stepped}
 use Rattle.choice.proofs.ChoiceStepLaws.{step-over, step-keep, step-next, gap-over, gap-under}
-use Rattle.choice.proofs.VerdictOfKeepLaws.{window-same, keep-above}
-use Rattle.choice.proofs.ChoiceWalkLaws.{Walked, walk-start, walk-none, walk-over, walk-next, walk-keep, walk-worst}
+use Rattle.choice.proofs.VerdictOfKeepLaws.{keep-above}
+use Rattle.choice.proofs.ChoiceWalkLaws.{Walked, walk-start, walk-none, walk-over, walk-next, walk-taken, walk-keep, walk-worst}
 
 -- W(q) of task i, from the columns
 abbrev pub windowAt : List ℕ → List ℕ → List ℕ → ℕ → ℕ → Option ℕ
 windowAt loads periods keeps i q = window (flat loads periods) (column keeps) i q
 
--- the walk of task i has come to q; high is the largest W(q') + J − q'P of the q' before
-pub record Walking (loads periods keeps : List ℕ) (i J D q high from : ℕ) : Type 0 where
+-- the lengths of the lists of t of the first q, added up
+abbrev pub triedBelow : List ℕ → List ℕ → List ℕ → ℕ → ℕ → ℕ
+triedBelow loads periods keeps i q = sum (λ x. length (tried (flat loads periods) (column keeps) i x)) q
+
+-- the walk of task i has come to q; high is the largest W(q') + J − q'P of the q' before, n the evaluations that they took
+pub record Walking (loads periods keeps : List ℕ) (i J D q high n : ℕ) : Type 0 where
   pub may : Walkable loads periods keeps i J D
   pub walked : (s : Tasks) → Flat s loads periods i J D → Walked s (take i keeps) i (windowAt loads periods keeps i) q high
-  pub search : Searched loads periods keeps i q from
+  pub q-high : q ≤ horizonTick
   pub reach : high ≤ D + J
+  pub counted : n ≡ triedBelow loads periods keeps i q
+  pub few : n ≤ q * 10000001
 
--- what a step leaves: the answer, or the walk at the next q
+-- what a step leaves, n being the evaluations up to q: the answer, or the walk at the next q
 abbrev pub Stepping : List ℕ → List ℕ → List ℕ → ℕ → ℕ → ℕ → ℕ → ℕ → Step → Type 0
-Stepping loads periods keeps i J D q w (Done r) = LeastOf loads periods keeps i J D r
-Stepping loads periods keeps i J D q w (Next high) = Walking loads periods keeps i J D (q + 1) high w
+Stepping loads periods keeps i J D q n (Stops K w) = LeastOf loads periods keeps i J D (Keep K w q n)
+Stepping loads periods keeps i J D q n Fails = LeastOf loads periods keeps i J D Unfit
+Stepping loads periods keeps i J D q n (Next high) = Walking loads periods keeps i J D (q + 1) high n
 
 module _ (loads periods keeps : List ℕ) (i J D : ℕ) (may : Walkable loads periods keeps i J D) where
   above-long : length (take i keeps) ≡ i
   above-long = simp length-take (omega (arith, may .columns .above .keeps-long))
 
-  same : (s : Tasks) → Flat s loads periods i J D → (K q : ℕ) → window s (andKeep (take i keeps) K) i q ≡ windowAt loads periods keeps i q
-  same s f K q =
-      window-same s (flat loads periods) (andKeep (take i keeps) K) (column keeps) i q
-      (λ m l. f .load-is m l ∙ sym (add-zero (column loads m)))
-      (λ m l. f .period-is m (omega arith))
-      (λ m l. keep-above (take i keeps) K m (omega (arith, above-long)) ∙ getD-take i keeps m 0 l)
+  -- the search for W(q) does not tell such a task set from the columns, whatever the task's own K
+  above : (s : Tasks) → Flat s loads periods i J D → (K : ℕ) → SameAbove s (flat loads periods) (andKeep (take i keeps) K) (column keeps) i
+  above s f K = record {
+    loads = λ m l. f .load-is m l ∙ sym (add-zero (column loads m));
+    periods = λ m l. f .period-is m (omega arith);
+    keeps = λ m l. keep-above (take i keeps) K m (omega (arith, above-long)) ∙ getD-take i keeps m 0 l;
+  }
 
-  pub walking-start : Walking loads periods keeps i J D 0 0 1
+  same : (s : Tasks) → Flat s loads periods i J D → (K q : ℕ) → window s (andKeep (take i keeps) K) i q ≡ windowAt loads periods keeps i q
+  same s f K q = window-same s (flat loads periods) (andKeep (take i keeps) K) (column keeps) i (above s f K) q
+
+  -- the evaluations of a verdict that takes q + 1 values of q
+  evaluations-at
+      : (s : Tasks) → Flat s loads periods i J D → (K q : ℕ) → taken s (andKeep (take i keeps) K) i ≡ suc q
+      → evaluations s (andKeep (take i keeps) K) i ≡ triedBelow loads periods keeps i (suc q)
+  unfolding evaluations
+  evaluations-at s f K q e =
+      rw (evaluations, e)
+      (sum-eq _ _ (suc q) (λ x l. ap length (tried-same s (flat loads periods) (andKeep (take i keeps) K) (column keeps) i (above s f K) x)))
+
+  pub walking-start : Walking loads periods keeps i J D 0 0 0
+  unfolding sum
   walking-start = record {
     may = may;
     walked = λ s f. walk-start s (take i keeps) i (windowAt loads periods keeps i) above-long (same s f);
-    search =
-        record {
-          columns = may .columns;
-          q-high = omega arith;
-          high = omega arith;
-          search = record { low = omega arith; high = omega arith; short = λ x l h. absurd (omega arith) };
-        };
+    q-high = omega arith;
     reach = omega arith;
+    counted = refl;
+    few = omega arith;
   }
 
-  module _ (q high from : ℕ) (g : Walking loads periods keeps i J D q high from) where
-    -- W(q) over H, or none
-    pub walking-none : none ≡ windowAt loads periods keeps i q → LeastOf loads periods keeps i J D Unfit
-    walking-none e s f =
-        walk-none s (take i keeps) i (windowAt loads periods keeps i) above-long (same s f) q high (g .walked s f) (sym e)
+  module _ (q high n : ℕ) (g : Walking loads periods keeps i J D q high n) where
+    -- the search for W(q) may start
+    pub searched : (once : ℕ) → IsOnce loads i once → Searched loads periods keeps i once q
+    searched once o = record { columns = may .columns; once-is = o; q-high = g .q-high }
 
-    module _ (w : ℕ) (is : some w ≡ windowAt loads periods keeps i q) where
+    -- W(q) over H, or none
+    pub walking-none : windowAt loads periods keeps i q ≡ none → LeastOf loads periods keeps i J D Unfit
+    walking-none e s f =
+        walk-none s (take i keeps) i (windowAt loads periods keeps i) above-long (same s f) q high (g .walked s f) e
+
+    module _ (w m : ℕ) (found : WithinIs loads periods keeps i q w m) where
       facts : Window (flat loads periods) (column keeps) i q w
-      facts = window-some (flat loads periods) (column keeps) i q w (sym is)
+      facts = window-some (flat loads periods) (column keeps) i q w (found .is)
 
       long : q < w
-      long = window-over (flat loads periods) (column keeps) i q w (omega (arith, may .own .cost-low)) (sym is)
+      long = window-over (flat loads periods) (column keeps) i q w (omega (arith, may .own .cost-low)) (found .is)
+
+      -- the evaluations with those of q
+      counted-next : n + m ≡ triedBelow loads periods keeps i (suc q)
+      unfolding sum
+      counted-next = omega (arith, g .counted, found .counted)
+
+      few-next : n + m ≤ (q + 1) * 10000001
+      few-next = omega (arith, g .few, found .small)
 
       pub stepped : Stepped (column periods i) J D high q w
       stepped = record {
@@ -85,14 +119,14 @@ module _ (loads periods keeps : List ℕ) (i J D : ℕ) (may : Walkable loads pe
         jitter-high = may .own .jitter-high;
         deadline-high = may .own .deadline-high;
         reach = g .reach;
-        q-high = g .search .q-high;
+        q-high = g .q-high;
         w-high = facts .high;
       }
 
       -- W(q) + pickup + min(0, x) > D
       over : D + (q * column periods i - J) < w + pickup → LeastOf loads periods keeps i J D Unfit
       over h s f =
-          walk-over s (take i keeps) i (windowAt loads periods keeps i) above-long (same s f) q high (g .walked s f) w (sym is)
+          walk-over s (take i keeps) i (windowAt loads periods keeps i) above-long (same s f) q high (g .walked s f) w (found .is)
           (rw (f .jitter-is, f .deadline-is, f .period-is i (omega arith)) h)
 
       module _ (under : w + pickup ≤ D + (q * column periods i - J)) where
@@ -107,49 +141,48 @@ module _ (loads periods keeps : List ℕ) (i J D : ℕ) (may : Walkable loads pe
         under-of s f = rw (f .jitter-is, f .deadline-is, f .period-is i (omega arith)) under
 
         -- the least K so far stops here
-        keeps-it : N - D + w ≤ q * column periods i + column periods i → LeastOf loads periods keeps i J D (Keep (N - D) (min N D))
-        keeps-it h s f = rw (← f .deadline-is) (
-          walk-keep s (take i keeps) i (windowAt loads periods keeps i) above-long (same s f) q high (g .walked s f) w (sym is) N (next-of s f) (under-of s f) stop,
-          walk-worst s (take i keeps) i (windowAt loads periods keeps i) above-long (same s f) q high (g .walked s f) w (sym is) N (next-of s f) (under-of s f) stop,
-        )
+        keeps-it : N - D + w ≤ q * column periods i + column periods i → LeastOf loads periods keeps i J D (Keep (N - D) (min N D) q (n + m))
+        keeps-it h s f = rw (← f .deadline-is) (record {
+          least = walk-keep s (take i keeps) i (windowAt loads periods keeps i) above-long (same s f) q high (g .walked s f) w (found .is) N (next-of s f) (under-of s f) stop;
+          worst = walk-worst s (take i keeps) i (windowAt loads periods keeps i) above-long (same s f) q high (g .walked s f) w (found .is) N (next-of s f) (under-of s f) stop;
+          last = taken-here;
+          counted = evaluations-at s f (N - s .deadline i) q taken-here ∙ sym counted-next;
+          small = omega (arith, few-next, g .q-high);
+        })
           where
             stop : N - s .deadline i + w ≤ suc q * s .period i
             stop = rw (f .deadline-is, f .period-is i (omega arith)) (omega arith)
 
+            taken-here : taken s (andKeep (take i keeps) (N - s .deadline i)) i ≡ suc q
+            taken-here =
+                walk-taken s (take i keeps) i (windowAt loads periods keeps i) above-long (same s f) q high (g .walked s f) w (found .is) N
+                (next-of s f) (under-of s f) stop
+
         -- it does not
-        goes : q * column periods i + column periods i < N - D + w → Walking loads periods keeps i J D (q + 1) N w
+        goes : q * column periods i + column periods i < N - D + w → Walking loads periods keeps i J D (q + 1) N (n + m)
         goes h = record {
           may = may;
           walked = walked-next;
-          search =
-              record {
-                columns = may .columns;
-                q-high = omega (arith, long, facts .high);
-                high = facts .high;
-                search =
-                    record {
-                      low = facts .low;
-                      high = omega (arith, facts .high);
-                      short = rw add-one (short-more (flat loads periods) (column keeps) i q w (facts .least));
-                    };
-              };
+          q-high = omega (arith, long, facts .high);
           reach = omega (arith, g .reach);
+          counted = rw add-one counted-next;
+          few = few-next;
         }
           where
             walked-next : (s : Tasks) → Flat s loads periods i J D → Walked s (take i keeps) i (windowAt loads periods keeps i) (q + 1) N
             walked-next s f = rw (add-one q)
-                (walk-next s (take i keeps) i (windowAt loads periods keeps i) above-long (same s f) q high (g .walked s f) w (sym is) N
+                (walk-next s (take i keeps) i (windowAt loads periods keeps i) above-long (same s f) q high (g .walked s f) w (found .is) N
                 (next-of s f) (under-of s f) long (facts .high)
                 (rw (f .deadline-is, f .period-is i (omega arith)) (omega arith)))
 
       -- one step of the walk
-      pub walking-step : (r : Step) → r ≡ stepOf (column periods i) J D high q w → Stepping loads periods keeps i J D q w r
+      pub walking-step : (r : Step) → r ≡ stepOf (column periods i) J D high q w → Stepping loads periods keeps i J D q (n + m) r
       walking-step r e = rw e
           (dite (decLt (D + (q * column periods i - J)) (w + pickup))
           (λ l. rw (← step-over _ _ _ high q w l) (over l))
           (λ l. inside (omega arith)))
         where
-          inside : w + pickup ≤ D + (q * column periods i - J) → Stepping loads periods keeps i J D q w (stepOf (column periods i) J D high q w)
+          inside : w + pickup ≤ D + (q * column periods i - J) → Stepping loads periods keeps i J D q (n + m) (stepOf (column periods i) J D high q w)
           inside u =
               dite (decLt (gap (column periods i) (N u - D) (q + 1)) w)
               (λ l. rw (← step-next _ _ _ high q w u (N u) refl l) (goes u (gap-under (column periods i) (N u - D) q w l)))

@@ -8,4 +8,5 @@ pub mod NextChoiceLaws
 pub mod ChoosingLaws
 pub mod CopyLaws
 pub mod LeastLaws
-pub mod WindowFromLaws
+pub mod WindowOfLaws
+pub mod PlannedLaws

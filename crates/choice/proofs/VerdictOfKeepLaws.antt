@@ -1,36 +1,20 @@
--- What the verdict of a task says where its walk stops, and that W(q) depends on the tasks above alone.
+-- What the verdict of a task says where its walk stops, and the q that it takes.
 use Prim.Native.Nat.{ℕ, suc, _+_, _-_, _*_, _≤_, _<_}
-use mathlib.Core.Path.{_≡_, ap, ap₂, _∙_, fun-ext}
-use mathlib.Core.Bool.{Bool, true, false}
+use mathlib.Core.Path.{_≡_, _∙_}
+use mathlib.Core.Bool.{true, false}
 use mathlib.Core.Option.{some, none}
 use mathlib.Core.List.{List, [], _∷_}
 use native.Mathlib.Omega.{arith}
 use lib.ListN.{length, getD, List·getD-append}
 use lib.Seq.{getD-append-seam}
-use lib.Dec.{leb}
 use Rattle.model.specs.Limits.{horizonTick}
 use Rattle.model.specs.Search.{first}
-use Rattle.model.specs.Tasks.{Tasks, load}
-use Rattle.model.specs.Arrival.{arrivals}
-use Rattle.model.specs.Demand.{aboveLoad, demand, meets, window}
+use Rattle.model.specs.Tasks.{Tasks}
+use Rattle.model.specs.Demand.{window}
 use Rattle.model.specs.Verdict.{horizon, late, fits, boundOf, isLate, isLast, stops, boundAt, peak, judge, verdict}
+use Rattle.model.specs.Evaluations.{taken}
 use Rattle.model.specs.Choice.{andKeep}
 use Rattle.model.proofs.SearchLaws.{first-is}
-use Rattle.model.proofs.SeriesLaws.{sum-eq}
-
--- W(q) depends on the loads, and on periods and kept jitters of the tasks above
-pub window-same : (s t : Tasks) (k l : ℕ → ℕ) (i q : ℕ)
-    → ((j : ℕ) → j ≤ i → load s j ≡ load t j)
-    → ((j : ℕ) → j < i → s .period j ≡ t .period j)
-    → ((j : ℕ) → j < i → k j ≡ l j)
-    → window s k i q ≡ window t l i q
-unfolding window meets demand aboveLoad
-window-same s t k l i q e p h =
-    ap (λ (f : ℕ → Bool). first f horizonTick 1)
-    (fun-ext (λ x. ap₂ (λ (a b : ℕ). leb (suc q * a + b) x) (e i (omega arith)) (sum-eq _ _ i (λ j g. term x j g))))
-  where
-    term : (x j : ℕ) → j < i → load s j * arrivals (s .period j) (k j) x ≡ load t j * arrivals (t .period j) (l j) x
-    term x j g = ap₂ _*_ (e j (omega arith)) (ap₂ (λ (P K : ℕ). arrivals P K x) (p j g) (h j g))
 
 -- the choices of the tasks above, and K for the task below them
 pub keep-above : (above : List ℕ) (K j : ℕ) → j < length above → andKeep above K j ≡ getD above j 0
@@ -60,13 +44,15 @@ module _ (s : Tasks) (k : ℕ → ℕ) (i : ℕ) where
   unfolding stops
   stops-last q w e l f = rw (stops, e, l, f)
 
-  -- the verdict is what is said at the first q that stops
+  -- the first q that stops
+  first-stop : (q : ℕ) → q ≤ horizonTick → Passes q → stops s k i q ≡ true → first (stops s k i) (suc horizonTick) 0 ≡ some q
+  first-stop q h f e =
+      first-is (stops s k i) (suc horizonTick) 0 q (record { holds = e; low = omega arith; high = omega arith; before = λ x a b. f x b })
+
+  -- the verdict is what is said there
   verdict-at : (q : ℕ) → q ≤ horizonTick → Passes q → stops s k i q ≡ true → verdict s k i ≡ judge s k i q
   unfolding verdict
-  verdict-at q h f e =
-      let d : first (stops s k i) (suc horizonTick) 0 ≡ some q =
-      first-is (stops s k i) (suc horizonTick) 0 q (record { holds = e; low = omega arith; high = omega arith; before = λ x a b. f x b }) in
-      rw (verdict, d)
+  verdict-at q h f e = rw (verdict, first-stop q h f e)
 
   -- "horizon"
   pub horizon-at : (q : ℕ) → q ≤ horizonTick → Passes q → window s k i q ≡ none → verdict s k i ≡ horizon q
@@ -93,3 +79,8 @@ module _ (s : Tasks) (k : ℕ → ℕ) (i : ℕ) where
       → verdict s k i ≡ fits (peak (boundAt s k i) q .value) (peak (boundAt s k i) q .at)
   unfolding judge
   fits-at q w h f e l m = verdict-at q h f (stops-last q w e l m) ∙ rw (judge, e, l)
+
+  -- the q that it takes
+  pub taken-at : (q w : ℕ) → q ≤ horizonTick → Passes q → window s k i q ≡ some w → isLate s k i q w ≡ false → isLast s k i q w ≡ true → taken s k i ≡ suc q
+  unfolding taken
+  taken-at q w h f e l m = rw (taken, first-stop q h f (stops-last q w e l m))

@@ -1,51 +1,60 @@
 -- What the functions of this crate take and answer.
-use Prim.Native.Nat.{ℕ, _+_, _-_, _*_, _≤_, _<_, max, min}
+use Prim.Native.Nat.{ℕ, suc, _+_, _-_, _*_, _≤_, _<_, max, min}
 use mathlib.Core.Path.{_≡_}
 use mathlib.Core.Bool.{true, false}
-use mathlib.Core.Option.{Option, some, none}
+use mathlib.Core.Option.{some, none}
 use mathlib.Core.List.{List, map}
 use lib.Dec.{leb, ltb}
 use lib.ListN.{length, take}
 use lib.IntN.{pos}
+use Rattle.model.specs.Series.{sum}
 use Rattle.model.specs.Limits.{maxTasks, maxTime, horizonTick}
 use Rattle.model.specs.Processor.{pickup}
 use Rattle.model.specs.Tasks.{Tasks, load, InRange}
 use Rattle.model.specs.Gap.{gap}
 use Rattle.model.specs.Demand.{window}
 use Rattle.model.specs.Verdict.{verdict}
+use Rattle.model.specs.Evaluations.{tried, taken, evaluations}
 use Rattle.model.specs.Choice.{column, andKeep, leastKeep, worstOf, Choice, unfit, chosen, choiceOf, choice}
-use Rattle.demand.specs.Columns.{flatTasks, Searchable}
-use Rattle.demand.specs.Searching.{Search}
+use Rattle.demand.specs.Columns.{flatTasks, Searchable, IsOnce}
 use Rattle.choice.specs.declared.Window.{Window}
 use Rattle.choice.specs.declared.Window.the-variants.{Within, Over}
 use Rattle.choice.specs.declared.Least.{Least}
 use Rattle.choice.specs.declared.Least.the-variants.{Keep, Unfit}
 use Rattle.choice.specs.declared.Step.{Step}
-use Rattle.choice.specs.declared.Step.the-variants.{Done, Next}
+use Rattle.choice.specs.declared.Step.the-variants.{Stops, Fails, Next}
 use Rattle.choice.specs.declared.Choices.{Choices}
 
 -- loads and periods as a task set; the search for W(q) looks at nothing else
 abbrev pub flat : List ℕ → List ℕ → Tasks
 flat loads periods = flatTasks loads periods 0 0
 
--- the search for W(q) of task n may start at t
-pub record Searched (loads periods keeps : List ℕ) (n q t : ℕ) : Type 0 where
+-- the search for W(q) of task n may start, one load of each task above being known
+pub record Searched (loads periods keeps : List ℕ) (n once q : ℕ) : Type 0 where
   pub columns : Searchable loads periods keeps n
+  pub once-is : IsOnce loads n once
   pub q-high : q ≤ horizonTick
-  pub high : t ≤ horizonTick
-  pub search : Search (flat loads periods) (column keeps) n q t
 
--- the W(q) that an answer holds
-abbrev pub windowIn : Window → Option ℕ
-windowIn (Within w) = some w
-windowIn Over = none
+-- w is W(q) of task n, and m the length of its list of t
+pub record WithinIs (loads periods keeps : List ℕ) (n q w m : ℕ) : Type 0 where
+  pub is : window (flat loads periods) (column keeps) n q ≡ some w
+  pub counted : length (tried (flat loads periods) (column keeps) n q) ≡ m
+  pub small : m ≤ 10000001
 
-abbrev pub windowOf : List ℕ → List ℕ → List ℕ → ℕ → ℕ → Window → Type 0
-windowOf loads periods keeps n q r = windowIn r ≡ window (flat loads periods) (column keeps) n q
+abbrev pub WindowOf : List ℕ → List ℕ → List ℕ → ℕ → ℕ → Window → Type 0
+WindowOf loads periods keeps n q (Within w m) = WithinIs loads periods keeps n q w m
+WindowOf loads periods keeps n q Over = window (flat loads periods) (column keeps) n q ≡ none
 
--- the least kept jitter of task i, given the choices above, and its largest R
+-- K is the least kept jitter of task i, given the choices above; w, q and n are the largest R, the last q and the evaluations of the verdict at K
+pub record KeepIs (s : Tasks) (above : List ℕ) (i K w q n : ℕ) : Type 0 where
+  pub least : leastKeep s above i ≡ some K
+  pub worst : worstOf (verdict s (andKeep above K) i) ≡ pos w
+  pub last : taken s (andKeep above K) i ≡ suc q
+  pub counted : evaluations s (andKeep above K) i ≡ n
+  pub small : n ≤ 100000020000001
+
 abbrev pub LeastIs : Tasks → List ℕ → ℕ → Least → Type 0
-LeastIs s above i (Keep K w) = (leastKeep s above i ≡ some K) × (worstOf (verdict s (andKeep above K) i) ≡ pos w)
+LeastIs s above i (Keep K w q n) = KeepIs s above i K w q n
 LeastIs s above i Unfit = leastKeep s above i ≡ none
 
 -- the largest W(q') + pickup + J − q'P up to q, high being that of the q' before and w being W(q)
@@ -56,10 +65,10 @@ nextHigh P J high q w = max high (w + pickup + J - q * P)
 unfoldable pub stepOf : ℕ → ℕ → ℕ → ℕ → ℕ → ℕ → Step
 stepOf P J D high q w =
     elim (ltb (D + (q * P - J)) (w + pickup)) [
-      | true ↦ Done Unfit
+      | true ↦ Fails
       | false ↦
           elim (leb w (gap P (nextHigh P J high q w - D) (q + 1))) [
-            | true ↦ Done (Keep (nextHigh P J high q w - D) (min (nextHigh P J high q w) D))
+            | true ↦ Stops (nextHigh P J high q w - D) (min (nextHigh P J high q w) D)
             | false ↦ Next (nextHigh P J high q w)
           ]
     ]
@@ -108,3 +117,5 @@ pub record ChoicesAre (s : Tasks) (r : Choices) : Type 0 where
   pub worst-past : (m : ℕ) → r .fitted ≤ m → m < maxTasks → column (r .worst) m ≡ 0
   pub keep-long : length (r .keep) ≡ maxTasks
   pub worst-long : length (r .worst) ≡ maxTasks
+  -- the evaluations are those of the verdicts at the chosen kept jitters, added up
+  pub counted : r .evaluations ≡ sum (λ j. evaluations s (column (r .keep)) j) (r .fitted)

@@ -9,10 +9,11 @@ ghost use Rattle.model.specs.Choice.{choice};
 ghost use Rattle.model.specs.Calls.{choiceInputs, columnAfter, keptColumn, worstColumn};
 ghost use Rattle.taskset.specs.TaskSet.{viewOf, refusalIn};
 ghost use Rattle.demand.specs.Columns.{Factored};
-ghost use Rattle.choice.specs.Choices.{Searched, Walkable, windowOf, LeastOf, Product, Stepped, stepOf, ChoicesAre};
+ghost use Rattle.choice.specs.Choices.{Searched, Walkable, WindowOf, LeastOf, Product, Stepped, stepOf, ChoicesAre};
 use demand::above_load;
 use demand::columns_of;
 use demand::factors_of;
+use demand::once_each;
 use numbers::larger;
 use numbers::less;
 use numbers::wide;
@@ -20,29 +21,37 @@ use taskset::Checked;
 use taskset::PICKUP;
 use taskset::TaskSet;
 
-// W(q), or that it is over the horizon H or there is none.
+// W(q) with the length of its list of t, or that it is over the horizon H or there is none.
 pub enum Window {
-    Within(u32),
+    Within { window: u32, tries: u64 },
     Over,
 }
 
-// The least kept jitter at which a task fits, with its largest R, or that there is none.
-pub enum Least {
-    Keep { keep: u32, worst: u32 },
-    Unfit,
-}
-
-// What the walk over q says at one q: the answer, or the largest W(q) + pickup + J − qP so far.
+// What the walk over q says at one q: the least kept jitter, which stops here, with its largest R; that no kept jitter fits;
+// or the largest W(q) + pickup + J − qP so far.
 pub enum Step {
-    Done(Least),
+    Stops { keep: u32, worst: u32 },
+    Fails,
     Next(u32),
 }
 
-// Kept jitters and largest R of the first tasks, as many as fit; 0 past them.
+// The least kept jitter at which a task fits, with its largest R, the last q that was taken and the evaluations; or that there is none.
+pub enum Least {
+    Keep {
+        keep: u32,
+        worst: u32,
+        last: u32,
+        evaluations: u64,
+    },
+    Unfit,
+}
+
+// Kept jitters and largest R of the first tasks, as many as fit, 0 past them; and the evaluations that they took.
 pub struct Choices {
     pub keep: [u32; 32],
     pub worst: [u32; 32],
     pub fitted: usize,
+    pub evaluations: u64,
 }
 
 // A number of jobs times P or E.
@@ -53,32 +62,37 @@ fn product(n: u32, x: u32) -> u64
     wide(n) * wide(x)
 }
 
-// W(q) of task n, by the rising list from a t below which no demand is met: the next t is the demand in the t just tried.
-fn window_from(
+// W(q) of task n, by its list of t: from q + 1 loads of its own and `once`, one load of each task above, on with the demand in the t just tried.
+fn window_of(
     loads: &[u32],
     periods: &[u32],
     highs: &[u32],
     lows: &[u32],
     keeps: &[u32],
     n: usize,
+    once: u64,
     q: u32,
-    from: u32,
 ) -> Window
-    requires { ⌜ Searched (now loads) (now periods) (now keeps) n q from ⌝ }
+    requires { ⌜ Searched (now loads) (now periods) (now keeps) n once q ⌝ }
     requires { ⌜ Factored (now periods) (now highs) (now lows) n ⌝ }
-    ensures { λ r. ⌜ windowOf (now (loads .entry)) (now (periods .entry)) (now (keeps .entry)) n q r ⌝ }
+    ensures { λ r. ⌜ WindowOf (now (loads .entry)) (now (periods .entry)) (now (keeps .entry)) n q r ⌝ }
 {
     let own = product(q + 1, loads[n]);
-    let mut t = from;
+    let mut t = own + once;
+    let mut tries: u64 = 0;
     loop {
-        let d = own + above_load(loads, periods, highs, lows, keeps, n, t);
-        if d <= wide(t) {
-            return Window::Within(t);
-        }
-        if 10000000 < d {
+        tries += 1;
+        if 10000000 < t {
             return Window::Over;
         }
-        t = d as u32;
+        let d = own + above_load(loads, periods, highs, lows, keeps, n, t as u32);
+        if d <= t {
+            return Window::Within {
+                window: t as u32,
+                tries: tries,
+            };
+        }
+        t = d;
     }
 }
 
@@ -92,20 +106,21 @@ fn step_at(period: u32, jitter: u32, deadline: u32, high: u32, q: u32, w: u32) -
     let d = wide(deadline);
     let base = product(q, period);
     if d + less(base, wide(jitter)) < picked {
-        return Step::Done(Least::Unfit);
+        return Step::Fails;
     }
     let next = larger(wide(high), less(picked + wide(jitter), base));
     let keep = less(next, d) as u32;
     if t <= shaper::gap(period, keep, q + 1) {
-        return Step::Done(Least::Keep {
+        return Step::Stops {
             keep: keep,
             worst: (next - wide(keep)) as u32,
-        });
+        };
     }
     Step::Next(next as u32)
 }
 
 // The least kept jitter at which task i fits, given the kept jitters of the tasks above. W(q) does not depend on the task's own K, so one walk over q finds it.
+// It takes the q that the verdict at that kept jitter takes.
 fn least_keep(
     loads: &[u32],
     periods: &[u32],
@@ -121,22 +136,31 @@ fn least_keep(
     ensures { λ r. ⌜ LeastOf (now (loads .entry)) (now (periods .entry)) (now (keeps .entry)) i jitter deadline r ⌝ }
 {
     let period = periods[i];
+    let once = once_each(loads, periods, keeps, i);
     let mut q: u32 = 0;
     let mut high: u32 = 0;
-    let mut from: u32 = 1;
+    let mut evaluations: u64 = 0;
     loop {
-        let found = window_from(loads, periods, highs, lows, keeps, i, q, from);
-        let Window::Within(w) = found else {
+        let found = window_of(loads, periods, highs, lows, keeps, i, once, q);
+        let Window::Within { window, tries } = found else {
             return Least::Unfit;
         };
-        let seen = step_at(period, jitter, deadline, high, q, w);
+        evaluations += tries;
+        let seen = step_at(period, jitter, deadline, high, q, window);
         match seen {
-            Step::Done(r) => {
-                return r;
+            Step::Fails => {
+                return Least::Unfit;
+            }
+            Step::Stops { keep, worst } => {
+                return Least::Keep {
+                    keep: keep,
+                    worst: worst,
+                    last: q,
+                    evaluations: evaluations,
+                };
             }
             Step::Next(next) => {
                 high = next;
-                from = w;
                 q += 1;
             }
         }
@@ -157,6 +181,7 @@ fn choices_of(s: TaskSet) -> Choices
     let lows = by.lows;
     let mut keep: [u32; 32] = [0; 32];
     let mut worst: [u32; 32] = [0; 32];
+    let mut evaluations: u64 = 0;
     let mut i = 0;
     while i < count {
         let own = s.tasks[i];
@@ -170,21 +195,30 @@ fn choices_of(s: TaskSet) -> Choices
             own.jitter,
             own.deadline,
         );
-        let Least::Keep { keep: k, worst: w } = least else {
+        let Least::Keep {
+            keep: k,
+            worst: w,
+            last: _,
+            evaluations: n,
+        } = least
+        else {
             return Choices {
                 keep: keep,
                 worst: worst,
                 fitted: i,
+                evaluations: evaluations,
             };
         };
         keep[i] = k;
         worst[i] = w;
+        evaluations += n;
         i += 1;
     }
     Choices {
         keep: keep,
         worst: worst,
         fitted: count,
+        evaluations: evaluations,
     }
 }
 

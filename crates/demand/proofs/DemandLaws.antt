@@ -65,7 +65,7 @@ pub window-beyond : (s : Tasks) (k : ℕ → ℕ) (i q t : ℕ) → horizonTick 
 unfolding window meets
 window-beyond s k i q t h f = first-none (meets s k i q) horizonTick 1 (λ x l g. lt-leb _ _ (f x l (omega arith)))
 
--- the search by a rising list: t = (q + 1) × E and one E of each task above, then the demand in the t just tried
+-- below the first member of the list of t, and below the next one, every t is too short
 module _ (s : Tasks) (k : ℕ → ℕ) (i : ℕ) (p : Periodic s i) where
   -- what is below the first member is too short
   pub short-start : (q : ℕ) → TooShort s k i q (suc q * load s i + sum (load s) i)
@@ -75,10 +75,6 @@ module _ (s : Tasks) (k : ℕ → ℕ) (i : ℕ) (p : Periodic s i) where
   -- and what is below the next one
   pub short-next : (q t : ℕ) → TooShort s k i q t → TooShort s k i q (demand s k i q t)
   short-next q t f x l h = dite (decLt x t) (λ b. f x l b) (λ b. omega (arith, demand-mono s k i p q t x (omega arith)))
-
--- what is too short for q + 1 jobs is too short for one more
-pub short-more : (s : Tasks) (k : ℕ → ℕ) (i q t : ℕ) → TooShort s k i q t → TooShort s k i (suc q) t
-short-more s k i q t f x l h = omega (arith, f x l h, demand-next s k i q x)
 
 module _ (s : Tasks) (k : ℕ → ℕ) (i : ℕ) where
   -- with one job more it is longer

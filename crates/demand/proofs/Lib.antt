@@ -1,6 +1,8 @@
 -- Laws of arrival counts, of the demand and of the search for W(q). From the ground up.
 pub mod ArrivalCountLaws
 pub mod DemandLaws
+pub mod ListLaws
 pub mod FlatColumnLaws
 pub mod TaskCallLaws
 pub mod WindowSearchLaws
+pub mod TriedListLaws

@@ -2,3 +2,4 @@
 pub mod Columns
 pub mod ArrivalAnswer
 pub mod Searching
+pub mod TriedList

@@ -1,6 +1,6 @@
 -- The calls: where one answers with a verdict or a run, demand 3 holds of it; where one answers with a choice, the choice is safe.
 use mathlib.Core.Path.{sym}
-use Rattle.model.specs.Verdict.{verdict}
+use Rattle.model.specs.Evaluations.{judged}
 use Rattle.model.specs.Choice.{column, choice}
 use Rattle.model.specs.Refusal.{answered}
 use Rattle.model.specs.Calls.{releasesOf, taskInputs, verdictCall}
@@ -12,11 +12,11 @@ use Rattle.guarantee.proofs.ChoiceSafe.{choice-safe}
 use Rattle.guarantee.proofs.Demand3.{demand3}
 use Rattle.guarantee.specs.AnsweredCalls.{VerdictAnswers, MissedLegal, ChoiceAnswers, RunAnswers}
 
--- an answered verdict is the verdict defined, and demand 3 holds with the kept jitters given
+-- an answered verdict is the verdict defined, with the number of its evaluations, and demand 3 holds with the kept jitters given
 pub verdict-answers : VerdictAnswers
 unfolding verdictCall
-verdict-answers s i kept v h =
-    let d = answered-of (taskInputs s i kept) (verdict s (column kept) i) v h in
+verdict-answers s i kept j h =
+    let d = answered-of (taskInputs s i kept) (judged s (column kept) i) j h in
     let a = accepted-of _ (d .0) in
     (d .1, demand3 s (valid-of s (sym (a .tasks))) (column kept) (kept-of s (column kept) (sym (a .kept))) i (task-of s i (a .single)))
 

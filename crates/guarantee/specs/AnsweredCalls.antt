@@ -9,7 +9,7 @@ use lib.IntN.{ℤ}
 use Rattle.model.specs.Limits.{maxTick}
 use Rattle.model.specs.Tasks.{Tasks, Release, releaseAt, Valid}
 use Rattle.model.specs.Legality.{firstClose}
-use Rattle.model.specs.Verdict.{Verdict, verdict}
+use Rattle.model.specs.Evaluations.{Judged, judged}
 use Rattle.model.specs.Choice.{column, chosen, choice}
 use Rattle.model.specs.Claims.{Trace, Missed, Demand3}
 use Rattle.model.specs.Refusal.{answered}
@@ -17,11 +17,11 @@ use Rattle.model.specs.Checks.{refusalOf}
 use Rattle.model.specs.Calls.{releasesOf, verdictCall, choiceInputs, runInputs}
 use Rattle.guarantee.specs.ChoiceSafe.{Safe}
 
--- an answered verdict is the verdict defined, and demand 3 holds with the kept jitters given
+-- an answered verdict is the verdict defined, with the number of its evaluations, and demand 3 holds with the kept jitters given
 abbrev pub VerdictAnswers : Type 0
 VerdictAnswers =
-    (s : Tasks) (i : ℕ) (kept : List ℕ) (v : Verdict) → verdictCall s i kept ≡ answered v
-    → (verdict s (column kept) i ≡ v) × Demand3 s (column kept) i
+    (s : Tasks) (i : ℕ) (kept : List ℕ) (j : Judged) → verdictCall s i kept ≡ answered j
+    → (judged s (column kept) i ≡ j) × Demand3 s (column kept) i
 
 -- the list that a "late" verdict promises passes the trace check
 abbrev pub MissedLegal : Type 0

@@ -14,11 +14,11 @@ use Rattle.model.specs.Verdict.{verdict}
 use Rattle.model.specs.Choice.{Choice, unfit, chosen, andKeep, isFits, worstOf, leastKeep, choiceNext, choiceOf, choice}
 use Rattle.model.specs.Refusal.{Refusal, refuse, firstOf}
 use Rattle.model.specs.Checks.{inRange, entryFault, faultOf, faultAt, isFault, refuseAt, refuseIf, refuseBy, checkEntries, checkTasks}
-use Rattle.model.specs.Charge.{oldCheckTasks, UnchargedIsChecked, UnchargedIsCost, absorbed, AbsorbedIsValid, AbsorbedIsJudged, AbsorbedIsChosen}
+use Rattle.model.specs.Charge.{oldCheckTasks, UnchargedIsChecked, UnchargedIsCost, absorbed, AbsorbedIsValid, AbsorbedIsJudged, AbsorbedIsCounted, AbsorbedIsChosen}
 use Rattle.model.proofs.SearchLaws.{first-found}
 use Rattle.model.proofs.CheckLaws.{in-range-of, entry-outside, entry-fine}
 use Rattle.model.proofs.SameAnswers.{first-eq}
-use Rattle.model.proofs.SameVerdict.{verdict-same}
+use Rattle.model.proofs.SameVerdict.{Same, verdict-same, evaluations-same}
 
 pub uncharged-work : UnchargedIsCost
 uncharged-work cost = add-zero cost
@@ -83,10 +83,14 @@ absorbed-valid s v = record {
       record { load-period = omega (arith, g .load-period); load-deadline = omega (arith, g .load-deadline) };
 }
 
+absorbed-same : (s : Tasks) (k : ℕ → ℕ) (i : ℕ) → Same (absorbed s) s k k i
+absorbed-same s k i = record { loads = λ j l. add-zero (load s j); periods = λ j l. refl; keeps = λ j l. refl; jitter = refl; deadline = refl }
+
 pub absorbed-verdict : AbsorbedIsJudged
-absorbed-verdict s k i =
-    verdict-same (absorbed s) s k k i
-    (record { loads = λ j l. add-zero (load s j); periods = λ j l. refl; keeps = λ j l. refl; jitter = refl; deadline = refl })
+absorbed-verdict s k i = verdict-same (absorbed s) s k k i (absorbed-same s k i)
+
+pub absorbed-evaluations : AbsorbedIsCounted
+absorbed-evaluations s k i = evaluations-same (absorbed s) s k k i (absorbed-same s k i)
 
 next-same : (s : Tasks) (i : ℕ) (c : Choice) → choiceNext (absorbed s) i c ≡ choiceNext s i c
 unfolding choiceNext leastKeep

@@ -32,7 +32,7 @@ use Rattle.model.proofs.SearchLaws.{first-found}
 use Rattle.model.proofs.CheckLaws.{valid-of, task-of}
 use Rattle.model.proofs.OrderLaws.{accepted-of, column-kept, answers, refuses}
 use Rattle.model.proofs.TraceLaws.{fault-task, trace-of}
-use Rattle.model.proofs.SameVerdict.{verdict-same}
+use Rattle.model.proofs.SameVerdict.{Same, verdict-same, judged-same}
 
 -- tests that agree on the numbers looked at give equal searches
 pub first-eq : (f g : ℕ → Bool) (n t : ℕ) → ((m : ℕ) → t ≤ m → m < t + n → f m ≡ g m) → first f n t ≡ first g n t
@@ -143,28 +143,30 @@ module _ (s s′ : Tasks) (same : SameTasks s s′) where
       ∷ checkChoice (f x)
       ∷ [])
 
-  -- the verdict of a task of the sheet
-  judged-same : (k : ℕ → ℕ) (i : ℕ) → i < s .count → verdict s k i ≡ verdict s′ k i
-  judged-same k i h =
-      verdict-same s s′ k k i
-      (record {
-        loads = λ j l. ap₂ _+_ (same .cost j (omega arith)) (same .charge);
-        periods = λ j l. same .period j (omega arith);
-        keeps = λ j l. refl;
-        jitter = same .jitter i h;
-        deadline = same .deadline i h;
-      })
+  -- a task of the sheet, as its verdict looks at it
+  task-same : (k : ℕ → ℕ) (i : ℕ) → i < s .count → Same s s′ k k i
+  task-same k i h = record {
+    loads = λ j l. ap₂ _+_ (same .cost j (omega arith)) (same .charge);
+    periods = λ j l. same .period j (omega arith);
+    keeps = λ j l. refl;
+    jitter = same .jitter i h;
+    deadline = same .deadline i h;
+  }
+
+  -- its verdict
+  says-same : (k : ℕ → ℕ) (i : ℕ) → i < s .count → verdict s k i ≡ verdict s′ k i
+  says-same k i h = verdict-same s s′ k k i (task-same k i h)
 
   -- the choice, task by task
   least-same : (above : List ℕ) (i : ℕ) → i < s .count → leastKeep s above i ≡ leastKeep s′ above i
   unfolding leastKeep
-  least-same above i h = λ x. first (λ K. isFits (judged-same (andKeep above K) i h x)) (suc (same .jitter i h x)) 0
+  least-same above i h = λ x. first (λ K. isFits (says-same (andKeep above K) i h x)) (suc (same .jitter i h x)) 0
 
   next-same : (i : ℕ) → i < s .count → (c : Choice) → choiceNext s i c ≡ choiceNext s′ i c
   unfolding choiceNext
   next-same i h (unfit n) = refl
   next-same i h (chosen ks ws) = λ x.
-      elim (least-same ks i h x) [ none ↦ unfit i | some K ↦ chosen (ks ++ (K ∷ [])) (ws ++ (worstOf (judged-same (andKeep ks K) i h x) ∷ [])) ]
+      elim (least-same ks i h x) [ none ↦ unfit i | some K ↦ chosen (ks ++ (K ∷ [])) (ws ++ (worstOf (says-same (andKeep ks K) i h x) ∷ [])) ]
 
   choices-same : (n : ℕ) → n ≤ s .count → choiceOf s n ≡ choiceOf s′ n
   unfolding choiceOf
@@ -255,7 +257,7 @@ module _ (s s′ : Tasks) (same : SameTasks s s′) where
             answer-same (taskInputs s i kept) (taskInputs s′ i kept) _ _ (task-refusal i kept)
             (λ n. ap (λ P. arrivals P (column kept i) t) (same .period i (task-known i kept n)));
         verdict = λ i kept.
-            answer-same (taskInputs s i kept) (taskInputs s′ i kept) _ _ (task-refusal i kept) (λ n. judged-same (column kept) i (task-known i kept n));
+            answer-same (taskInputs s i kept) (taskInputs s′ i kept) _ _ (task-refusal i kept) (λ n. judged-same s s′ (column kept) (column kept) i (task-same (column kept) i (task-known i kept n)));
         trace = λ n task tick cost.
             answer-same (listInputs s n task tick cost) (listInputs s′ n task tick cost) _ _
             (refusal-same none (some n) _ _ none (releasesOf n task tick cost) none none refl refl)

@@ -3,7 +3,7 @@ use Prim.Native.Nat.{ℕ, zero, suc, _+_, _-_, _*_, _≤_, _<_, max}
 use mathlib.Core.Path.{_≡_, refl, sym}
 use mathlib.Core.Bool.{Bool, true, false, _&&_}
 use mathlib.Core.Logic.{_⊎_, inl, inr}
-use native.Mathlib.Nat.{eq-or-lt-of-le, mul-zero}
+use native.Mathlib.Nat.{eq-or-lt-of-le, mul-zero, mul-le-mul-left}
 use native.Mathlib.Omega.{arith}
 use borrow.Author.Tests.{ltb-true, ltb-false, leb-true, leb-false, eqb-true}
 use lib.Dec.{ltb}
@@ -125,6 +125,34 @@ pub sum-scale-up : (f g : ℕ → ℕ) (c n : ℕ) → ((p : ℕ) → p < n → 
 unfolding sum
 sum-scale-up f g c zero h = omega (arith, mul-zero c)
 sum-scale-up f g c (suc n) h = omega (arith, sum-scale-up f g c n (λ p l. h p (omega arith)), h n (omega arith))
+
+-- where f is at most g term by term and yet no smaller in sum, it is no smaller in a weighted sum
+sum-weighted
+    : (c f g : ℕ → ℕ) (n : ℕ) → ((p : ℕ) → p < n → f p ≤ g p) → sum g n ≤ sum f n → sum (λ p. c p * g p) n ≤ sum (λ p. c p * f p) n
+unfolding sum
+sum-weighted c f g zero h l = omega arith
+sum-weighted c f g (suc n) h l =
+    omega (arith, sum-weighted c f g n below (omega (arith, last)), mul-le-mul-left {m = g n} {n = f n} (c n) (omega (arith, rest)))
+  where
+    below : (p : ℕ) → p < n → f p ≤ g p
+    below p b = h p (omega arith)
+
+    rest : sum f n ≤ sum g n
+    rest = sum-le f g n below
+
+    last : f n ≤ g n
+    last = h n (omega arith)
+
+-- where f is at most g term by term and smaller in a weighted sum, it is smaller in sum
+pub sum-strict
+    : (c f g : ℕ → ℕ) (n : ℕ) → ((p : ℕ) → p < n → f p ≤ g p) → sum (λ p. c p * f p) n < sum (λ p. c p * g p) n → sum f n < sum g n
+sum-strict c f g n h l = le-by (suc (sum f n)) (sum g n) (λ b. omega (arith, sum-weighted c f g n h (omega arith)))
+
+-- a sum of ones counts its terms
+pub sum-ones : (n : ℕ) → sum (λ p. 1) n ≡ n
+unfolding sum
+sum-ones zero = refl
+sum-ones (suc n) = omega (arith, sum-ones n)
 
 -- terms that are equal but for one, which is larger by 1
 pub sum-bump : (f g : ℕ → ℕ) (n q : ℕ) → q < n → ((p : ℕ) → p < n → (p ≡ q → ⊥) → f p ≡ g p) → f q ≡ suc (g q) → sum f n ≡ suc (sum g n)

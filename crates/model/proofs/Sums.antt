@@ -19,11 +19,12 @@ use Rattle.model.specs.Stops.{has, different, stopTicks, stopCount}
 use Rattle.model.specs.Demand.{aboveLoad, demand, meets, window}
 use Rattle.model.specs.Bound.{maxZ, minZ, offset, bound}
 use Rattle.model.specs.Verdict.{horizon, boundOf, isLate, isLast, stops, boundAt, peak, judge, verdict}
+use Rattle.model.specs.Evaluations.{triedAt, endsAt, tried, taken, evaluations}
 use Rattle.model.specs.Choice.{column, isFits, worstOf, leastKeep, choiceNext, choiceOf}
 use Rattle.model.specs.Refusal.{firstOf}
 use Rattle.model.specs.Checks.{inRange, carries, entryFault, faultAt, isFault, refuseIf, refuseBy, checkEntries, checkTasks}
 use Rattle.model.proofs.SearchLaws.{first-hit, first-none}
-use Rattle.model.specs.Sums.{AllRows, AllSums, busy, chargeVerdicts, chargeRun, chargeChecks, pad, sheet, task}
+use Rattle.model.specs.Sums.{AllRows, AllSums, busy, chargeVerdicts, chargeRun, chargeChecks, triedLists, evaluationCounts, pad, sheet, task}
 
 -- sum 11: below a task that takes every tick no demand is ever met
 never : (t : ℕ) → 1 ≤ t → meets (sheet (busy ∷ busy ∷ [])) (column (0 ∷ 0 ∷ [])) 1 0 t ≡ false
@@ -59,8 +60,16 @@ checked-charges : AllRows chargeChecks
 unfolding first inRange carries entryFault faultAt isFault refuseIf refuseBy checkEntries checkTasks firstOf
 checked-charges = (refl, (refl, (refl, (refl, (refl, tt)))))
 
-charges : AllSums (chargeVerdicts ∷ chargeRun ∷ chargeChecks ∷ [])
-charges = (judged-charges, (run-charges, (checked-charges, tt)))
+lists : AllRows triedLists
+unfolding arrivals ceilDiv demand aboveLoad sum first table triedAt endsAt tried
+lists = (refl, (refl, (refl, (refl, (refl, (refl, (refl, (refl, (refl, tt)))))))))
+
+counts-of : AllRows evaluationCounts
+unfolding arrivals ceilDiv gap window meets demand aboveLoad sum first stops isLate isLast boundOf bound offset maxZ minZ table triedAt endsAt tried taken evaluations
+counts-of = (refl, (refl, (refl, (refl, tt))))
+
+requests : AllSums (chargeVerdicts ∷ chargeRun ∷ chargeChecks ∷ triedLists ∷ evaluationCounts ∷ [])
+requests = (judged-charges, (run-charges, (checked-charges, (lists, (counts-of, tt)))))
 
 pub sums : AllSums pad
 unfolding arrivals ceilDiv gap after readyNext readyFrom readyAt readyList own table
@@ -88,7 +97,7 @@ sums = (
                     (refl, tt),
                     (
                       (refl, (full, tt)),
-                      (((refl, refl), ((refl, refl), tt)), ((refl, (refl, (refl, ((refl, refl), (refl, (refl, tt)))))), ((refl, (refl, (refl, (refl, (refl, (refl, ((refl, refl), tt))))))), charges))),
+                      (((refl, refl), ((refl, refl), tt)), ((refl, (refl, (refl, ((refl, refl), (refl, (refl, tt)))))), ((refl, (refl, (refl, (refl, (refl, (refl, ((refl, refl), tt))))))), requests))),
                     ),
                   ),
                 ),

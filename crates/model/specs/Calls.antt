@@ -8,7 +8,7 @@ use Rattle.model.specs.Series.{table}
 use Rattle.model.specs.Tasks.{Tasks, Release}
 use Rattle.model.specs.Arrival.{arrivals}
 use Rattle.model.specs.Choice.{column, Choice, unfit, chosen, choice}
-use Rattle.model.specs.Verdict.{Verdict, verdict}
+use Rattle.model.specs.Evaluations.{Judged, judged}
 use Rattle.model.specs.Legality.{firstClose}
 use Rattle.model.specs.Stops.{stopCount}
 use Rattle.model.specs.Refusal.{Refusal, Answer}
@@ -43,9 +43,9 @@ taskInputs s i kept = record {
 unfoldable pub arrivalCall : Tasks → ℕ → List ℕ → ℕ → Answer ℕ
 arrivalCall s i kept t = answerOf (taskInputs s i kept) (arrivals (s .period i) (column kept i) t)
 
--- verdict of task i
-unfoldable pub verdictCall : Tasks → ℕ → List ℕ → Answer Verdict
-verdictCall s i kept = answerOf (taskInputs s i kept) (verdict s (column kept) i)
+-- verdict of task i, with the number of its evaluations
+unfoldable pub verdictCall : Tasks → ℕ → List ℕ → Answer Judged
+verdictCall s i kept = answerOf (taskInputs s i kept) (judged s (column kept) i)
 
 -- the first task that fits at no K, if any
 unfoldable pub unfitOf : Choice → Option ℕ

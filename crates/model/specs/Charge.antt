@@ -13,6 +13,7 @@ use Rattle.model.specs.Tasks.{Tasks, Valid, Release, load}
 use Rattle.model.specs.Ready.{readyList}
 use Rattle.model.specs.Run.{finishList}
 use Rattle.model.specs.Verdict.{verdict}
+use Rattle.model.specs.Evaluations.{evaluations}
 use Rattle.model.specs.Choice.{choice}
 use Rattle.model.specs.Refusal.{Refusal, firstOf}
 use Rattle.model.specs.Checks.{inRange, refuseAt, refuseIf, checkTasks}
@@ -38,12 +39,16 @@ UnchargedIsCost = (cost : ℕ) → plain 0 .work cost ≡ cost
 abbrev pub absorbed : Tasks → Tasks
 absorbed s = record { count = s .count; period = s .period; jitter = s .jitter; cost = load s; deadline = s .deadline; charge = 0 }
 
--- `absorbed-valid`, `absorbed-verdict`, `absorbed-choice`: it is valid where the sheet is, and has the sheet's verdicts and choice
+-- `absorbed-valid`, `absorbed-verdict`, `absorbed-evaluations`, `absorbed-choice`: it is valid where the sheet is, and has the sheet's verdicts with their evaluations,
+-- and its choice
 abbrev pub AbsorbedIsValid : Type 0
 AbsorbedIsValid = (s : Tasks) → Valid s → Valid (absorbed s)
 
 abbrev pub AbsorbedIsJudged : Type 0
 AbsorbedIsJudged = (s : Tasks) (k : ℕ → ℕ) (i : ℕ) → verdict (absorbed s) k i ≡ verdict s k i
+
+abbrev pub AbsorbedIsCounted : Type 0
+AbsorbedIsCounted = (s : Tasks) (k : ℕ → ℕ) (i : ℕ) → evaluations (absorbed s) k i ≡ evaluations s k i
 
 abbrev pub AbsorbedIsChosen : Type 0
 AbsorbedIsChosen = (s : Tasks) → choice (absorbed s) ≡ choice s

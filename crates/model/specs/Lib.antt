@@ -14,6 +14,7 @@ pub mod Stops
 pub mod Demand
 pub mod Bound
 pub mod Verdict
+pub mod Evaluations
 pub mod Choice
 pub mod Claims
 pub mod Refusal

@@ -1,4 +1,4 @@
--- Document 01's twelve sums, the figures of document 02, and stops and a run counted by hand, as one table, and what it means that they hold;
+-- Document 01's twelve sums, the figures of document 02, and stops, a run and lists of t counted by hand, as one table, and what it means that they hold;
 -- proofs/Sums.antt proves it (`sums`).
 use Prim.Native.Nat.{ℕ}
 use mathlib.Core.Path.{_≡_}
@@ -15,6 +15,7 @@ use Rattle.model.specs.Run.{finishList}
 use Rattle.model.specs.Stops.{stopCount}
 use Rattle.model.specs.Demand.{window}
 use Rattle.model.specs.Verdict.{Verdict, horizon, late, fits, stops, verdict}
+use Rattle.model.specs.Evaluations.{tried, evaluations}
 use Rattle.model.specs.Choice.{column, Choice, unfit, chosen, choice}
 use Rattle.model.specs.Refusal.{Refusal, refuse}
 use Rattle.model.specs.Checks.{checkTasks}
@@ -74,6 +75,10 @@ pub data Row : Type 0 where
   ranAt : ℕ → List Entry → List ℕ → List Release → List ℕ → Row
   -- charge and sheet: the refusal of its check, if any
   checked : ℕ → List Entry → Option Refusal → Row
+  -- charge, sheet, kept jitters, task and q: the list of t
+  tries : ℕ → List Entry → List ℕ → ℕ → ℕ → List ℕ → Row
+  -- charge, sheet, kept jitters and task: the number of evaluations
+  counted : ℕ → List Entry → List ℕ → ℕ → ℕ → Row
 
 abbrev pub Holds : Row → Type 0
 Holds (counts P K ts ns) = map (arrivals P K) ts ≡ ns
@@ -89,6 +94,8 @@ Holds (judgedAt S l ks i v) = verdict (charged S l) (column ks) i ≡ v
 Holds (choseAt S l c) = choice (charged S l) ≡ c
 Holds (ranAt S l ks rs fs) = finishList (charged S l) (column ks) rs ≡ fs
 Holds (checked S l o) = checkTasks (charged S l) ≡ o
+Holds (tries S l ks i q ts) = tried (charged S l) (column ks) i q ≡ ts
+Holds (counted S l ks i n) = evaluations (charged S l) (column ks) i ≡ n
 
 abbrev pub AllRows : List Row → Type 0
 AllRows [] = Unit
@@ -143,11 +150,39 @@ chargeChecks =
     ∷ checked 1 (task 2 0 3 2 ∷ task 2 0 2 2 ∷ []) (refuse 6 0)
     ∷ []
 
+-- a task that takes every tick, in steps of 1,000,000
+abbrev pub large : Entry
+large = task 1000000 0 1000000 1000000
+
+-- the list of t: one member without a task above and below one that brings one job; two, three and four members; with a charge;
+-- W(q) = H; a first t over H; a last one
+abbrev pub triedLists : List Row
+triedLists =
+    tries 0 (printed 10) (5 ∷ 7 ∷ 0 ∷ []) 0 1 (4 ∷ [])
+    ∷ tries 0 (printed 10) (1 ∷ 3 ∷ 0 ∷ []) 1 0 (4 ∷ [])
+    ∷ tries 0 (printed 10) (1 ∷ 3 ∷ 0 ∷ []) 1 1 (6 ∷ 8 ∷ [])
+    ∷ tries 0 (printed 10) (5 ∷ 7 ∷ 0 ∷ []) 1 1 (6 ∷ 8 ∷ 10 ∷ [])
+    ∷ tries 0 (printed 10) (5 ∷ 7 ∷ 0 ∷ []) 2 0 (6 ∷ 10 ∷ 14 ∷ 16 ∷ [])
+    ∷ tries 1 pair (9 ∷ 0 ∷ []) 1 0 (6 ∷ 9 ∷ [])
+    ∷ tries 0 (large ∷ []) (0 ∷ []) 0 9 (10000000 ∷ [])
+    ∷ tries 0 (large ∷ []) (0 ∷ []) 0 10 (11000000 ∷ [])
+    ∷ tries 0 (large ∷ large ∷ []) (0 ∷ 0 ∷ []) 1 3 (5000000 ∷ 9000000 ∷ 13000000 ∷ [])
+    ∷ []
+
+-- the number of evaluations: late at q = 0 with 4; late at q = 1 with 2 + 3; fits at q = 1 with 1 + 1; with a charge, fits at q = 0 with 2
+abbrev pub evaluationCounts : List Row
+evaluationCounts =
+    counted 0 (printed 10) (5 ∷ 7 ∷ 0 ∷ []) 2 4
+    ∷ counted 0 (printed 10) (5 ∷ 7 ∷ 0 ∷ []) 1 5
+    ∷ counted 0 (task 8 7 2 8 ∷ []) (7 ∷ []) 0 2
+    ∷ counted 1 (task 10 9 2 6 ∷ task 20 0 2 10 ∷ []) (9 ∷ 0 ∷ []) 1 2
+    ∷ []
+
 -- the sums, in document 01's order, 7 to 12 with the pickup of document 02's R-2; then R-2's own figures: the choice on the printed sheet, which ends in 15 at task 2,
 -- of its tasks 0 and 1 alone and with D 11, the run with D 11, and the stop of the walk, which has no pickup: W(0) = d_K(1), W(0) = d_K(1) + 1;
 -- then stops of R-5: no release, one, two with the same ready tick, a finish that is another's ready tick plus 1, a job that another interrupts, and the printed list;
 -- and a run in which the job of the higher task, though later in the list, goes before one with the same ready tick;
--- then the charges of R-4
+-- then the charges of R-4; then the lists and numbers of R-8
 abbrev pub pad : List (List Row)
 pad =
     (counts 6 5 (0 ∷ 1 ∷ 2 ∷ 7 ∷ 8 ∷ []) (0 ∷ 1 ∷ 2 ∷ 2 ∷ 3 ∷ []) ∷ [])
@@ -186,4 +221,6 @@ pad =
     ∷ chargeVerdicts
     ∷ chargeRun
     ∷ chargeChecks
+    ∷ triedLists
+    ∷ evaluationCounts
     ∷ []

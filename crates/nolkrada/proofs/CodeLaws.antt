@@ -71,11 +71,11 @@ unfolding asWords
 words-refused f (answered x) r e = let z : _≡_ {A = ℕ} 0 1 = cc in absurd (omega arith)
 words-refused f (refused q) r e = ap refused (cc)
 
--- one more lent slice, of at most 3 slots
-few-within : (n : ℕ) → n ≤ 3 → Within top (tooFew n)
+-- one more lent slice, of at most 4 slots
+few-within : (n : ℕ) → n ≤ 4 → Within top (tooFew n)
 few-within n h = record { number-low = omega arith; number-high = omega arith; place-high = omega arith }
 
-more-within : (n slots : ℕ) (r : Refusal) → n ≤ 3 → Within top r → Within top (orTooFew n slots r)
+more-within : (n slots : ℕ) (r : Refusal) → n ≤ 4 → Within top r → Within top (orTooFew n slots r)
 unfolding orTooFew
 more-within n slots r h w = go (ltb slots n && afterSlots (r .number)) refl
   where
@@ -83,7 +83,7 @@ more-within n slots r h w = go (ltb slots n && afterSlots (r .number)) refl
     go true e = rw (orTooFew, e) (few-within n h)
     go false e = rw (orTooFew, e) w
 
-slots-told : {A : Type 0} (n slots : ℕ) (a : Answer A) → n ≤ 3 → ((r : Refusal) → a ≡ refused r → Within top r) → TellsOf (withSlots n slots a)
+slots-told : {A : Type 0} (n slots : ℕ) (a : Answer A) → n ≤ 4 → ((r : Refusal) → a ≡ refused r → Within top r) → TellsOf (withSlots n slots a)
 unfolding withSlots codeIn refusalFrom
 slots-told n slots (answered x) h f = go (ltb slots n) refl
   where
@@ -93,7 +93,7 @@ slots-told n slots (answered x) h f = go (ltb slots n) refl
 slots-told n slots (refused q) h f = told-code (orTooFew n slots q) (more-within n slots q h (f q refl))
 
 words-told
-    : {A : Type 0} (n slots : ℕ) (f : A → List ℕ) (a : Answer A) → n ≤ 3 → ((r : Refusal) → a ≡ refused r → Within top r) → TellsOf (withSlots n slots (asWords f a))
+    : {A : Type 0} (n slots : ℕ) (f : A → List ℕ) (a : Answer A) → n ≤ 4 → ((r : Refusal) → a ≡ refused r → Within top r) → TellsOf (withSlots n slots (asWords f a))
 words-told n slots f a h g = slots-told n slots (asWords f a) h (λ r e. g r (words-refused f a r e))
 
 -- what is answered once the lent slices are checked: a refusal is that of the slices
@@ -131,7 +131,7 @@ codes-tell = record {
       words-told 1 (length answer) oneWord _ (omega arith)
       (λ r. answer-within top _ _ r (task-limited (viewOf (sheetFrom sheet count charge)) top task kept (omega arith) (omega arith)));
   verdict = λ sheet count charge task kept answer h.
-      words-told 3 (length answer) verdictWords _ (omega arith)
+      words-told 4 (length answer) verdictWords _ (omega arith)
       (λ r. answer-within top _ _ r (task-limited (viewOf (sheetFrom sheet count charge)) top task kept (omega arith) (omega arith)));
   choice = λ sheet count charge kept worst.
       tells _ (λ r e. within-more maxReleases top r (omega arith) (refusal-within maxReleases _ (choice-limited (viewOf (sheetFrom sheet count charge)) kept worst) r e));

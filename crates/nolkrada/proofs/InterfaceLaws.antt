@@ -137,3 +137,10 @@ three-set [] a b c h = absurd (omega arith)
 three-set (x ∷ []) a b c h = absurd (omega arith)
 three-set (x ∷ y ∷ []) a b c h = absurd (omega arith)
 three-set (x ∷ y ∷ z ∷ l) a b c h = refl
+
+pub four-set : (held : List ℕ) (a b c d : ℕ) → 4 ≤ length held → set (set (set (set held 0 a) 1 b) 2 c) 3 d ≡ a ∷ b ∷ c ∷ d ∷ drop 4 held
+four-set [] a b c d h = absurd (omega arith)
+four-set (x ∷ []) a b c d h = absurd (omega arith)
+four-set (x ∷ y ∷ []) a b c d h = absurd (omega arith)
+four-set (x ∷ y ∷ z ∷ []) a b c d h = absurd (omega arith)
+four-set (x ∷ y ∷ z ∷ v ∷ l) a b c d h = refl

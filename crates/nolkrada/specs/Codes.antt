@@ -40,7 +40,7 @@ pub record CodesTell : Type 0 where
   pub verdict
       : (sheet : List ℕ) (count charge task : ℕ) (kept answer : List ℕ)
       → task < 4294967296
-      → TellsOf (withSlots 3 (length answer) (asWords verdictWords (verdictCall (viewOf (sheetFrom sheet count charge)) task kept)))
+      → TellsOf (withSlots 4 (length answer) (asWords verdictWords (verdictCall (viewOf (sheetFrom sheet count charge)) task kept)))
   pub choice : (sheet : List ℕ) (count charge : ℕ) (kept worst : List ℕ) → Tells (refusalOf (choiceInputs (viewOf (sheetFrom sheet count charge)) kept worst))
   pub trace
       : (sheet : List ℕ) (count charge n : ℕ) (task tick cost answer : List ℕ)

@@ -8,7 +8,8 @@ use lib.ListN.{length, getD, drop, replicate}
 use lib.Dec.{leb, ltb, eqb}
 use lib.IntN.{natAbs}
 use Rattle.model.specs.Series.{table}
-use Rattle.model.specs.Verdict.{Verdict, horizon, late, fits}
+use Rattle.model.specs.Verdict.{horizon, late, fits}
+use Rattle.model.specs.Evaluations.{Judged}
 use Rattle.model.specs.Refusal.{Refusal, Answer, refused, answered}
 use Rattle.taskset.specs.declared.Task.{Task}
 use Rattle.taskset.specs.declared.TaskSet.{TaskSet}
@@ -71,11 +72,14 @@ Ends n a held r words = (r ≡ codeIn (withSlots n (length held) a)) × (words �
 abbrev pub oneWord : ℕ → List ℕ
 oneWord n = n ∷ []
 
--- a verdict as three words: 0, q, 0 for horizon; 1, q, R for late; 2, q, R for fits
-unfoldable pub verdictWords : Verdict → List ℕ
-verdictWords (horizon q) = 0 ∷ q ∷ 0 ∷ []
-verdictWords (late q r) = 1 ∷ q ∷ natAbs r ∷ []
-verdictWords (fits r q) = 2 ∷ q ∷ natAbs r ∷ []
+-- a verdict as four words: 0, q, 0 for horizon; 1, q, R for late; 2, q, R for fits; and then the number of its evaluations
+unfoldable pub verdictWords : Judged → List ℕ
+verdictWords j =
+    elim (j .says) [
+      | horizon q ↦ 0 ∷ q ∷ 0 ∷ j .evaluations ∷ []
+      | late q r ↦ 1 ∷ q ∷ natAbs r ∷ j .evaluations ∷ []
+      | fits r q ↦ 2 ∷ q ∷ natAbs r ∷ j .evaluations ∷ []
+    ]
 
 -- the answer of the trace check as two words: 0, 0 for legal; 1 and the release that is too close
 unfoldable pub traceWords : Option ℕ → List ℕ

@@ -198,6 +198,20 @@ fn put_three(answer: &mut [u64], a: u64, b: u64, c: u64) -> u64
     0
 }
 
+// Puts an answer of four words, or refuses 13.
+fn put_four(answer: &mut [u64], a: u64, b: u64, c: u64, d: u64) -> u64
+    ensures { λ r. ⌜ Ends 4 (answered (a ∷ b ∷ c ∷ d ∷ [])) (now (answer .entry)) r (now (answer .exit)) ⌝ }
+{
+    if answer.len() < 4 {
+        return refusal_code(13, 4);
+    }
+    answer[0] = a;
+    answer[1] = b;
+    answer[2] = c;
+    answer[3] = d;
+    0
+}
+
 // Arrival count of one task in t ticks, with kept jitters: one word.
 #[no_mangle]
 pub extern "C" fn nolkrada_arrival_count(
@@ -222,7 +236,7 @@ pub extern "C" fn nolkrada_arrival_count(
     }
 }
 
-// The verdict of one task, with kept jitters: three words.
+// The verdict of one task, with kept jitters, and the number of its evaluations: four words.
 #[no_mangle]
 pub extern "C" fn nolkrada_verdict(
     sheet: &[u32],
@@ -233,17 +247,25 @@ pub extern "C" fn nolkrada_verdict(
     answer: &mut [u64],
 ) -> u64
     ensures { λ r. ⌜
-        Ends 3 (asWords verdictWords (verdictCall (viewOf (sheetFrom (now (sheet .entry)) count charge)) task (now (kept .entry))))
+        Ends 4 (asWords verdictWords (verdictCall (viewOf (sheetFrom (now (sheet .entry)) count charge)) task (now (kept .entry))))
         (now (answer .entry)) r (now (answer .exit))
         ⌝ }
 {
     let s = sheet_from(sheet, count, charge);
     let got = verdict::verdict(s, task as usize, kept);
     match got {
-        VerdictAnswer::Refused { number, place } => slots_code(number, place, 3, answer.len()),
-        VerdictAnswer::Horizon { q } => put_three(answer, 0, q as u64, 0),
-        VerdictAnswer::Late { q, bound } => put_three(answer, 1, q as u64, bound as u64),
-        VerdictAnswer::Fits { worst, q } => put_three(answer, 2, q as u64, worst as u64),
+        VerdictAnswer::Refused { number, place } => slots_code(number, place, 4, answer.len()),
+        VerdictAnswer::Horizon { q, evaluations } => put_four(answer, 0, q as u64, 0, evaluations),
+        VerdictAnswer::Late {
+            q,
+            bound,
+            evaluations,
+        } => put_four(answer, 1, q as u64, bound as u64, evaluations),
+        VerdictAnswer::Fits {
+            worst,
+            q,
+            evaluations,
+        } => put_four(answer, 2, q as u64, worst as u64, evaluations),
     }
 }
 

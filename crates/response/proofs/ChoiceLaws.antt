@@ -14,7 +14,7 @@ use Rattle.model.specs.Verdict.{Verdict, horizon, late, fits, verdict}
 use Rattle.model.specs.Choice.{isFits, worstOf, column, andKeep, leastKeep, Choice, unfit, chosen, choiceNext, choiceOf, choice}
 use Rattle.model.proofs.SeriesLaws.{below-suc}
 use Rattle.model.proofs.SearchLaws.{Found, first-found, first-nothing}
-use Rattle.model.proofs.SameVerdict.{verdict-same}
+use Rattle.model.proofs.SameVerdict.{verdict-kept}
 
 -- K is the least kept jitter at which task i fits, given the choices above, and w the worst value there
 pub record Pick (s : Tasks) (above : List ℕ) (K : ℕ) (w : ℤ) (i : ℕ) : Type 0 where
@@ -135,15 +135,7 @@ module _ (s : Tasks) (ks : List ℕ) (ws : List ℤ) (h : choice s ≡ chosen ks
   choice-keeps i g = choice-pick i g .in-jitter
 
   choice-same : (i : ℕ) → i < s .count → verdict s (andKeep (take i ks) (column ks i)) i ≡ verdict s (column ks) i
-  choice-same i g =
-      verdict-same s s (andKeep (take i ks) (column ks i)) (column ks) i
-      (record {
-        loads = λ j l. refl;
-        periods = λ j l. refl;
-        keeps = λ j l. same-column ks i j (omega (arith, choice-length)) l;
-        jitter = refl;
-        deadline = refl;
-      })
+  choice-same i g = verdict-kept s (andKeep (take i ks) (column ks i)) (column ks) i (λ j l. same-column ks i j (omega (arith, choice-length)) l)
 
   -- with them every task fits, with the worst value chosen
   pub choice-fits : (i : ℕ) → i < s .count → (q : ℕ) × (verdict s (column ks) i ≡ fits (getD ws i (pos 0)) q)

@@ -18,22 +18,35 @@ fn print_arrivals(answer: ArrivalAnswer) {
 }
 
 // Prints words and the number after them.
-fn print_named(words: &[u8], n: u32) {
+fn print_named(words: &[u8], n: u64) {
     cases::print_words(words);
-    cases::print_number(n as u64);
+    cases::print_number(n);
 }
 
 // Prints what the verdict answers.
 fn print_verdict(answer: VerdictAnswer) {
     match answer {
-        VerdictAnswer::Horizon { q } => print_named(b"horizon q", q),
-        VerdictAnswer::Late { q, bound } => {
-            print_named(b"late q", q);
-            print_named(b"R", bound);
+        VerdictAnswer::Horizon { q, evaluations } => {
+            print_named(b"horizon q", q as u64);
+            print_named(b"evaluations", evaluations);
         }
-        VerdictAnswer::Fits { worst, q } => {
-            print_named(b"fits R", worst);
-            print_named(b"q", q);
+        VerdictAnswer::Late {
+            q,
+            bound,
+            evaluations,
+        } => {
+            print_named(b"late q", q as u64);
+            print_named(b"R", bound as u64);
+            print_named(b"evaluations", evaluations);
+        }
+        VerdictAnswer::Fits {
+            worst,
+            q,
+            evaluations,
+        } => {
+            print_named(b"fits R", worst as u64);
+            print_named(b"q", q as u64);
+            print_named(b"evaluations", evaluations);
         }
         VerdictAnswer::Refused { number, place } => cases::print_refusal(number, place),
     }

@@ -7,8 +7,8 @@ use native.Mathlib.Omega.{arith}
 use native.Mathlib.Nat.{add-zero}
 use native.Mathlib.Decide.{decLt}
 use Rattle.model.specs.Choice.{column}
-use Rattle.model.specs.Verdict.{verdict}
-use Rattle.model.proofs.SameVerdict.{verdict-same}
+use Rattle.model.specs.Evaluations.{judged}
+use Rattle.model.proofs.SameVerdict.{judged-same}
 use Rattle.response.proofs.WindowLaws.{Window}
 use Rattle.taskset.specs.declared.TaskSet.{TaskSet}
 use Rattle.taskset.specs.TaskSet.{viewOf}
@@ -20,12 +20,12 @@ use Rattle.verdict.specs.Walking.{Walkable, Met}
 use Rattle.verdict.proofs.VerdictWalk.{Walk}
 
 -- R(q) is a natural number where the walk comes
-pub met-at : (loads periods keeps : List ℕ) (i J D q t : ℕ) (b : Best)
+pub met-at : (loads periods keeps : List ℕ) (i J D q t : ℕ) (b : Best) (n : ℕ)
     → Walkable loads periods keeps i J
-    → Walk (flatTasks loads periods J D) (column keeps) i q b
+    → Walk (flatTasks loads periods J D) (column keeps) i q b n
     → Window (flatTasks loads periods J D) (column keeps) i q t
     → Met (column periods i) J (column keeps i) q t
-met-at loads periods keeps i J D q t b r w f =
+met-at loads periods keeps i J D q t b n r w f =
     record {
       period-high = r .period-high;
       jitter-high = r .jitter-high;
@@ -80,10 +80,10 @@ module _ (s : TaskSet) (i : ℕ) (kept loads periods : List ℕ) (p : Passed (vi
   pub above-periods : Periods periods i
   above-periods = copied-periods s loads periods i (p .valid) c (omega (arith, p .known))
 
-  -- the verdict by the columns is the sheet's
-  pub judged : verdict (flatTasks loads periods (viewOf s .jitter i) (viewOf s .deadline i)) (column kept) i ≡ verdict (viewOf s) (column kept) i
-  judged =
-      verdict-same (flatTasks loads periods (viewOf s .jitter i) (viewOf s .deadline i)) (viewOf s) (column kept) (column kept) i
+  -- the verdict by the columns and its number are the sheet's
+  pub flat-judged : judged (flatTasks loads periods (viewOf s .jitter i) (viewOf s .deadline i)) (column kept) i ≡ judged (viewOf s) (column kept) i
+  flat-judged =
+      judged-same (flatTasks loads periods (viewOf s .jitter i) (viewOf s .deadline i)) (viewOf s) (column kept) (column kept) i
       (record {
         loads = λ j l. add-zero (column loads j) ∙ c .of-loads .each j (omega (arith, p .known));
         periods = λ j l. c .of-periods .each j (omega (arith, p .known));

@@ -2,12 +2,13 @@
 use lib.IntN.{pos}
 use Rattle.model.specs.Refusal.{Answer, refused, answered}
 use Rattle.model.specs.Verdict as model
+use Rattle.model.specs.Evaluations.{Judged}
 use Rattle.verdict.specs.declared.VerdictAnswer.{VerdictAnswer}
 use Rattle.verdict.specs.declared.VerdictAnswer.the-variants.{Horizon, Late, Fits, Refused}
 
--- document 01's answer of the call "verdict of one task"
-abbrev pub verdictIn : VerdictAnswer → Answer model.Verdict
-verdictIn (Horizon q) = answered (model.horizon q)
-verdictIn (Late q r) = answered (model.late q (pos r))
-verdictIn (Fits r q) = answered (model.fits (pos r) q)
+-- document 01's answer of the call "verdict of one task", with document 02's number of evaluations n
+abbrev pub verdictIn : VerdictAnswer → Answer Judged
+verdictIn (Horizon q n) = answered (record { says = model.horizon q; evaluations = n })
+verdictIn (Late q r n) = answered (record { says = model.late q (pos r); evaluations = n })
+verdictIn (Fits r q n) = answered (record { says = model.fits (pos r) q; evaluations = n })
 verdictIn (Refused n p) = refused (record { number = n; place = p })

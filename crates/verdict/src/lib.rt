@@ -4,7 +4,7 @@ ghost use Prim.Native.Nat.{_≤_};
 ghost use Rattle.model.specs.Refusal.{answered};
 ghost use Rattle.model.specs.Choice.{column};
 ghost use Rattle.model.specs.Bound as model_bound;
-ghost use Rattle.model.specs.Verdict as model_verdict;
+ghost use Rattle.model.specs.Evaluations as model_evaluations;
 ghost use Rattle.model.specs.Calls.{verdictCall};
 ghost use Rattle.taskset.specs.TaskSet.{viewOf};
 ghost use Rattle.demand.specs.Columns.{flatTasks, Factored};
@@ -14,13 +14,27 @@ use taskset::Checked;
 use taskset::PICKUP;
 use taskset::TaskSet;
 
-// What the call "verdict of one task" answers: horizon with q; late with q and R(q); fits with the largest R met and the first q that had it;
-// or document 01's number and place.
+// What the call "verdict of one task" answers: horizon with q; late with q and R(q); fits with the largest R met and the first q that had it,
+// each with the number of its evaluations; or document 01's number and place.
 pub enum VerdictAnswer {
-    Horizon { q: u32 },
-    Late { q: u32, bound: u32 },
-    Fits { worst: u32, q: u32 },
-    Refused { number: u32, place: usize },
+    Horizon {
+        q: u32,
+        evaluations: u64,
+    },
+    Late {
+        q: u32,
+        bound: u32,
+        evaluations: u64,
+    },
+    Fits {
+        worst: u32,
+        q: u32,
+        evaluations: u64,
+    },
+    Refused {
+        number: u32,
+        place: usize,
+    },
 }
 
 // The largest R met so far and the first q that had it.
@@ -75,6 +89,7 @@ fn response(period: u32, jitter: u32, keep: u32, q: u32, w: u32) -> u32
 }
 
 // The walk over q = 0, 1, .. of a task whose loads, periods and kept jitters, and those of the tasks above it, stand in columns, with the factors of the periods above.
+// Every t of the search for W(q) is counted, a last one over the horizon too.
 fn walk(
     loads: &[u32],
     periods: &[u32],
@@ -89,7 +104,7 @@ fn walk(
     requires { ⌜ Factored (now periods) (now highs) (now lows) task ⌝ }
     ensures { λ r. ⌜
         verdictIn r
-        ≡ answered (model_verdict.verdict (flatTasks (now (loads .entry)) (now (periods .entry)) jitter deadline) (column (now (keeps .entry))) task)
+        ≡ answered (model_evaluations.judged (flatTasks (now (loads .entry)) (now (periods .entry)) jitter deadline) (column (now (keeps .entry))) task)
         ⌝ }
 {
     let cost = loads[task];
@@ -98,12 +113,17 @@ fn walk(
     let once = demand::once_each(loads, periods, keeps, task);
     let mut best = Best { worst: 0, first: 0 };
     let mut q: u32 = 0;
+    let mut evaluations: u64 = 0;
     'walk: loop {
         let own = numbers::wide(q + 1) * numbers::wide(cost);
         let mut t = own + once;
         'find: loop {
+            evaluations += 1;
             if 10000000 < t {
-                break 'walk VerdictAnswer::Horizon { q: q };
+                break 'walk VerdictAnswer::Horizon {
+                    q: q,
+                    evaluations: evaluations,
+                };
             }
             let d = own + demand::above_load(loads, periods, highs, lows, keeps, task, t as u32);
             if d <= t {
@@ -113,20 +133,25 @@ fn walk(
         }
         let r = response(period, jitter, keep, q, t as u32);
         if deadline < r {
-            break 'walk VerdictAnswer::Late { q: q, bound: r };
+            break 'walk VerdictAnswer::Late {
+                q: q,
+                bound: r,
+                evaluations: evaluations,
+            };
         }
         best = better(best, r, q);
         if t <= shaper::gap(period, keep, q + 1) {
             break 'walk VerdictAnswer::Fits {
                 worst: best.worst,
                 q: best.first,
+                evaluations: evaluations,
             };
         }
         q += 1;
     }
 }
 
-// The verdict of one task, with kept jitters.
+// The verdict of one task, with kept jitters, and the number of its evaluations.
 pub fn verdict(s: TaskSet, task: usize, kept: &[u32]) -> VerdictAnswer
     ensures { λ r. ⌜ verdictIn r ≡ verdictCall (viewOf s) task (now (kept .entry)) ⌝ }
 {

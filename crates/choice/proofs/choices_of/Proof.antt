@@ -3,15 +3,15 @@ use Prim.Native.Nat.{_-_}
 use borrow.Author.Needs.{needs}
 use native.Mathlib.Omega.{arith}
 use Rattle.demand.proofs.FlatColumnLaws.{copied-periods, factored}
-use Rattle.choice.proofs.ChoosingLaws.{Choosing, choosing-none, choosing-walk, choosing-unfit, choosing-next, choosing-all}
+use Rattle.choice.proofs.ChoosingLaws.{Choosing, choosing-none, choosing-walk, choosing-unfit, choosing-few, choosing-next, choosing-all}
 use Rattle.choice.proofs.choices_of.Statement.{statement}
 use Rattle.choice.proofs.choices_of.Tie as tie
 
 abbrev Inv-loop : tie.InvT-loop
-Inv-loop s loads periods count highs lows keep₀ worst₀ i₀ keep worst i = Choosing s loads periods keep worst i
+Inv-loop s loads periods count highs lows keep₀ worst₀ evaluations₀ i₀ keep worst evaluations i = Choosing s loads periods keep worst evaluations i
 
 abbrev μ-loop : tie.MeasureT-loop
-μ-loop s loads periods count highs lows keep₀ worst₀ i₀ keep worst i = count - i
+μ-loop s loads periods count highs lows keep₀ worst₀ evaluations₀ i₀ keep worst evaluations i = count - i
 
 columns-of-requires : tie.Need-columns-of-requires Inv-loop μ-loop
 columns-of-requires c κs = c .pre
@@ -56,7 +56,7 @@ least-keep-requires c κs =
     let head = c .before .before .before .before .before .before .before in
     let f = head .loop .inv in
     let below = c .before .before .before .before .before .before .loop-test .taken in (
-      choosing-walk _ _ _ _ _ _ f below,
+      choosing-walk _ _ _ _ _ _ _ f below,
       factored _ _ _ _ _ (head .before .before .before .factors-of .ensures) (omega (arith, f .valid .few-tasks)) (omega (arith, below)),
     )
 
@@ -68,7 +68,7 @@ enum-told c = search needs
 
 returns : tie.Need-returns Inv-loop μ-loop
 returns c =
-    choosing-unfit _ _ _ _ _ _ (c .before .before .before .before .before .before .before .before .before .before .loop .inv)
+    choosing-unfit _ _ _ _ _ _ _ (c .before .before .before .before .before .before .before .before .before .before .loop .inv)
     (c .before .before .before .before .before .before .before .before .before .loop-test .taken)
     (rw (c .enum-told .given .1) at (c .before .before .least-keep .ensures))
 
@@ -84,6 +84,16 @@ mul-worst c = omega arith
 array-write-worst : tie.Need-array-write-worst Inv-loop μ-loop
 array-write-worst c = omega arith
 
+add-evaluations : tie.Need-add-evaluations Inv-loop μ-loop
+add-evaluations c =
+    let head = c .before .before .before .before .before .before .before .before .before .before .before in
+    let below = c .before .before .before .before .before .before .before .before .before .before .loop-test .taken in
+    omega (
+      arith,
+      head .loop .inv .valid .few-tasks,
+      choosing-few _ _ _ _ _ _ _ (head .loop .inv) below _ _ _ _ (rw (c .before .least .given .1) at (c .before .before .before .least-keep .ensures)),
+    )
+
 add-i : tie.Need-add-i Inv-loop μ-loop
 add-i c = omega arith
 
@@ -92,12 +102,12 @@ loop-less c = omega arith
 
 loop-again : tie.Need-loop-again Inv-loop μ-loop
 loop-again c =
-    choosing-next _ _ _ _ _ _ (c .before .before .before .before .before .before .before .before .before .before .before .loop .inv)
-    (c .before .before .before .before .before .before .before .before .before .before .loop-test .taken) _ _
+    choosing-next _ _ _ _ _ _ _ (c .before .before .before .before .before .before .before .before .before .before .before .loop .inv)
+    (c .before .before .before .before .before .before .before .before .before .before .loop-test .taken) _ _ _ _
     (rw (c .before .least .given .1) at (c .before .before .before .least-keep .ensures))
 
 returns-2 : tie.Need-returns-2 Inv-loop μ-loop
-returns-2 c = choosing-all _ _ _ _ _ _ (c .before .loop .inv) (c .loop-test .left)
+returns-2 c = choosing-all _ _ _ _ _ _ _ (c .before .loop .inv) (c .loop-test .left)
 
 pub choices-of-spec : {M : Type 1} → statement M
 choices-of-spec =
@@ -125,6 +135,7 @@ choices-of-spec =
     array-write-keep
     mul-worst
     array-write-worst
+    add-evaluations
     add-i
     loop-less
     loop-again

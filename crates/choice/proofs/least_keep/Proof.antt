@@ -1,40 +1,43 @@
 -- The loop's invariant is the walk: see `Walking`.
-use Prim.Native.Nat.{_-_}
-use mathlib.Core.Path.{_≡_, sym, ap, _∙_}
-use mathlib.Core.Option.{some}
+use Prim.Native.Nat.{_+_, _-_}
+use mathlib.Core.Path.{_≡_}
+use mathlib.Core.Option.{none}
 use borrow.Author.Needs.{needs}
 use native.Mathlib.Omega.{arith}
-use Rattle.choice.specs.Choices.{windowIn}
-use Rattle.choice.proofs.LeastLaws.{windowAt, Walking, Stepping, walking-start, walking-none, stepped, walking-step}
+use Rattle.choice.specs.Choices.{WithinIs}
+use Rattle.choice.proofs.LeastLaws.{windowAt, Walking, Stepping, walking-start, searched, walking-none, stepped, walking-step}
 use Rattle.choice.proofs.least_keep.Statement.{statement}
 use Rattle.choice.proofs.least_keep.Tie as tie
 
 abbrev Inv-loop : tie.InvT-loop
-Inv-loop loads periods highs lows keeps i jitter deadline period q₀ high₀ from₀ q high from = Walking loads periods keeps i jitter deadline q high from
+Inv-loop loads periods highs lows keeps i jitter deadline period once q₀ high₀ evaluations₀ q high evaluations =
+    Walking loads periods keeps i jitter deadline q high evaluations
 
 abbrev μ-loop : tie.MeasureT-loop
-μ-loop loads periods highs lows keeps i jitter deadline period q₀ high₀ from₀ q high from = 10000001 - q
+μ-loop loads periods highs lows keeps i jitter deadline period once q₀ high₀ evaluations₀ q high evaluations = 10000001 - q
 
 abbrev start : tie.At-loop Inv-loop μ-loop → tie.Start Inv-loop μ-loop
-start c = c .before .before .before .before .before .before .before
+start c = c .before .before .before .before .before .before .before .before
 
--- W(q)
-is-window
+-- W(q), with the length of its list
+within
     : (c : tie.After-known-told Inv-loop μ-loop)
-    → (let s = start (c .before .before .before .before) in
-    some (c .before .found .given .0 .0) ≡ windowAt (s .args .loads .now) (s .args .periods .now) (s .args .keeps .now) (s .args .i)
-    (c .before .before .before .before .loop .q))
-is-window c = ap windowIn (sym (c .before .found .given .1)) ∙ c .before .before .before .window-from .ensures
+    → (let head = c .before .before .before .before in
+    let s = start head in
+    WithinIs (s .args .loads .now) (s .args .periods .now) (s .args .keeps .now) (s .args .i) (head .loop .q)
+    (c .before .found .given .0 .0) (c .before .found .given .0 .1 .0))
+within c = rw (c .before .found .given .1) at (c .before .before .before .window-of .ensures)
 
 -- what the step leaves
 stepping
     : (c : tie.After-step-at Inv-loop μ-loop)
-    → (let s = start (c .before .before .before .before .before) in
-    Stepping (s .args .loads .now) (s .args .periods .now) (s .args .keeps .now) (s .args .i) (s .args .jitter) (s .args .deadline)
-    (c .before .before .before .before .before .loop .q) (c .before .before .found .given .0 .0) (c .step-at .result))
+    → (let head = c .before .before .before .before .before in
+    let s = start head in
+    Stepping (s .args .loads .now) (s .args .periods .now) (s .args .keeps .now) (s .args .i) (s .args .jitter) (s .args .deadline) (head .loop .q)
+    (head .loop .evaluations + c .before .before .found .given .0 .1 .0) (c .step-at .result))
 stepping c =
-    walking-step _ _ _ _ _ _ (c .before .before .before .before .before .loop .inv .may) _ _ _ (c .before .before .before .before .before .loop .inv) _
-    (is-window (c .before)) _ (c .step-at .ensures)
+    let head = c .before .before .before .before .before in
+    walking-step _ _ _ _ _ _ (head .loop .inv .may) _ _ _ (head .loop .inv) _ _ (within (c .before)) _ (c .step-at .ensures)
 
 mul-period : tie.Need-mul-period Inv-loop μ-loop
 mul-period c = omega arith
@@ -42,11 +45,14 @@ mul-period c = omega arith
 shared-slice-read-period : tie.Need-shared-slice-read-period Inv-loop μ-loop
 shared-slice-read-period c = omega arith
 
-loop-holds : tie.Need-loop-holds Inv-loop μ-loop
-loop-holds c = walking-start _ _ _ _ _ _ (c .before .before .before .before .before .before .pre .0)
+once-each-requires : tie.Need-once-each-requires Inv-loop μ-loop
+once-each-requires c κs = c .before .before .before .before .before .before .pre .0 .columns .above
 
-window-from-requires : tie.Need-window-from-requires Inv-loop μ-loop
-window-from-requires c κs = (c .loop .inv .search, start c .pre .1)
+loop-holds : tie.Need-loop-holds Inv-loop μ-loop
+loop-holds c = walking-start _ _ _ _ _ _ (c .before .before .before .before .before .before .before .pre .0)
+
+window-of-requires : tie.Need-window-of-requires Inv-loop μ-loop
+window-of-requires c κs = (searched _ _ _ _ _ _ (c .loop .inv .may) _ _ _ (c .loop .inv) _ (c .before .once-each .ensures), start c .pre .1)
 
 enum-known-found : tie.Need-enum-known-found Inv-loop μ-loop
 enum-known-found c = search needs
@@ -56,18 +62,30 @@ enum-told c = search needs
 
 returns : tie.Need-returns Inv-loop μ-loop
 returns c =
-    walking-none _ _ _ _ _ _ (c .before .before .before .loop .inv .may) _ _ _ (c .before .before .before .loop .inv)
-    (ap windowIn (sym (c .enum-told .given .1)) ∙ c .before .before .window-from .ensures)
+    let head = c .before .before .before in
+    walking-none _ _ _ _ _ _ (head .loop .inv .may) _ _ _ (head .loop .inv) (rw (c .enum-told .given .1) at (c .before .before .window-of .ensures))
+
+add-evaluations : tie.Need-add-evaluations Inv-loop μ-loop
+add-evaluations c =
+    let head = c .before .before .before .before in
+    omega (arith, head .loop .inv .few, head .loop .inv .q-high, within c .small)
 
 step-at-requires : tie.Need-step-at-requires Inv-loop μ-loop
 step-at-requires c κs =
-    stepped _ _ _ _ _ _ (c .before .before .before .before .loop .inv .may) _ _ _ (c .before .before .before .before .loop .inv) _ (is-window c)
+    let head = c .before .before .before .before in
+    stepped _ _ _ _ _ _ (head .loop .inv .may) _ _ _ (head .loop .inv) _ _ (within c)
+
+enum-told-2 : tie.Need-enum-told-2 Inv-loop μ-loop
+enum-told-2 c = search needs
+
+returns-2 : tie.Need-returns-2 Inv-loop μ-loop
+returns-2 c = rw (c .enum-told2 .given .1) at (stepping (c .before .before))
 
 enum-known-seen : tie.Need-enum-known-seen Inv-loop μ-loop
 enum-known-seen c = search needs
 
-returns-2 : tie.Need-returns-2 Inv-loop μ-loop
-returns-2 c = rw (c .before .seen .given .1) at (stepping (c .before .before .before))
+returns-3 : tie.Need-returns-3 Inv-loop μ-loop
+returns-3 c = rw (c .before .seen .given .1) at (stepping (c .before .before .before))
 
 enum-known-seen-2 : tie.Need-enum-known-seen-2 Inv-loop μ-loop
 enum-known-seen-2 c = search needs
@@ -89,14 +107,18 @@ least-keep-spec =
     μ-loop
     mul-period
     shared-slice-read-period
+    once-each-requires
     loop-holds
-    window-from-requires
+    window-of-requires
     enum-known-found
     enum-told
     returns
+    add-evaluations
     step-at-requires
-    enum-known-seen
+    enum-told-2
     returns-2
+    enum-known-seen
+    returns-3
     enum-known-seen-2
     add-q
     loop-less

@@ -82,19 +82,19 @@ gap-requires c κs = search needs
 wide-requires-6 : tie.Need-wide-requires-6
 wide-requires-6 c κs = search needs
 
-sub-t21 : tie.Need-sub-t21
-sub-t21 c = search needs
+sub-t20 : tie.Need-sub-t20
+sub-t20 c = search needs
 
-cast-t22 : tie.Need-cast-t22
-cast-t22 c = search needs
+cast-t21 : tie.Need-cast-t21
+cast-t21 c = search needs
 
 returns-2 : tie.Need-returns-2
 returns-2 c =
     step-keep _ _ _ _ _ _ (omega arith) _ _ _ (next-is (c .before .before .before .before)) (kept (c .before .before .before)) (omega arith)
     (omega (arith, c .before .before .gap .ensures))
 
-cast-t19 : tie.Need-cast-t19
-cast-t19 c = search needs
+cast-t18 : tie.Need-cast-t18
+cast-t18 c = search needs
 
 returns-3 : tie.Need-returns-3
 returns-3 c =
@@ -122,8 +122,8 @@ step-at-spec =
     add-gap
     gap-requires
     wide-requires-6
-    sub-t21
-    cast-t22
+    sub-t20
+    cast-t21
     returns-2
-    cast-t19
+    cast-t18
     returns-3)

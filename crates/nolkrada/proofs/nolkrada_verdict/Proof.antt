@@ -23,35 +23,35 @@ slots-code-requires c κs = search needs
 enum-known-got-2 : tie.Need-enum-known-got-2
 enum-known-got-2 c = search needs
 
-cast-put-three : tie.Need-cast-put-three
-cast-put-three c = search needs
+cast-put-four : tie.Need-cast-put-four
+cast-put-four c = search needs
 
-put-three-requires : tie.Need-put-three-requires
-put-three-requires c κs = search needs
+put-four-requires : tie.Need-put-four-requires
+put-four-requires c κs = search needs
 
 enum-known-got-3 : tie.Need-enum-known-got-3
 enum-known-got-3 c = search needs
 
-cast-put-three-2 : tie.Need-cast-put-three-2
-cast-put-three-2 c = search needs
+cast-put-four-2 : tie.Need-cast-put-four-2
+cast-put-four-2 c = search needs
 
-cast-put-three-3 : tie.Need-cast-put-three-3
-cast-put-three-3 c = search needs
+cast-put-four-3 : tie.Need-cast-put-four-3
+cast-put-four-3 c = search needs
 
-put-three-requires-2 : tie.Need-put-three-requires-2
-put-three-requires-2 c κs = search needs
+put-four-requires-2 : tie.Need-put-four-requires-2
+put-four-requires-2 c κs = search needs
 
 enum-known-got-4 : tie.Need-enum-known-got-4
 enum-known-got-4 c = search needs
 
-cast-put-three-4 : tie.Need-cast-put-three-4
-cast-put-three-4 c = search needs
+cast-put-four-4 : tie.Need-cast-put-four-4
+cast-put-four-4 c = search needs
 
-cast-put-three-5 : tie.Need-cast-put-three-5
-cast-put-three-5 c = search needs
+cast-put-four-5 : tie.Need-cast-put-four-5
+cast-put-four-5 c = search needs
 
-put-three-requires-3 : tie.Need-put-three-requires-3
-put-three-requires-3 c κs = search needs
+put-four-requires-3 : tie.Need-put-four-requires-3
+put-four-requires-3 c κs = search needs
 
 returns : tie.Need-returns
 returns c =
@@ -70,7 +70,7 @@ returns-2 c =
     (sym (ap verdictIn (c .before .before .before .before .before .got2 .given .1)) ∙
     (rw (c .before .before .before .before .before .before .before .before .sheet-from .ensures) at
     (c .before .before .before .before .before .before .before .verdict .ensures)))
-    (c .before .before .put-three .ensures)
+    (c .before .before .put-four .ensures)
 
 same-length-2 : tie.Need-same-length-2
 same-length-2 c = search needs
@@ -82,7 +82,7 @@ returns-3 c =
     (sym (ap verdictIn (c .before .before .before .before .before .got3 .given .1)) ∙
     (rw (c .before .before .before .before .before .before .before .before .sheet-from .ensures) at
     (c .before .before .before .before .before .before .before .verdict .ensures)))
-    (c .before .before .put-three2 .ensures)
+    (c .before .before .put-four2 .ensures)
 
 same-length-3 : tie.Need-same-length-3
 same-length-3 c = search needs
@@ -94,7 +94,7 @@ returns-4 c =
     (sym (ap verdictIn (c .before .before .before .before .before .got4 .given .1)) ∙
     (rw (c .before .before .before .before .before .before .before .before .sheet-from .ensures) at
     (c .before .before .before .before .before .before .before .verdict .ensures)))
-    (c .before .before .put-three3 .ensures)
+    (c .before .before .put-four3 .ensures)
 
 pub nolkrada-verdict-spec : {M : Type 1} → statement M
 nolkrada-verdict-spec =
@@ -105,16 +105,16 @@ nolkrada-verdict-spec =
     enum-known-got
     slots-code-requires
     enum-known-got-2
-    cast-put-three
-    put-three-requires
+    cast-put-four
+    put-four-requires
     enum-known-got-3
-    cast-put-three-2
-    cast-put-three-3
-    put-three-requires-2
+    cast-put-four-2
+    cast-put-four-3
+    put-four-requires-2
     enum-known-got-4
-    cast-put-three-4
-    cast-put-three-5
-    put-three-requires-3
+    cast-put-four-4
+    cast-put-four-5
+    put-four-requires-3
     returns
     same-length
     returns-2

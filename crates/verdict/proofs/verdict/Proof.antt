@@ -10,7 +10,7 @@ use Rattle.model.proofs.OrderLaws.{answers, refuses}
 use Rattle.taskset.specs.TaskSet.{viewOf, refusalIn}
 use Rattle.demand.proofs.FlatColumnLaws.{factored}
 use Rattle.demand.proofs.TaskCallLaws.{Passed, passed-of}
-use Rattle.verdict.proofs.WalkableLaws.{walkable, above-periods, judged}
+use Rattle.verdict.proofs.WalkableLaws.{walkable, above-periods, flat-judged}
 use Rattle.verdict.proofs.verdict.Statement.{statement}
 use Rattle.verdict.proofs.verdict.Tie as tie
 
@@ -82,7 +82,7 @@ unfolding verdictCall
 returns-2 c =
     let told = copied (c .before) .before in
     c .walk .ensures
-    ∙ ap answered (judged _ _ _ _ _ (passed told) (copied (c .before) .columns-of .ensures))
+    ∙ ap answered (flat-judged _ _ _ _ _ (passed told) (copied (c .before) .columns-of .ensures))
     ∙ answers (taskInputs (viewOf (start told .args .t1)) (start told .args .task) (start told .args .kept .now)) _ (fine told)
 
 pub verdict-spec : {M : Type 1} → statement M

@@ -1,32 +1,35 @@
--- The walk over q with the search for W(q): the outer invariant says that no q so far has stopped it, the inner one that every t below is too short.
+-- The walk over q with the search for W(q): the outer invariant says that no q so far has stopped it and how many t were tried for them,
+-- the inner one that the search follows the list of t.
 use Prim.Native.Nat.{_+_, _-_, _*_, _≤_}
 use mathlib.Core.Path.{_≡_, ap, ap₂}
 use native.Mathlib.Omega.{arith}
-use lib.ListN.{getD}
+use lib.ListN.{length, getD}
 use Rattle.model.specs.Refusal.{answered}
 use Rattle.model.specs.Choice.{column}
+use Rattle.model.specs.Evaluations.{tried}
 use Rattle.response.proofs.WindowLaws.{Window}
 use Rattle.demand.specs.Columns.{flatTasks}
-use Rattle.demand.proofs.DemandLaws.{window-found, window-beyond}
-use Rattle.demand.specs.Searching.{Search}
-use Rattle.demand.proofs.WindowSearchLaws.{own-high, search-start, search-next, search-found}
-use Rattle.verdict.proofs.VerdictWalk.{Walk}
+use Rattle.demand.proofs.DemandLaws.{window-found}
+use Rattle.demand.proofs.WindowSearchLaws.{own-high, search-start, search-next, search-found, search-over, found-length, over-length}
+use Rattle.verdict.proofs.VerdictWalk.{Walk, Find}
 use Rattle.verdict.proofs.VerdictWalkLaws.{walk-start, says-horizon, says-late, says-fits, walk-on}
 use Rattle.verdict.proofs.WalkableLaws.{met-at}
 use Rattle.verdict.proofs.walk.Statement.{statement}
 use Rattle.verdict.proofs.walk.Tie as tie
 
 abbrev Inv-find : tie.InvT-find
-Inv-find loads periods highs lows keeps task jitter deadline cost period keep once best q own t₀ t = Search (flatTasks loads periods jitter deadline) (column keeps) task q t
+Inv-find loads periods highs lows keeps task jitter deadline cost period keep once best q evaluations₀ own t₀ evaluations t =
+    Find (flatTasks loads periods jitter deadline) (column keeps) task q evaluations₀ evaluations t
 
 abbrev μ-find : tie.MeasureT-find
-μ-find loads periods highs lows keeps task jitter deadline cost period keep once best q own t₀ t = 10000001 - t
+μ-find loads periods highs lows keeps task jitter deadline cost period keep once best q evaluations₀ own t₀ evaluations t = 10000001 - t
 
 abbrev Inv-walk : tie.InvT-walk
-Inv-walk loads periods highs lows keeps task jitter deadline cost period keep once best₀ q₀ best q = Walk (flatTasks loads periods jitter deadline) (column keeps) task q best
+Inv-walk loads periods highs lows keeps task jitter deadline cost period keep once best₀ q₀ evaluations₀ best q evaluations =
+    Walk (flatTasks loads periods jitter deadline) (column keeps) task q best evaluations
 
 abbrev μ-walk : tie.MeasureT-walk
-μ-walk loads periods highs lows keeps task jitter deadline cost period keep once best₀ q₀ best q = 10000001 - q
+μ-walk loads periods highs lows keeps task jitter deadline cost period keep once best₀ q₀ evaluations₀ best q evaluations = 10000001 - q
 
 -- the places that the answers look back to: where the function starts, where a turn of the walk starts, where the search has found W(q)
 abbrev entry : tie.At-walk Inv-find μ-find Inv-walk μ-walk → tie.Start Inv-find μ-find Inv-walk μ-walk
@@ -85,9 +88,16 @@ add-t : tie.Need-add-t Inv-find μ-find Inv-walk μ-walk
 add-t c = omega (arith, own-small c, c .before .before .before .once-each .ensures .high)
 
 find-holds : tie.Need-find-holds Inv-find μ-find Inv-walk μ-walk
-find-holds c =
-    search-start _ _ _ _ _ _ (entry (c .before .before) .pre .0 .search) _ _ (c .before .before .walk .inv .q-high) (own-is c) _
-    (c .before .before .before .once-each .ensures)
+find-holds c = record {
+  tries = 0;
+  counted = omega arith;
+  search =
+      search-start _ _ _ _ _ _ (entry (c .before .before) .pre .0 .search) _ _ (c .before .before .walk .inv .q-high) (own-is c) _
+      (c .before .before .before .once-each .ensures);
+}
+
+add-evaluations : tie.Need-add-evaluations Inv-find μ-find Inv-walk μ-walk
+add-evaluations c = omega (arith, c .find .inv .counted, c .find .inv .search .few, c .before .before .before .walk .inv .small, c .before .before .before .walk .inv .q-high)
 
 cast-above-load : tie.Need-cast-above-load Inv-find μ-find Inv-walk μ-walk
 cast-above-load c = omega arith
@@ -95,7 +105,7 @@ cast-above-load c = omega arith
 above-load-requires : tie.Need-above-load-requires Inv-find μ-find Inv-walk μ-walk
 above-load-requires c κs =
     let may = entry (c .before .before .before .before) .pre in
-    (may .0 .search .above, (may .1, record { low = c .before .find .inv .low; high = c .if1 .left }))
+    (may .0 .search .above, (may .1, record { low = omega (arith, c .before .find .inv .search .low); high = c .if1 .left }))
 
 add-d : tie.Need-add-d Inv-find μ-find Inv-walk μ-walk
 add-d c = omega (arith, own-small (c .before .before .before), c .above-load .ensures .high)
@@ -105,12 +115,19 @@ find-less c = omega arith
 
 find-again : tie.Need-find-again Inv-find μ-find Inv-walk μ-walk
 find-again c =
-    search-next _ _ _ _ _ _ (entry (c .before .before .before .before .before .before) .pre .0 .search) _ _
-    (c .before .before .before .before .before .before .walk .inv .q-high)
-    (own-is (c .before .before .before .before)) _ _
-    (c .before .above-load .ensures)
-    (c .before .before .before .find .inv)
-    (c .if2 .left)
+    let so-far = c .before .before .before .find .inv in
+    record {
+      tries = so-far .tries + 1;
+      counted = omega (arith, so-far .counted);
+      search =
+          search-next _ _ _ _ _ _ (entry (c .before .before .before .before .before .before) .pre .0 .search) _ _
+          (c .before .before .before .before .before .before .walk .inv .q-high)
+          (own-is (c .before .before .before .before)) _ _ _
+          (c .before .above-load .ensures)
+          (so-far .search)
+          (c .before .before .if1 .left)
+          (c .if2 .left);
+    }
 
 -- t is W(q)
 found : (c : tie.Then2 Inv-find μ-find Inv-walk μ-walk)
@@ -121,17 +138,38 @@ found : (c : tie.Then2 Inv-find μ-find Inv-walk μ-walk)
     (turn c .walk .q)
     (c .before .before .before .find .t)
 found c =
-    search-found _ _ _ _ _ _ (entry (turn c) .pre .0 .search) _ _ (turn c .walk .inv .q-high) (own-is (c .before .before .before .before)) _ _
+    search-found _ _ _ _ _ _ (entry (turn c) .pre .0 .search) _ _ (turn c .walk .inv .q-high) (own-is (c .before .before .before .before)) _ _ _
     (c .before .above-load .ensures)
-    (c .before .before .before .find .inv)
+    (c .before .before .before .find .inv .search)
     (c .before .before .if1 .left)
     (c .if2 .taken)
+
+-- its whole list has been counted
+counted : (c : tie.Then2 Inv-find μ-find Inv-walk μ-walk)
+    → c .before .before .before .find .evaluations + 1
+    ≡ turn c .walk .evaluations
+    + length
+    (tried
+    (flatTasks (entry (turn c) .args .loads .now) (entry (turn c) .args .periods .now) (entry (turn c) .args .jitter) (entry (turn c) .args .deadline))
+    (column (entry (turn c) .args .keeps .now))
+    (entry (turn c) .args .task)
+    (turn c .walk .q))
+counted c =
+    let so-far = c .before .before .before .find .inv in
+    omega (
+      arith,
+      so-far .counted,
+      found-length _ _ _ _ _ _ (entry (turn c) .pre .0 .search) _ _ (turn c .walk .inv .q-high) (own-is (c .before .before .before .before)) _ _ _
+          (c .before .above-load .ensures)
+          (so-far .search)
+          (c .if2 .taken),
+    )
 
 cast-response : tie.Need-cast-response Inv-find μ-find Inv-walk μ-walk
 cast-response c = omega arith
 
 response-requires : tie.Need-response-requires Inv-find μ-find Inv-walk μ-walk
-response-requires c κs = met-at _ _ _ _ _ _ _ _ _ (entry (turn c) .pre .0) (turn c .walk .inv) (found c)
+response-requires c κs = met-at _ _ _ _ _ _ _ _ _ _ (entry (turn c) .pre .0) (turn c .walk .inv) (found c)
 
 better-requires : tie.Need-better-requires Inv-find μ-find Inv-walk μ-walk
 better-requires c κs = tt
@@ -150,10 +188,13 @@ walk-less c = omega arith
 
 walk-again : tie.Need-walk-again Inv-find μ-find Inv-walk μ-walk
 walk-again c =
+    let found-at = c .before .before .before .before .before .before .before .before .find .inv in
     rw (c .before .before .better .ensures)
     (walk-on _ _ _ _ _ _ (window-found _ _ _ _ _ (found (c .before .before .before .before .before)))
-    (c .before .before .before .before .response .ensures .is) _
+    (c .before .before .before .before .response .ensures .is) _ _ _
     (turn (c .before .before .before .before .before) .walk .inv)
+    (counted (c .before .before .before .before .before))
+    (omega (arith, found-at .counted, found-at .search .few))
     (omega (arith, entry (turn (c .before .before .before .before .before)) .pre .0 .search .cost-low))
     (found (c .before .before .before .before .before))
     (c .before .before .before .before .response .ensures .low)
@@ -162,16 +203,21 @@ walk-again c =
 
 returns : tie.Need-returns Inv-find μ-find Inv-walk μ-walk
 returns c =
+    let turned = c .before .before .before .before in
+    let search = entry turned .pre .0 .search in
+    let so-far = c .before .find .inv in
     ap answered
-    (says-horizon _ _ _ _ _ (c .before .before .before .before .walk .inv)
-    (window-beyond _ _ _ _ _ (c .if1 .taken) (c .before .find .inv .short)))
+    (says-horizon _ _ _ _ _ _ (turned .walk .inv) _
+    (omega (arith, so-far .counted, over-length _ _ _ _ _ _ search _ _ _ (so-far .search) (c .if1 .taken)))
+    (search-over _ _ _ _ _ _ search _ _ _ (so-far .search) (c .if1 .taken)))
 
 returns-2 : tie.Need-returns-2 Inv-find μ-find Inv-walk μ-walk
 returns-2 c =
     ap answered
     (says-late _ _ _ _ _ _ (window-found _ _ _ _ _ (found (c .before .before)))
-    (c .before .response .ensures .is) _
+    (c .before .response .ensures .is) _ _ _
     (turn (c .before .before) .walk .inv)
+    (counted (c .before .before))
     (c .if3 .taken))
 
 returns-3 : tie.Need-returns-3 Inv-find μ-find Inv-walk μ-walk
@@ -179,8 +225,9 @@ returns-3 c =
     rw (c .before .before .better .ensures)
     (ap answered
     (says-fits _ _ _ _ _ _ (window-found _ _ _ _ _ (found (c .before .before .before .before .before)))
-    (c .before .before .before .before .response .ensures .is) _
+    (c .before .before .before .before .response .ensures .is) _ _ _
     (turn (c .before .before .before .before .before) .walk .inv)
+    (counted (c .before .before .before .before .before))
     (c .before .before .before .before .response .ensures .low)
     (c .before .before .before .if3 .left)
     (rw (c .before .gap .ensures) at (c .if4 .taken))))
@@ -207,6 +254,7 @@ walk-spec =
     mul-own
     add-t
     find-holds
+    add-evaluations
     cast-above-load
     above-load-requires
     add-d
