@@ -113,7 +113,8 @@ module _ (s : TaskSet) (loads periods : List ℕ) where
 
       -- a task that fits at no K
       pub choosing-unfit
-          : LeastOf loads periods keep i (viewOf s .jitter i) (viewOf s .deadline i) Unfit → ChoicesAre (viewOf s) (record { keep = keep; worst = worst; fitted = i; evaluations = n })
+          : LeastOf loads periods keep i (viewOf s .jitter i) (viewOf s .deadline i) Unfit
+          → ChoicesAre (viewOf s) (record { keep = keep; worst = worst; fitted = i; evaluations = n })
       choosing-unfit h = record {
         is =
             rw (choiceIn, lt-leb (s .count) i l) (sym (unfit-stays (viewOf s) i (suc i) (s .count) l (next-unfit (viewOf s) i _ _ (f .so-far) (h (viewOf s) flat-view))));
@@ -127,7 +128,9 @@ module _ (s : TaskSet) (loads periods : List ℕ) where
       }
 
       -- the evaluations with those of task i stay far below 64 bits
-      pub choosing-few : (K w q m : ℕ) → LeastOf loads periods keep i (viewOf s .jitter i) (viewOf s .deadline i) (Keep K w q m) → n + m ≤ (i + 1) * 100000020000001
+      pub choosing-few : (K w q m : ℕ)
+          → LeastOf loads periods keep i (viewOf s .jitter i) (viewOf s .deadline i) (Keep K w q m)
+          → n + m ≤ (i + 1) * 100000020000001
       choosing-few K w q m h = omega (arith, f .few, h (viewOf s) flat-view .small)
 
       -- a task with a least K

@@ -143,8 +143,12 @@ module _ (loads periods keeps : List ℕ) (i J D : ℕ) (may : Walkable loads pe
         -- the least K so far stops here
         keeps-it : N - D + w ≤ q * column periods i + column periods i → LeastOf loads periods keeps i J D (Keep (N - D) (min N D) q (n + m))
         keeps-it h s f = rw (← f .deadline-is) (record {
-          least = walk-keep s (take i keeps) i (windowAt loads periods keeps i) above-long (same s f) q high (g .walked s f) w (found .is) N (next-of s f) (under-of s f) stop;
-          worst = walk-worst s (take i keeps) i (windowAt loads periods keeps i) above-long (same s f) q high (g .walked s f) w (found .is) N (next-of s f) (under-of s f) stop;
+          least =
+              walk-keep s (take i keeps) i (windowAt loads periods keeps i) above-long (same s f) q high (g .walked s f) w (found .is) N
+              (next-of s f) (under-of s f) stop;
+          worst =
+              walk-worst s (take i keeps) i (windowAt loads periods keeps i) above-long (same s f) q high (g .walked s f) w (found .is) N
+              (next-of s f) (under-of s f) stop;
           last = taken-here;
           counted = evaluations-at s f (N - s .deadline i) q taken-here ∙ sym counted-next;
           small = omega (arith, few-next, g .q-high);

@@ -1,13 +1,12 @@
 -- The evaluations of a choice that succeeds are those of the verdicts at the chosen kept jitters.
-use Prim.Native.Nat.{ℕ, _≤_, _<_}
+use Prim.Native.Nat.{ℕ, _<_}
 use mathlib.Core.Path.{_≡_, sym, ap, _∙_}
 use mathlib.Core.Option.{none}
-use mathlib.Core.List.{List, map}
+use mathlib.Core.List.{List}
 use native.Mathlib.Omega.{arith}
-use lib.ListN.{getD, take}
+use lib.ListN.{getD}
 use lib.Seq.{getD-take}
 use lib.IntN.{ℤ, pos}
-use Rattle.model.specs.Series.{sum}
 use Rattle.model.specs.Tasks.{Tasks, Valid}
 use Rattle.model.specs.Verdict.{Verdict, fits}
 use Rattle.model.specs.Evaluations.{evaluations, Judged, judged}
@@ -21,8 +20,6 @@ use Rattle.model.proofs.CheckLaws.{valid-passes, kept-passes}
 use Rattle.model.proofs.OrderLaws.{answers}
 use Rattle.response.proofs.ChoiceLaws.{choice-length, choice-keeps, choice-fits}
 use Rattle.demand.proofs.TaskCallLaws.{call-kept}
-use Rattle.choice.specs.declared.Choices.{Choices}
-use Rattle.choice.specs.Choices.{ChoicesAre}
 use Rattle.choice.specs.Planned.{PlannedChoice}
 
 module _ (s : Tasks) (v : Valid s) (ks : List ℕ) (ws : List ℤ) (h : choice s ≡ chosen ks ws) where

@@ -1,5 +1,5 @@
 -- What the verdict of a task says where its walk stops, and the q that it takes.
-use Prim.Native.Nat.{ℕ, suc, _+_, _-_, _*_, _≤_, _<_}
+use Prim.Native.Nat.{ℕ, suc, _≤_, _<_}
 use mathlib.Core.Path.{_≡_, _∙_}
 use mathlib.Core.Bool.{true, false}
 use mathlib.Core.Option.{some, none}
@@ -81,6 +81,12 @@ module _ (s : Tasks) (k : ℕ → ℕ) (i : ℕ) where
   fits-at q w h f e l m = verdict-at q h f (stops-last q w e l m) ∙ rw (judge, e, l)
 
   -- the q that it takes
-  pub taken-at : (q w : ℕ) → q ≤ horizonTick → Passes q → window s k i q ≡ some w → isLate s k i q w ≡ false → isLast s k i q w ≡ true → taken s k i ≡ suc q
+  pub taken-at : (q w : ℕ)
+      → q ≤ horizonTick
+      → Passes q
+      → window s k i q ≡ some w
+      → isLate s k i q w ≡ false
+      → isLast s k i q w ≡ true
+      → taken s k i ≡ suc q
   unfolding taken
   taken-at q w h f e l m = rw (taken, first-stop q h f (stops-last q w e l m))

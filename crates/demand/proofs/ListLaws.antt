@@ -1,7 +1,7 @@
 -- Laws of the list of t for one q: every search for W(q) follows it.
 use Prim.Native.Nat.{ℕ, suc, _+_, _-_, _*_, _≤_, _<_}
-use mathlib.Core.Path.{_≡_, refl, sym, ap, _∙_}
-use mathlib.Core.Bool.{true, false, _||_, or-true}
+use mathlib.Core.Path.{_≡_, refl}
+use mathlib.Core.Bool.{true, false, or-true}
 use mathlib.Core.Logic.{_⊎_, inl, inr, dite}
 use mathlib.Core.Option.{some, none}
 use native.Mathlib.Omega.{arith}
@@ -20,7 +20,7 @@ use Rattle.model.proofs.SearchLaws.{first-is}
 use Rattle.model.proofs.SeriesLaws.{below-suc}
 use Rattle.model.proofs.TableLaws.{length-table}
 use Rattle.response.proofs.WindowLaws.{Window}
-use Rattle.demand.proofs.DemandLaws.{Periodic, demand-mono, demand-own, short-start, short-next, window-found, window-beyond}
+use Rattle.demand.proofs.DemandLaws.{Periodic, demand-mono, demand-own, short-start, short-next, window-beyond}
 use Rattle.demand.specs.Searching.{TooShort, Search}
 
 module _ (s : Tasks) (k : ℕ → ℕ) (i : ℕ) (p : Periodic s i) (e : 1 ≤ load s i) where

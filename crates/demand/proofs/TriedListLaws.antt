@@ -10,7 +10,7 @@ use lib.ListN.{length, getD}
 use Rattle.model.specs.Search.{first}
 use Rattle.model.specs.Series.{sum, table}
 use Rattle.model.specs.Limits.{horizonTick}
-use Rattle.model.specs.Tasks.{Tasks, Valid, load}
+use Rattle.model.specs.Tasks.{Tasks, load}
 use Rattle.model.specs.Arrival.{arrivals}
 use Rattle.model.specs.Demand.{aboveLoad, demand, window}
 use Rattle.model.specs.Verdict.{stops}

@@ -14,7 +14,8 @@ use Rattle.model.specs.Verdict.{verdict}
 use Rattle.model.specs.Choice.{Choice, unfit, chosen, andKeep, isFits, worstOf, leastKeep, choiceNext, choiceOf, choice}
 use Rattle.model.specs.Refusal.{Refusal, refuse, firstOf}
 use Rattle.model.specs.Checks.{inRange, entryFault, faultOf, faultAt, isFault, refuseAt, refuseIf, refuseBy, checkEntries, checkTasks}
-use Rattle.model.specs.Charge.{oldCheckTasks, UnchargedIsChecked, UnchargedIsCost, absorbed, AbsorbedIsValid, AbsorbedIsJudged, AbsorbedIsCounted, AbsorbedIsChosen}
+use Rattle.model.specs.Charge.{oldCheckTasks, UnchargedIsChecked, UnchargedIsCost}
+use Rattle.model.specs.Charge.{absorbed, AbsorbedIsValid, AbsorbedIsJudged, AbsorbedIsCounted, AbsorbedIsChosen}
 use Rattle.model.proofs.SearchLaws.{first-found}
 use Rattle.model.proofs.CheckLaws.{in-range-of, entry-outside, entry-fine}
 use Rattle.model.proofs.SameAnswers.{first-eq}

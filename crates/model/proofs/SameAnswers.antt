@@ -257,7 +257,8 @@ module _ (s s′ : Tasks) (same : SameTasks s s′) where
             answer-same (taskInputs s i kept) (taskInputs s′ i kept) _ _ (task-refusal i kept)
             (λ n. ap (λ P. arrivals P (column kept i) t) (same .period i (task-known i kept n)));
         verdict = λ i kept.
-            answer-same (taskInputs s i kept) (taskInputs s′ i kept) _ _ (task-refusal i kept) (λ n. judged-same s s′ (column kept) (column kept) i (task-same (column kept) i (task-known i kept n)));
+            answer-same (taskInputs s i kept) (taskInputs s′ i kept) _ _ (task-refusal i kept)
+            (λ n. judged-same s s′ (column kept) (column kept) i (task-same (column kept) i (task-known i kept n)));
         trace = λ n task tick cost.
             answer-same (listInputs s n task tick cost) (listInputs s′ n task tick cost) _ _
             (refusal-same none (some n) _ _ none (releasesOf n task tick cost) none none refl refl)

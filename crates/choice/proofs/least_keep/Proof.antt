@@ -1,11 +1,9 @@
 -- The loop's invariant is the walk: see `Walking`.
 use Prim.Native.Nat.{_+_, _-_}
-use mathlib.Core.Path.{_≡_}
-use mathlib.Core.Option.{none}
 use borrow.Author.Needs.{needs}
 use native.Mathlib.Omega.{arith}
 use Rattle.choice.specs.Choices.{WithinIs}
-use Rattle.choice.proofs.LeastLaws.{windowAt, Walking, Stepping, walking-start, searched, walking-none, stepped, walking-step}
+use Rattle.choice.proofs.LeastLaws.{Walking, Stepping, walking-start, searched, walking-none, stepped, walking-step}
 use Rattle.choice.proofs.least_keep.Statement.{statement}
 use Rattle.choice.proofs.least_keep.Tie as tie
 

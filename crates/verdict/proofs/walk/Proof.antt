@@ -97,7 +97,9 @@ find-holds c = record {
 }
 
 add-evaluations : tie.Need-add-evaluations Inv-find μ-find Inv-walk μ-walk
-add-evaluations c = omega (arith, c .find .inv .counted, c .find .inv .search .few, c .before .before .before .walk .inv .small, c .before .before .before .walk .inv .q-high)
+add-evaluations c =
+    let head = c .before .before .before .walk .inv in
+    omega (arith, c .find .inv .counted, c .find .inv .search .few, head .small, head .q-high)
 
 cast-above-load : tie.Need-cast-above-load Inv-find μ-find Inv-walk μ-walk
 cast-above-load c = omega arith
