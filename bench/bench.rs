@@ -15,9 +15,9 @@ mod same_method;
 mod sheets;
 mod timing;
 
-use generator::{legal_list_for, list_for, numbers_of, Random};
+use generator::{legal_list_for, list_for, numbers_of, Random, SHEET_NUMBERS};
 use reference::{Budget, Release, Sheet, Task, MAX_SHORT_TICK, MAX_TICK};
-use sheets::{charged, full_sheet, light_sheet, long_walk, longest, short_periods, CHARGE, LONGEST};
+use sheets::{charged, full_sheet, high_only_sheet, light_sheet, long_walk, longest, short_periods, CHARGE, LONGEST};
 use std::hint::black_box;
 use std::ops::Range;
 use timing::medians;
@@ -31,7 +31,7 @@ struct List {
 }
 
 fn busy_sheet() -> Sheet {
-    let tasks: Vec<Task> = (0..32).map(|i| Task { p: 400 + 10 * i, j: 100, e: 12, d: 1_000_000 }).collect();
+    let tasks: Vec<Task> = (0..32).map(|i| Task::high(400 + 10 * i, 100, 12, 1_000_000)).collect();
     Sheet::of(&tasks)
 }
 
@@ -62,7 +62,7 @@ fn legal_list_of(n: usize) -> List {
 
 /// n releases of 32 tasks, one in each tick and of cost 1: every tick up to the last finish is a stop.
 fn dense_list_of(n: u32) -> List {
-    let tasks: Vec<Task> = (0..32).map(|_| Task { p: 32, j: 0, e: 1, d: 1_000_000 }).collect();
+    let tasks: Vec<Task> = (0..32).map(|_| Task::high(32, 0, 1, 1_000_000)).collect();
     let all: Vec<Release> = (0..n).map(|p| Release { task: p % 32, tick: p as u64, cost: 1 }).collect();
     list_with(Sheet::of(&tasks), &all)
 }
@@ -79,6 +79,11 @@ fn long_list_of(n: usize) -> List {
 fn charged_list(list: List) -> List {
     let cost = list.cost.iter().map(|c| c.saturating_sub(CHARGE as u32).max(1)).collect();
     List { sheet: charged(&list.sheet), cost, ..list }
+}
+
+/// A list with every task low: each has one byte more in a file.
+fn low_list(list: List) -> List {
+    List { sheet: list.sheet.marked(&[true; 32]), ..list }
 }
 
 /// One release at the largest tick of kind 2: later ones take a ticking run minutes and days.
@@ -127,7 +132,7 @@ impl Searches {
         let counted = same_method::choice(&sheet.tasks, sheet.charge, &mut kept, &mut worst).ok();
         let times = time_choice(sheet);
         let (evaluations, over) = evaluations_of(sheet, &kept, 0..sheet.count);
-        assert_eq!(counted, Some(evaluations));
+        assert_eq!(counted, Some((false, evaluations)));
         self.add(name, &times, evaluations, over);
     }
     fn add(&mut self, name: &str, times: &[f64], evaluations: u64, over: u64) {
@@ -143,6 +148,16 @@ impl Searches {
             println!("| {} | {} | {} | {:.2} | {} |", name, evaluations, over, time, each);
         }
     }
+}
+
+/// A choice of the high tasks alone. The evaluations of the ordinary one before it are told by no verdict, so that it has no row among those.
+fn high_only_line(name: &str, sheet: &Sheet) {
+    let (mut kept, mut worst) = ([0u32; 32], [0u32; 32]);
+    let (high_only, evaluations) = same_method::choice(&sheet.tasks, sheet.charge, &mut kept, &mut worst).ok().unwrap();
+    let judged = (0..sheet.count).filter(|&i| !sheet.task(i).low);
+    let counted = judged.map(|i| evaluations_of(sheet, &kept, i..i + 1).0).sum::<u64>();
+    assert_eq!((high_only, evaluations), (true, counted));
+    line(name, &time_choice(sheet));
 }
 
 /// The evaluations of the archive's verdicts of some tasks, and how many tasks above they go over: each time those above the task.
@@ -182,12 +197,14 @@ fn time_choice(sheet: &Sheet) -> Vec<f64> {
     let count = sheet.count as u32;
     let (mut k, mut w) = ([0u32; 32], [0u32; 32]);
     let (mut k2, mut w2) = ([0u32; 32], [0u32; 32]);
-    assert_eq!(library::choice(&numbers, count, sheet.charge, &mut k, &mut w), 0);
-    assert!(same_method::choice(&sheet.tasks, sheet.charge, &mut k2, &mut w2).is_ok());
-    assert_eq!((k, w), (k2, w2));
+    let mut answer = [0u64; 1];
+    assert_eq!(library::choice(&numbers, count, sheet.charge, &mut k, &mut w, &mut answer), 0);
+    let (high_only, _) = same_method::choice(&sheet.tasks, sheet.charge, &mut k2, &mut w2).ok().unwrap();
+    assert_eq!((k, w, answer[0]), (k2, w2, high_only as u64));
     medians(&mut [
         &mut || {
-            black_box(library::choice(black_box(&numbers), count, sheet.charge, black_box(&mut k), black_box(&mut w)));
+            let lent = (black_box(&mut k), black_box(&mut w), black_box(&mut answer));
+            black_box(library::choice(black_box(&numbers), count, sheet.charge, lent.0, lent.1, lent.2));
         },
         &mut || {
             black_box(same_method::choice(black_box(&sheet.tasks), sheet.charge, black_box(&mut k2), black_box(&mut w2)).is_ok());
@@ -282,13 +299,14 @@ fn time_jump(l: &List) -> Vec<f64> {
 
 fn time_read(l: &List) -> Vec<f64> {
     let file = reference::write(&l.sheet, l.n() as usize, &l.reference(), 1 << 20).unwrap();
-    let (mut sheet, mut answer) = ([0u32; 128], [0u64; 3]);
+    let (mut sheet, mut answer) = ([0u32; SHEET_NUMBERS], [0u64; 3]);
     let (mut a, mut b, mut c) = (vec![0u32; 1024], vec![0u64; 1024], vec![0u32; 1024]);
     let (mut d, mut e, mut f) = (vec![0u32; 1024], vec![0u64; 1024], vec![0u32; 1024]);
-    let mut tasks = [Task { p: 0, j: 0, e: 0, d: 0 }; 32];
+    let mut tasks = [Task::high(0, 0, 0, 0); 32];
     assert_eq!(library::read(&file, &mut sheet, &mut a, &mut b, &mut c, &mut answer), 0);
     assert_eq!(same_method::read(&file, &mut tasks, &mut d, &mut e, &mut f).unwrap(), (32, l.task.len(), l.sheet.charge));
     assert_eq!((&a, &b, &c, answer[2]), (&d, &e, &f, l.sheet.charge as u64));
+    assert_eq!(sheet.to_vec(), numbers_of(&Sheet::of(&tasks)));
     medians(&mut [
         &mut || {
             black_box(library::read(black_box(&file), black_box(&mut sheet), &mut a, &mut b, &mut c, &mut answer));
@@ -304,7 +322,7 @@ fn time_read(l: &List) -> Vec<f64> {
 
 fn time_write(l: &List) -> Vec<f64> {
     let numbers = numbers_of(&l.sheet);
-    let size = reference::bytes_needed(l.sheet.charge, 32, &l.tick);
+    let size = reference::bytes_needed(&l.sheet, 32, &l.tick);
     let (mut a, mut b, mut answer) = (vec![0u8; size], vec![0u8; size], [0u64; 1]);
     assert_eq!(library::write(&numbers, 32, l.sheet.charge, l.n(), l.library(), &mut a, &mut answer), 0);
     assert!(same_method::write(&l.sheet.tasks, l.sheet.charge, l.n() as usize, l.same(), &mut b).is_ok());
@@ -333,8 +351,8 @@ fn long_number() -> Vec<u8> {
 }
 
 fn time_load(text: &[u8]) -> Vec<f64> {
-    let (mut sheet, mut answer) = ([0u32; 128], [0u64; 1]);
-    let mut tasks = [Task { p: 0, j: 0, e: 0, d: 0 }; 32];
+    let (mut sheet, mut answer) = ([0u32; SHEET_NUMBERS], [0u64; 1]);
+    let mut tasks = [Task::high(0, 0, 0, 0); 32];
     let code = library::load(text, &mut sheet, &mut answer);
     match same_method::load(text, &mut tasks) {
         Ok(n) => assert_eq!((code, answer[0]), (0, n as u64)),
@@ -382,6 +400,8 @@ fn full_size(searches: &mut Searches) {
     let with_charge = charged(&full);
     searches.verdict("verdict of task 31 of 32, with a charge", &with_charge, &full_kept, 31);
     searches.choice("choice of 32 tasks, with a charge", &with_charge);
+    high_only_line("choice of 32 tasks, high only", &high_only_sheet(false));
+    high_only_line("choice of 32 tasks, high only, 16 of them", &high_only_sheet(true));
     line("trace check of 1,024 releases", &time_trace(&legal_list_of(1024)));
     let list = list_of(1024);
     line("ready ticks of 1,024 releases", &time_ready(&list));
@@ -404,6 +424,15 @@ fn full_size(searches: &mut Searches) {
     let with_charge = charged_list(long);
     line("read of 14,883 bytes, with a charge", &time_read(&with_charge));
     line("write of 14,883 bytes, with a charge", &time_write(&with_charge));
+    let low = low_list(with_charge);
+    line("read of 14,915 bytes, 32 low tasks", &time_read(&low));
+    line("write of 14,915 bytes, 32 low tasks", &time_write(&low));
+    let tasks = list_of(0);
+    line("read of 545 bytes, 32 high tasks alone", &time_read(&tasks));
+    line("write of 545 bytes, 32 high tasks alone", &time_write(&tasks));
+    let tasks = low_list(tasks);
+    line("read of 577 bytes, 32 low tasks alone", &time_read(&tasks));
+    line("write of 577 bytes, 32 low tasks alone", &time_write(&tasks));
     line("load of a text of 1,024 bytes", &time_load(&longest_text()));
     line("load of one line of 1,000,000 digits", &time_load(&long_number()));
 }

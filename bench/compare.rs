@@ -1,5 +1,7 @@
-//! Times verdict and choice of this archive and of an earlier one, whose functions were renamed, in one run. Both must give the same, but
-//! for the evaluations of a verdict where the earlier one has none.
+//! Times verdict, choice, read and write of this archive and of an earlier one, whose functions were renamed, in one run. Each has its own
+//! declarations and its own rows of a sheet. Both must give the same, but for what only this one has: the marks, all of which are high, which
+//! of the two choices it is, and the evaluations of a verdict where the earlier one has none.
+//! With `four_numbers` the earlier one is of before R-9: a task has four numbers in a row, and a choice no answer.
 
 #[path = "../tests/outside/generator.rs"]
 #[allow(dead_code)]
@@ -11,45 +13,153 @@ mod reference;
 mod sheets;
 mod timing;
 
-use generator::numbers_of;
-use reference::Sheet;
+use generator::{list_for, numbers_of, Random, SHEET_NUMBERS, TASK_NUMBERS};
+use reference::{encode, Release, Sheet, Task, MAX_TICK};
 use sheets::{full_sheet, light_sheet, long_walk, longest, short_periods, LONGEST};
 use std::hint::black_box;
 use timing::medians;
 
-type Verdict = unsafe extern "C" fn(*const u32, usize, u32, u8, u32, *const u32, usize, *mut u64, usize) -> u64;
-type Choice = unsafe extern "C" fn(*const u32, usize, u32, u8, *mut u32, usize, *mut u32, usize) -> u64;
-
-/// The two calls of an archive, as include/nolkrada.h declares them.
+/// The calls of an archive that take the same in each: those of this one are declared in include/nolkrada.h.
 macro_rules! archive {
-    ($verdict:ident, $choice:ident) => {
+    ($verdict:ident, $read:ident, $write:ident) => {
         extern "C" {
             fn $verdict(_: *const u32, _: usize, _: u32, _: u8, _: u32, _: *const u32, _: usize, _: *mut u64, _: usize) -> u64;
-            fn $choice(_: *const u32, _: usize, _: u32, _: u8, _: *mut u32, _: usize, _: *mut u32, _: usize) -> u64;
+            fn $read(
+                _: *const u8, _: usize, _: *mut u32, _: usize, _: *mut u32, _: usize, _: *mut u64, _: usize, _: *mut u32, _: usize,
+                _: *mut u64, _: usize,
+            ) -> u64;
+            fn $write(
+                _: *const u32, _: usize, _: u32, _: u8, _: u32, _: *const u32, _: usize, _: *const u64, _: usize, _: *const u32,
+                _: usize, _: *mut u8, _: usize, _: *mut u64, _: usize,
+            ) -> u64;
         }
     };
 }
 
-archive!(nolkrada_verdict, nolkrada_choice);
-archive!(earlier_verdict, earlier_choice);
+archive!(nolkrada_verdict, nolkrada_read, nolkrada_write);
+archive!(earlier_verdict, earlier_read, earlier_write);
+
+extern "C" {
+    fn nolkrada_choice(
+        _: *const u32, _: usize, _: u32, _: u8, _: *mut u32, _: usize, _: *mut u32, _: usize, _: *mut u64, _: usize,
+    ) -> u64;
+    #[cfg(four_numbers)]
+    fn earlier_choice(_: *const u32, _: usize, _: u32, _: u8, _: *mut u32, _: usize, _: *mut u32, _: usize) -> u64;
+    #[cfg(not(four_numbers))]
+    fn earlier_choice(
+        _: *const u32, _: usize, _: u32, _: u8, _: *mut u32, _: usize, _: *mut u32, _: usize, _: *mut u64, _: usize,
+    ) -> u64;
+}
+
+/// How many numbers of each task the earlier archive takes, and how many of a sheet it writes.
+const EARLIER_NUMBERS: usize = if cfg!(four_numbers) { 4 } else { TASK_NUMBERS };
+const EARLIER_SHEET: usize = 32 * EARLIER_NUMBERS;
 
 /// The words lent for a verdict. An archive of before R-8 answers in three of them and leaves the last one.
 const WORDS: usize = 4;
 const LEFT: u64 = u64::MAX;
 
-/// Code and answer.
-fn verdict(f: Verdict, numbers: &[u32], sheet: &Sheet, task: u32, kept: &[u32]) -> (u64, [u64; WORDS]) {
-    let mut a = [LEFT; WORDS];
-    let (count, lent) = (sheet.count as u32, a.as_mut_ptr());
-    let code = unsafe { f(numbers.as_ptr(), numbers.len(), count, sheet.charge, task, kept.as_ptr(), kept.len(), lent, WORDS) };
-    (code, a)
+#[derive(Clone, Copy)]
+enum Archive {
+    Earlier,
+    Now,
 }
 
-/// Code, kept jitters and largest R.
-fn choice(f: Choice, numbers: &[u32], sheet: &Sheet) -> (u64, [u32; 32], [u32; 32]) {
-    let (mut k, mut w) = ([0u32; 32], [0u32; 32]);
-    let code = unsafe { f(numbers.as_ptr(), numbers.len(), sheet.count as u32, sheet.charge, k.as_mut_ptr(), 32, w.as_mut_ptr(), 32) };
-    (code, k, w)
+use Archive::{Earlier, Now};
+
+impl Archive {
+    /// A sheet as this archive takes it.
+    fn numbers(self, sheet: &Sheet) -> Vec<u32> {
+        let width = match self {
+            Earlier => EARLIER_NUMBERS,
+            Now => TASK_NUMBERS,
+        };
+        numbers_of(sheet).chunks(TASK_NUMBERS).flat_map(|row| row[..width].to_vec()).collect()
+    }
+
+    /// Code and answer.
+    fn verdict(self, numbers: &[u32], sheet: &Sheet, task: u32, kept: &[u32]) -> (u64, [u64; WORDS]) {
+        let mut a = [LEFT; WORDS];
+        let (rows, length, count, charge) = (numbers.as_ptr(), numbers.len(), sheet.count as u32, sheet.charge);
+        let code = unsafe {
+            match self {
+                Earlier => earlier_verdict(rows, length, count, charge, task, kept.as_ptr(), kept.len(), a.as_mut_ptr(), WORDS),
+                Now => nolkrada_verdict(rows, length, count, charge, task, kept.as_ptr(), kept.len(), a.as_mut_ptr(), WORDS),
+            }
+        };
+        (code, a)
+    }
+
+    /// Code, kept jitters and largest R. No task is low, so that the choice is the ordinary one.
+    fn choice(self, numbers: &[u32], sheet: &Sheet) -> (u64, [u32; 32], [u32; 32]) {
+        let (mut k, mut w) = ([0u32; 32], [0u32; 32]);
+        let (rows, length, count, charge) = (numbers.as_ptr(), numbers.len(), sheet.count as u32, sheet.charge);
+        let mut which = [0u64; 1];
+        let code = unsafe {
+            match self {
+                #[cfg(four_numbers)]
+                Earlier => earlier_choice(rows, length, count, charge, k.as_mut_ptr(), 32, w.as_mut_ptr(), 32),
+                #[cfg(not(four_numbers))]
+                Earlier => earlier_choice(rows, length, count, charge, k.as_mut_ptr(), 32, w.as_mut_ptr(), 32, which.as_mut_ptr(), 1),
+                Now => nolkrada_choice(rows, length, count, charge, k.as_mut_ptr(), 32, w.as_mut_ptr(), 32, which.as_mut_ptr(), 1),
+            }
+        };
+        assert_eq!(which, [0]);
+        (code, k, w)
+    }
+
+    /// Code, counts and charge, into these columns.
+    fn read(self, file: &[u8], to: &mut Columns) -> (u64, [u64; 3]) {
+        let mut a = [0u64; 3];
+        let (bytes, length) = (file.as_ptr(), file.len());
+        let (sheet, task, tick, cost) = (to.sheet.as_mut_ptr(), to.task.as_mut_ptr(), to.tick.as_mut_ptr(), to.cost.as_mut_ptr());
+        let code = unsafe {
+            match self {
+                Earlier => {
+                    earlier_read(bytes, length, sheet, EARLIER_SHEET, task, 1024, tick, 1024, cost, 1024, a.as_mut_ptr(), 3)
+                }
+                Now => nolkrada_read(bytes, length, sheet, SHEET_NUMBERS, task, 1024, tick, 1024, cost, 1024, a.as_mut_ptr(), 3),
+            }
+        };
+        (code, a)
+    }
+
+    /// Code and number of bytes, from these columns.
+    fn write(self, numbers: &[u32], sheet: &Sheet, from: &Columns, out: &mut [u8]) -> (u64, u64) {
+        let mut a = [0u64; 1];
+        let (rows, length, count, charge, n) = (numbers.as_ptr(), numbers.len(), sheet.count as u32, sheet.charge, from.n as u32);
+        let (task, tick, cost) = (from.task.as_ptr(), from.tick.as_ptr(), from.cost.as_ptr());
+        let (bytes, room) = (out.as_mut_ptr(), out.len());
+        let code = unsafe {
+            match self {
+                Earlier => {
+                    earlier_write(rows, length, count, charge, n, task, 1024, tick, 1024, cost, 1024, bytes, room, a.as_mut_ptr(), 1)
+                }
+                Now => nolkrada_write(rows, length, count, charge, n, task, 1024, tick, 1024, cost, 1024, bytes, room, a.as_mut_ptr(), 1),
+            }
+        };
+        (code, a[0])
+    }
+}
+
+/// What a read fills and a write takes: a sheet, and n releases.
+#[derive(Clone, PartialEq, Debug)]
+struct Columns {
+    sheet: Vec<u32>,
+    n: usize,
+    task: Vec<u32>,
+    tick: Vec<u64>,
+    cost: Vec<u32>,
+}
+
+impl Columns {
+    fn of(list: &[Release]) -> Columns {
+        let mut all = Columns { sheet: vec![0; SHEET_NUMBERS], n: list.len(), task: vec![0; 1024], tick: vec![0; 1024], cost: vec![0; 1024] };
+        for (p, x) in list.iter().enumerate() {
+            (all.task[p], all.tick[p], all.cost[p]) = (x.task, x.tick, x.cost);
+        }
+        all
+    }
 }
 
 fn line(name: &str, t: &[f64]) {
@@ -57,21 +167,63 @@ fn line(name: &str, t: &[f64]) {
 }
 
 fn compare_verdict(name: &str, sheet: &Sheet, kept: &[u32], task: u32) {
-    let numbers = numbers_of(sheet);
-    let call = |f: Verdict| verdict(f, black_box(&numbers), sheet, task, black_box(kept));
-    let (earlier, mut now) = (call(earlier_verdict), call(nolkrada_verdict));
+    let (old, new) = (Earlier.numbers(sheet), Now.numbers(sheet));
+    let before = || Earlier.verdict(black_box(&old), sheet, task, black_box(kept));
+    let after = || Now.verdict(black_box(&new), sheet, task, black_box(kept));
+    let (earlier, mut now) = (before(), after());
     if earlier.1[WORDS - 1] == LEFT {
         now.1[WORDS - 1] = LEFT;
     }
     assert_eq!(earlier, now);
-    line(name, &medians(&mut [&mut || { black_box(call(earlier_verdict)); }, &mut || { black_box(call(nolkrada_verdict)); }]));
+    line(name, &medians(&mut [&mut || { black_box(before()); }, &mut || { black_box(after()); }]));
 }
 
 fn compare_choice(name: &str, sheet: &Sheet) {
-    let numbers = numbers_of(sheet);
-    let call = |f: Choice| choice(f, black_box(&numbers), sheet);
-    assert_eq!(call(earlier_choice), call(nolkrada_choice));
-    line(name, &medians(&mut [&mut || { black_box(call(earlier_choice)); }, &mut || { black_box(call(nolkrada_choice)); }]));
+    let (old, new) = (Earlier.numbers(sheet), Now.numbers(sheet));
+    let before = || Earlier.choice(black_box(&old), sheet);
+    let after = || Now.choice(black_box(&new), sheet);
+    assert_eq!(before(), after());
+    line(name, &medians(&mut [&mut || { black_box(before()); }, &mut || { black_box(after()); }]));
+}
+
+/// A read and a write of a file of high tasks.
+fn compare_file(name: &str, sheet: &Sheet, list: &[Release]) {
+    let file = encode(sheet, list);
+    let (mut a, mut b) = (Columns::of(&[]), Columns::of(&[]));
+    assert_eq!(Earlier.read(&file, &mut a), Now.read(&file, &mut b));
+    assert_eq!((&a.task, &a.tick, &a.cost), (&b.task, &b.tick, &b.cost));
+    assert_eq!((&a.sheet[..EARLIER_SHEET], &b.sheet), (&padded(Earlier, sheet)[..EARLIER_SHEET], &padded(Now, sheet)));
+    let times = medians(&mut [
+        &mut || { black_box(Earlier.read(black_box(&file), &mut a)); },
+        &mut || { black_box(Now.read(black_box(&file), &mut b)); },
+    ]);
+    line(&format!("read of {name}"), &times);
+    let (old, new, from) = (Earlier.numbers(sheet), Now.numbers(sheet), Columns::of(list));
+    let (mut c, mut d) = (vec![0; file.len()], vec![0; file.len()]);
+    let written = (0, file.len() as u64);
+    assert_eq!((Earlier.write(&old, sheet, &from, &mut c), Now.write(&new, sheet, &from, &mut d)), (written, written));
+    assert_eq!((&c, &d), (&file, &file));
+    let times = medians(&mut [
+        &mut || { black_box(Earlier.write(black_box(&old), sheet, &from, &mut c)); },
+        &mut || { black_box(Now.write(black_box(&new), sheet, &from, &mut d)); },
+    ]);
+    line(&format!("write of {name}"), &times);
+}
+
+/// The rows of a sheet that an archive writes: entries past the count are 0.
+fn padded(archive: Archive, sheet: &Sheet) -> Vec<u32> {
+    let mut numbers = archive.numbers(sheet);
+    numbers.resize(SHEET_NUMBERS, 0);
+    numbers
+}
+
+/// 32 tasks and n releases, the first of which has this tick.
+fn file_of(n: usize, first: u64) -> (Sheet, Vec<Release>) {
+    let tasks: Vec<Task> = (0..32).map(|i| Task::high(400 + 10 * i, 100, 12, 1_000_000)).collect();
+    let sheet = Sheet::of(&tasks);
+    let list = list_for(&mut Random::seeded(7), &sheet, n, 28);
+    let list = list.iter().map(|x| Release { tick: x.tick + first, ..*x }).collect();
+    (sheet, list)
 }
 
 fn main() {
@@ -97,5 +249,9 @@ fn main() {
         let sheet = full_sheet(n);
         compare_verdict(&format!("verdict of the lowest of {}", n), &sheet, &quarter(&sheet), n - 1);
         compare_choice(&format!("choice of {}", n), &sheet);
+    }
+    for (name, n, first) in [("32 tasks", 0, 0), ("10,785 bytes", 1024, 0), ("14,881 bytes", 1024, MAX_TICK - 100_000)] {
+        let (sheet, list) = file_of(n, first);
+        compare_file(name, &sheet, &list);
     }
 }

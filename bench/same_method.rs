@@ -1,6 +1,7 @@
-//! The calls in plain Rust with the methods of the library: the search for W(q) by the list of R-8, one walk over q for the choice, a
-//! shaper of two numbers for each task, a run tick by tick with one queue for each task, a run from one start or finish to the
-//! next, a reader in two passes, a writer in one, a loader that looks once at each byte.
+//! The calls in plain Rust with the methods of the library: the search for W(q) by the list of R-8, one walk over q for the choice, which
+//! is made anew for the high tasks alone where it does not succeed, a shaper of two numbers for each task, a run tick by tick with one
+//! queue for each task, a run from one start or finish to the next, a reader in two passes, a writer in one, a loader that looks once at
+//! each byte.
 //! Each makes the checks of its call. Used as the measure of the archive's speed.
 
 use crate::reference::{Refusal, Task, HORIZON, MAX_RELEASES, MAX_SHORT_TICK, MAX_TASKS, MAX_TICK, MAX_TIME};
@@ -203,26 +204,54 @@ fn least_keep(f: &Flat, kept: &[u32], i: usize, t: &Task) -> Option<(u32, u32, u
     }
 }
 
-/// The choice; returns its evaluations.
-pub fn choice(tasks: &[Task], charge: u8, kept: &mut [u32], worst: &mut [u32]) -> Result<u64, Refusal> {
+/// What one of the two choices finds: kept jitters and largest R, which are 0 of a task that is not judged, its evaluations, and the first
+/// task that fits at no K, if there is one. The evaluations for that task are not counted.
+struct Pass {
+    keeps: [u32; 32],
+    worsts: [u32; 32],
+    evaluations: u64,
+    unfit: Option<usize>,
+}
+
+/// The choice of all tasks, or of the high ones alone.
+fn pass(tasks: &[Task], f: &Flat, high_only: bool) -> Pass {
+    let mut p = Pass { keeps: [0; 32], worsts: [0; 32], evaluations: 0, unfit: None };
+    for (i, t) in tasks.iter().enumerate() {
+        if high_only && t.low {
+            continue;
+        }
+        match least_keep(f, &p.keeps, i, t) {
+            None => {
+                p.unfit = Some(i);
+                return p;
+            }
+            Some((k, w, n)) => {
+                (p.keeps[i], p.worsts[i]) = (k, w);
+                p.evaluations += n;
+            }
+        }
+    }
+    p
+}
+
+/// The choice; returns whether it is that of the high tasks alone, and its evaluations without those of an ordinary one before it.
+pub fn choice(tasks: &[Task], charge: u8, kept: &mut [u32], worst: &mut [u32]) -> Result<(bool, u64), Refusal> {
     check_sheet(tasks, charge)?;
     check_slots(kept.len(), tasks.len())?;
     check_slots(worst.len(), tasks.len())?;
     let f = flat(tasks, charge, tasks.len());
-    let (mut keeps, mut worsts, mut evaluations) = ([0u32; 32], [0u32; 32], 0);
-    for (i, t) in tasks.iter().enumerate() {
-        match least_keep(&f, &keeps, i, t) {
-            None => return refuse(15, i),
-            Some((k, w, n)) => {
-                keeps[i] = k;
-                worsts[i] = w;
-                evaluations += n;
-            }
-        }
+    let mut p = pass(tasks, &f, false);
+    // without a low task both are the same
+    let high_only = p.unfit.is_some() && tasks.iter().any(|t| t.low);
+    if high_only {
+        p = pass(tasks, &f, true);
     }
-    kept[..tasks.len()].copy_from_slice(&keeps[..tasks.len()]);
-    worst[..tasks.len()].copy_from_slice(&worsts[..tasks.len()]);
-    Ok(evaluations)
+    if let Some(i) = p.unfit {
+        return refuse(15, i);
+    }
+    kept[..tasks.len()].copy_from_slice(&p.keeps[..tasks.len()]);
+    worst[..tasks.len()].copy_from_slice(&p.worsts[..tasks.len()]);
+    Ok((high_only, p.evaluations))
 }
 
 // ---- Ready ticks and run -----------------------------------------------------------------------------------------------
@@ -379,10 +408,18 @@ pub fn jump(
 
 // ---- Files -------------------------------------------------------------------------------------------------------------
 
-/// Bytes of a charge, and of a release of kind 2 and of kind 4.
+/// Bytes of a high and of a low task, of a charge, and of a release of kind 2 and of kind 4.
+const HIGH: usize = 17;
+const LOW: usize = 18;
 const CHARGE: usize = 2;
 const SHORT: usize = 10;
 const LONG: usize = 14;
+
+/// The bytes of a charge and of tasks.
+fn sheet_size(tasks: &[Task], charge: u8) -> usize {
+    let head = if charge > 0 { CHARGE } else { 0 };
+    head + tasks.iter().map(|t| if t.low { LOW } else { HIGH }).sum::<usize>()
+}
 
 pub fn write(tasks: &[Task], charge: u8, n: usize, list: Columns, out: &mut [u8]) -> Result<usize, Refusal> {
     check_sheet(tasks, charge)?;
@@ -390,20 +427,25 @@ pub fn write(tasks: &[Task], charge: u8, n: usize, list: Columns, out: &mut [u8]
         return refuse(10, MAX_RELEASES);
     }
     check_columns(n, list)?;
-    let mut at = if charge > 0 { CHARGE } else { 0 };
     let list_size = list.tick[..n].iter().map(|&t| if t <= MAX_SHORT_TICK { SHORT } else { LONG }).sum::<usize>();
-    let size = at + 17 * tasks.len() + list_size + 1;
+    let size = sheet_size(tasks, charge) + list_size + 1;
     check_slots(out.len(), size)?;
     check_list(tasks, n, list)?;
+    let mut at = 0;
     if charge > 0 {
         (out[0], out[1]) = (5, charge);
+        at = CHARGE;
     }
     for t in tasks {
-        out[at] = 1;
+        out[at] = if t.low { 6 } else { 1 };
         for (k, x) in [t.p, t.j, t.e, t.d].iter().enumerate() {
             out[at + 1 + 4 * k..at + 5 + 4 * k].copy_from_slice(&x.to_le_bytes());
         }
-        at += 17;
+        at += HIGH;
+        if t.low {
+            out[at] = 0;
+            at += 1;
+        }
     }
     for p in 0..n {
         let (tick, cost) = (list.tick[p].to_le_bytes(), list.cost[p].to_le_bytes());
@@ -438,7 +480,7 @@ fn number_at(file: &[u8], at: usize) -> u32 {
 }
 
 fn task_at(file: &[u8], at: usize) -> Task {
-    Task { p: number_at(file, at), j: number_at(file, at + 4), e: number_at(file, at + 8), d: number_at(file, at + 12) }
+    Task::high(number_at(file, at), number_at(file, at + 4), number_at(file, at + 8), number_at(file, at + 12))
 }
 
 /// Kind and size of the record at an offset: refused with 1 for another kind, with 2 where the file ends in it or before it.
@@ -447,11 +489,12 @@ fn record_at(file: &[u8], at: usize) -> Result<(u8, usize), Refusal> {
         return refuse(2, at);
     };
     let size = match kind {
-        1 => 17,
+        1 => HIGH,
         2 => SHORT,
         3 => 1,
         4 => LONG,
         5 => CHARGE,
+        6 => LOW,
         _ => return refuse(1, at),
     };
     if file.len() - at < size {
@@ -476,18 +519,21 @@ fn long_at(file: &[u8], at: usize) -> (u32, u64, u32) {
 
 /// Checks a whole file, record by record.
 fn scan(file: &[u8]) -> Result<Scanned, Refusal> {
-    let mut tasks = [Task { p: 0, j: 0, e: 0, d: 0 }; 32];
+    let mut tasks = [Task::high(0, 0, 0, 0); 32];
     let (mut charge, mut count, mut releases, mut at, mut before) = (0, 0, 0, 0, 0);
     loop {
         let (kind, size) = record_at(file, at)?;
         match kind {
-            1 => {
-                let t = task_at(file, at + 1);
+            1 | 6 => {
+                let t = task_at(file, at + 1).marked(kind == 6);
                 if releases > 0 {
                     return refuse(3, at);
                 }
                 if count == MAX_TASKS {
                     return refuse(4, at);
+                }
+                if t.low && file[at + 17] != 0 {
+                    return refuse(6, at);
                 }
                 if let Some(number) = task_fault(&t, charge) {
                     return refuse(number, at);
@@ -546,7 +592,7 @@ pub fn read(
     }
     *sheet = s.tasks;
     let (task, tick, cost) = (&mut task[..n], &mut tick[..n], &mut cost[..n]);
-    let mut at = if s.charge > 0 { CHARGE } else { 0 } + 17 * s.count;
+    let mut at = sheet_size(&s.tasks[..s.count], s.charge);
     for p in 0..n {
         if file[at] == 2 {
             (task[p], tick[p], cost[p]) = short_at(file, at);
@@ -574,7 +620,7 @@ pub struct Loading {
 
 impl Loading {
     pub fn start() -> Loading {
-        Loading { tasks: [Task { p: 0, j: 0, e: 0, d: 0 }; 32], count: 0, before: [0; 3], commas: 0, digit: false, value: 0 }
+        Loading { tasks: [Task::high(0, 0, 0, 0); 32], count: 0, before: [0; 3], commas: 0, digit: false, value: 0 }
     }
 
     /// One byte more. What cannot stand here is 16; a digit cannot after a first zero.
@@ -600,7 +646,7 @@ impl Loading {
     /// A line of the form is there.
     fn line(&mut self) -> Checked {
         let [p, j, e] = self.before;
-        let t = Task { p, j, e, d: self.value };
+        let t = Task::high(p, j, e, self.value);
         if self.count == MAX_TASKS {
             return refuse(4, self.count);
         }

@@ -7,7 +7,7 @@ pub fn full_sheet(n: u32) -> Sheet {
     let tasks: Vec<Task> = (0..n)
         .map(|i| {
             let p = 3_000 + 211 * ((i * 7) % 32);
-            Task { p, j: p / 2, e: p * 95 / (100 * n), d: 1_000_000 }
+            Task::high(p, p / 2, p * 95 / (100 * n), 1_000_000)
         })
         .collect();
     Sheet::of(&tasks)
@@ -23,10 +23,19 @@ pub fn charged(sheet: &Sheet) -> Sheet {
     Sheet::of(&tasks).charged(CHARGE)
 }
 
+/// The full sheet with a deadline at which no K fits its lowest task, which is low: the ordinary choice goes over all tasks and ends in 15,
+/// and the choice of the high tasks goes over all others. With `more`, every second task is low too.
+pub fn high_only_sheet(more: bool) -> Sheet {
+    let mut sheet = full_sheet(32);
+    sheet.tasks[31].d = sheet.tasks[31].e;
+    let lows: Vec<bool> = (0..32).map(|i| i == 31 || (more && i % 2 == 1)).collect();
+    sheet.marked(&lows)
+}
+
 /// A sheet of 32 tasks of which the lowest walks over many q.
 pub fn long_walk() -> (Sheet, Vec<u32>) {
-    let mut tasks: Vec<Task> = (0..31).map(|_| Task { p: 32, j: 31, e: 1, d: 1_000_000 }).collect();
-    tasks.push(Task { p: 40, j: 1, e: 1, d: 1_000_000 });
+    let mut tasks: Vec<Task> = (0..31).map(|_| Task::high(32, 31, 1, 1_000_000)).collect();
+    tasks.push(Task::high(40, 1, 1, 1_000_000));
     let kept = (0..32).map(|i| if i == 31 { 1 } else { i }).collect();
     (Sheet::of(&tasks), kept)
 }
@@ -36,8 +45,8 @@ pub fn long_walk() -> (Sheet, Vec<u32>) {
 pub const LONGEST: [(u32, u32, u32); 3] = [(62, 0, 2), (40, 1, 4), (32, 1, 32)];
 
 pub fn longest((above, step, lowest): (u32, u32, u32)) -> (Sheet, Vec<u32>) {
-    let mut tasks: Vec<Task> = (0..31).map(|_| Task { p: above, j: 31 * step, e: 1, d: 1_000_000 }).collect();
-    tasks.push(Task { p: lowest, j: 1, e: 1, d: 1_000_000 });
+    let mut tasks: Vec<Task> = (0..31).map(|_| Task::high(above, 31 * step, 1, 1_000_000)).collect();
+    tasks.push(Task::high(lowest, 1, 1, 1_000_000));
     let kept = (0..32).map(|i| if i == 31 { 1 } else { step * i }).collect();
     (Sheet::of(&tasks), kept)
 }
@@ -51,7 +60,7 @@ pub fn light_sheet() -> Sheet {
 /// A sheet of 32 tasks with a load of about 95 in 100, of which every fourth has a period below 12.
 pub fn short_periods() -> Sheet {
     let tasks: Vec<Task> = (full_sheet(32).tasks.iter().enumerate())
-        .map(|(i, t)| if i % 4 == 3 { Task { p: 11, j: 10, e: 1, d: 1_000_000 } } else { Task { e: t.e / 4, ..*t } })
+        .map(|(i, t)| if i % 4 == 3 { Task::high(11, 10, 1, 1_000_000) } else { Task { e: t.e / 4, ..*t } })
         .collect();
     Sheet::of(&tasks)
 }

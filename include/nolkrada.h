@@ -20,10 +20,13 @@
  *   past it keep what they held.
  *
  * SHEET
- *   sheet, sheet_length: the numbers of the tasks, P, J, E and D of task 0, then of task 1, and so on; task 0 has the highest
- *   priority. sheet_length is the number of uint32_t, normally 4 * count. Numbers past the end count as 0, and nothing past
+ *   sheet, sheet_length: the numbers of the tasks, P, J, E, D and the mark of task 0, then of task 1, and so on; task 0 has the
+ *   highest priority. sheet_length is the number of uint32_t, normally 5 * count. Numbers past the end count as 0, and nothing past
  *   task 31 is read. count: how many tasks the sheet has, 1 to 32.
  *   P (period) and D (deadline) are 1 to 1000000, J (jitter) is 0 to 1000000, E (cost) is 1 to the smaller of P and D.
+ *   mark: 0 is high, any other number is low. nolkrada_choice does not judge low tasks where not all tasks fit, and nolkrada_write
+ *   writes them as kind 6. Every other call that takes a sheet ignores the marks. nolkrada_read and nolkrada_load write a mark as 0 or
+ *   1.
  *   charge: the ticks S, 0 to 255, that each job takes besides its cost, for the switch to it; 0 for none. E + S is at most the
  *   smaller of P and D of each task. Verdicts and choices use E + S in place of E, and in a run each job takes its cost plus S.
  *   A charge over 255 is not refused: charge is a uint8_t, and C cuts a larger number to its low byte, 256 to 0. A caller whose
@@ -41,8 +44,9 @@
  *   Records, numbers little-endian: a charge first, where there is one, then tasks, then releases with ticks that never fall, then
  *   one end record, then nothing.
  *   Kind 5, charge: S, 1 to 255, one byte (2 bytes with the kind). A file without this record has the charge 0. Kind 1, task: P, J,
- *   E, D, four bytes each (17 bytes). Kind 2, release with a tick up to 1000000000: task number, one byte; tick, four; cost, four
- *   (10 bytes). Kind 4, release with a later tick: task number, one byte; tick, eight; cost, four (14 bytes). Kind 3, end: no body.
+ *   E, D, four bytes each (17 bytes); the task is high. Kind 6, low task: as kind 1, with a last byte, which is 0 (18 bytes). Kind 2,
+ *   release with a tick up to 1000000000: task number, one byte; tick, four; cost, four (10 bytes). Kind 4, release with a later tick:
+ *   task number, one byte; tick, eight; cost, four (14 bytes). Kind 3, end: no body.
  *
  * PROCESSOR
  *   In each tick the highest-priority task's oldest job runs, of the jobs that were ready before that tick and are unfinished: the
@@ -59,8 +63,9 @@
  *   The fourth word of a verdict is the number of its evaluations, over all q that it took. It is at most 100000020000001.
  *   For one q with W(q) up to 10000000 the list is at most as long as 1 + (the arrival counts of the tasks above in W(q) ticks,
  *   added up) - (the number of tasks above).
- *   The evaluations of a choice that succeeds are those of the verdicts of all tasks at the chosen kept jitters, added up. A choice
- *   that ends in 15 is not covered.
+ *   The evaluations of an ordinary choice that succeeds are those of the verdicts of all tasks at the chosen kept jitters, added up.
+ *   One of the high tasks alone (NOLKRADA_HIGH_ONLY) took those of the verdicts of its high tasks and, before, the ordinary choice that
+ *   ended in 15. A choice that ends in 15 is not covered, and so that part of one of the high tasks alone is not.
  *   One evaluation for task i goes once over the i tasks above it, so the time of a verdict is about its number * i * a constant.
  *   To plan, make the choice on any machine, ask for these verdicts, and add up number * i over all tasks. Then time one verdict
  *   with many evaluations on the board, divide by its own number * i, and multiply. That is a plan and no promise in time: checks
@@ -69,19 +74,19 @@
  * TEXT
  *   A sheet as text: a line P,J,E,D for each task, task 0 first, in decimal digits without signs, blanks or leading zeros (0 itself
  *   is allowed), each line, the last one too, ended by a line feed (byte 10; a carriage return before it is not allowed). A text has
- *   no charge.
+ *   no charge, and its tasks are high.
  *
  * EVERY LENGTH counts elements, not bytes. An array of length 0 may be any non-null, aligned pointer. Arrays that a call
  * writes must not overlap each other or an array that it reads.
  *
  * REFUSALS (number: condition, place)
- *    1  read: kind byte not 1, 2, 3, 4 or 5; offset of the kind byte
+ *    1  read: kind byte not 1 to 6; offset of the kind byte
  *    2  read: the file ends inside a record, or where a kind is due; offset of that kind
  *    3  read: task after a release; a second charge, or one after a task or a release; offset of the record
  *    4  over 32 tasks; 32 (read: offset; load: the line)
  *    5  no task: count 0; 0 (read: release or end before any task; offset. load: an empty text; 0)
- *    6  P, J, E or D outside its range; the task (read: offset; also a charge of 0 in kind 5. load: the line, however long a number
- *       is)
+ *    6  P, J, E or D outside its range; the task (read: offset; also a charge of 0 in kind 5, and a last byte of kind 6 that is not 0.
+ *       load: the line, however long a number is)
  *    7  release of a task that is not in the sheet; the release (read: offset)
  *    8  tick below the one before, or over 1000000000000000; the release (read: offset; also a tick over 1000000000 in kind 2, and
  *       one up to 1000000000 in kind 4)
@@ -91,7 +96,7 @@
  *   12  some kept jitter is over J; the first such task
  *   13  an array is too short; the slots that it needs
  *   14  there is no such task; the number given
- *   15  choice: no K fits; the first such task
+ *   15  choice: no K fits; the first such task, of the high ones alone (see nolkrada_choice)
  *   16  load: a line that is not P,J,E,D and a line feed; the line
  *   17  E + S is over P or over D; the task (read: offset of the task's record)
  * A line is its number in the text, from 0.
@@ -112,13 +117,13 @@ extern "C" {
 
 /* The version of this interface. The archive has no symbol for it: take header and archive of one build. */
 #define NOLKRADA_VERSION_MAJOR 0
-#define NOLKRADA_VERSION_MINOR 7
+#define NOLKRADA_VERSION_MINOR 8
 #define NOLKRADA_VERSION_PATCH 0
-#define NOLKRADA_VERSION "0.7.0"
+#define NOLKRADA_VERSION "0.8.0"
 
-/* Tasks of a sheet, numbers of a sheet that is read or loaded (P, J, E, D of 32 tasks), releases of a list. */
+/* Tasks of a sheet, numbers of a sheet that is read or loaded (P, J, E, D and mark of 32 tasks), releases of a list. */
 #define NOLKRADA_MAX_TASKS 32
-#define NOLKRADA_SHEET_NUMBERS 128
+#define NOLKRADA_SHEET_NUMBERS 160
 #define NOLKRADA_MAX_RELEASES 1024
 /* The largest charge. */
 #define NOLKRADA_MAX_CHARGE 255
@@ -131,12 +136,12 @@ extern "C" {
 #define NOLKRADA_PICKUP 1
 /* The most stops of a run that jumps: a ready tick plus 1 and a finish for each release. */
 #define NOLKRADA_MAX_STOPS 2048
-/* Bytes of the largest file: 2 for a charge, 17 for each task, 14 for each release with a tick over NOLKRADA_MAX_SHORT_TICK, 1 for
- * the end. nolkrada_write writes no more. */
-#define NOLKRADA_MAX_FILE 14883
+/* Bytes of the largest file: 2 for a charge, 18 for each low task, 14 for each release with a tick over NOLKRADA_MAX_SHORT_TICK, 1
+ * for the end. nolkrada_write writes no more. */
+#define NOLKRADA_MAX_FILE 14915
 /* Bytes that decide a read: none past these changes what it answers. Make a buffer that is filled from an input this long: one of
  * NOLKRADA_MAX_FILE bytes may hold a whole file and miss the byte that follows it, which is refusal 11. */
-#define NOLKRADA_READ_BYTES 14899
+#define NOLKRADA_READ_BYTES 14932
 /* Bytes of the longest text that is accepted: 32 lines of four numbers of 7 digits, three commas and a line feed. A longer text is
  * refused; what its refusal is may depend on every byte. Make a buffer that is filled from an input one byte longer: the first
  * NOLKRADA_MAX_TEXT bytes of a longer text may be accepted, the first NOLKRADA_MAX_TEXT + 1 never are. */
@@ -182,10 +187,18 @@ enum { NOLKRADA_HORIZON = 0, NOLKRADA_LATE = 1, NOLKRADA_FITS = 2 };
 uint64_t nolkrada_verdict(const uint32_t *sheet, size_t sheet_length, uint32_t count, uint8_t charge, uint32_t task,
                           const uint32_t *kept, size_t kept_length, uint64_t *answer, size_t answer_length);
 
-/* Choice: from task 0 down the least K at which the verdict is "fits", given the choices above. For its time see PLANNING A CHOICE.
- * kept, worst: `count` slots each, written: the kept jitters and the largest response bounds.          Refuses 5 4 6 17 13 15. */
+enum { NOLKRADA_ORDINARY = 0, NOLKRADA_HIGH_ONLY = 1 };
+
+/* Choice: from task 0 down the least K at which the verdict is "fits", given the choices above. This is the ordinary choice. Where it
+ * ends in 15 the choice is made anew with every low task kept at 0 and not judged; 15 then names the first high task that fits at no
+ * K. For its time see PLANNING A CHOICE.
+ * kept, worst: `count` slots each, written: the kept jitters and the largest response bounds, 0 for a task that was not judged.
+ * answer: 1 slot. NOLKRADA_ORDINARY: every task was judged, and no job of any task whose own releases keep its jitter is late,
+ * whatever the other tasks release. NOLKRADA_HIGH_ONLY: the ordinary choice ended in 15, and this is the one with every low task kept
+ * at 0 and not judged. The worst value of a low task is then 0, and nothing is promised about its lateness; no job of a high task
+ * whose own releases keep its jitter is late, whatever all other tasks release.                  Refuses 5 4 6 17 13 15. */
 uint64_t nolkrada_choice(const uint32_t *sheet, size_t sheet_length, uint32_t count, uint8_t charge, uint32_t *kept,
-                         size_t kept_length, uint32_t *worst, size_t worst_length);
+                         size_t kept_length, uint32_t *worst, size_t worst_length, uint64_t *answer, size_t answer_length);
 
 /* Trace check: whether the releases keep the jitters of their tasks. The charge is checked and changes no answer.
  * answer: 2 slots. 0, 0: they do. 1, p: release p is the first that is too close to an earlier one of its task.
@@ -228,15 +241,15 @@ uint64_t nolkrada_read(const uint8_t *file, size_t file_length, uint32_t *sheet,
                        size_t task_length, uint64_t *tick, size_t tick_length, uint32_t *cost, size_t cost_length,
                        uint64_t *answer, size_t answer_length);
 
-/* Write a file: 2 bytes for a charge that is not 0, 17 for each task, 10 for each release with a tick up to NOLKRADA_MAX_SHORT_TICK
- * and 14 for each other, 1 for the end. The charge is the first record. 13 comes before 7, 8 and 9 and counts the bytes by the ticks
- * as they are given, 14 for one over the limit too.
+/* Write a file: 2 bytes for a charge that is not 0, 17 for each high task and 18 for each low one, 10 for each release with a tick
+ * up to NOLKRADA_MAX_SHORT_TICK and 14 for each other, 1 for the end. The charge is the first record. 13 comes before 7, 8 and 9 and
+ * counts the bytes by the marks and ticks as they are given, 14 for a tick over the limit too.
  * out: the bytes, written. answer: 1 slot, how many.                                          Refuses 5 4 6 17 10 13 7 8 9. */
 uint64_t nolkrada_write(const uint32_t *sheet, size_t sheet_length, uint32_t count, uint8_t charge, uint32_t n,
                         const uint32_t *task, size_t task_length, const uint64_t *tick, size_t tick_length, const uint32_t *cost,
                         size_t cost_length, uint8_t *out, size_t out_length, uint64_t *answer, size_t answer_length);
 
-/* Load a text, which has no charge. Lend it whole.
+/* Load a text, which has no charge and no marks: every task is high. Lend it whole.
  * sheet: NOLKRADA_SHEET_NUMBERS slots, all written; entries past the count are 0.
  * answer: 1 slot, the tasks of the text.                                                                Refuses 16 4 6 5 13. */
 uint64_t nolkrada_load(const uint8_t *text, size_t text_length, uint32_t *sheet, size_t sheet_length, uint64_t *answer,

@@ -1,6 +1,6 @@
 /*
  * The sheet of examples/folder.sheet from C: choice and a plan for it, verdicts, arrival count, trace check, ready ticks, both runs,
- * a charge, write, read and load.
+ * a charge, a low task, write, read and load.
  * Build, after ./install:
  *   cc -O2 examples/c/sheet.c -lnolkrada -o sheet
  * or, without installing, after `rt staticlib nolkrada`:
@@ -14,9 +14,14 @@
 
 #define LENGTH(a) (sizeof(a) / sizeof((a)[0]))
 
-/* P, J, E, D of each task, task 0 first. */
-static const uint32_t sheet[] = {6, 5, 2, 6, 8, 7, 2, 8, 10, 0, 2, 11};
+/* P, J, E, D and the mark of each task, task 0 first. A mark of 0 is high, any other number low. */
+#define HIGH 0
+#define LOW 1
+static const uint32_t sheet[] = {6, 5, 2, 6, HIGH, 8, 7, 2, 8, HIGH, 10, 0, 2, 11, HIGH};
 #define TASKS 3
+
+/* The same with a deadline at which no kept jitter makes the last task fit, and with that task low. */
+static const uint32_t marked[] = {6, 5, 2, 6, HIGH, 8, 7, 2, 8, HIGH, 10, 0, 2, 10, LOW};
 
 /* The charge: ticks that each job takes besides its cost, for the switch to it. */
 #define NO_CHARGE 0
@@ -32,11 +37,16 @@ static int refused(const char *call, uint64_t code) {
     return code != 0;
 }
 
-static int print_choice(uint32_t *kept) {
+/* The choice, and which of the two it is: of all tasks, or of the high ones alone, where a low task has a worst value of 0 and may be
+ * late. */
+static int print_choice(const uint32_t *numbers, uint32_t *kept) {
+    static const char *const which[] = {[NOLKRADA_ORDINARY] = "fits", [NOLKRADA_HIGH_ONLY] = "high only"};
     uint32_t worst[TASKS];
-    if (refused("choice", nolkrada_choice(sheet, LENGTH(sheet), TASKS, NO_CHARGE, kept, TASKS, worst, TASKS))) return 1;
+    uint64_t answer[1];
+    if (refused("choice", nolkrada_choice(numbers, LENGTH(sheet), TASKS, NO_CHARGE, kept, TASKS, worst, TASKS, answer, 1))) return 1;
     printf("task keep worst\n");
     for (int i = 0; i < TASKS; i++) printf("%d %u %u\n", i, kept[i], worst[i]);
+    printf("%s\n", which[answer[0]]);
     return 0;
 }
 
@@ -110,8 +120,8 @@ static int print_months(const uint32_t *kept) {
 static int print_charge(const uint32_t *kept) {
     uint32_t keep[TASKS], worst[TASKS];
     uint64_t ready[RELEASES], finish[RELEASES];
-    uint64_t stops[1];
-    const uint64_t code = nolkrada_choice(sheet, LENGTH(sheet), TASKS, 1, keep, TASKS, worst, TASKS);
+    uint64_t stops[1], answer[1];
+    const uint64_t code = nolkrada_choice(sheet, LENGTH(sheet), TASKS, 1, keep, TASKS, worst, TASKS, answer, 1);
     printf("with a charge of 1 the choice is refused %u at %u\n", nolkrada_number(code), nolkrada_place(code));
     if (refused("jump", nolkrada_jump(sheet, LENGTH(sheet), TASKS, 1, kept, TASKS, RELEASES, task, RELEASES, tick, RELEASES, cost,
                                       RELEASES, ready, RELEASES, finish, RELEASES, stops, 1)))
@@ -120,21 +130,21 @@ static int print_charge(const uint32_t *kept) {
     return nolkrada_number(code) != NOLKRADA_REFUSED_UNFIT;
 }
 
-static int print_file(uint8_t charge) {
+static int print_file(const uint32_t *numbers, uint8_t charge) {
     /* Buffers that hold whatever a file may hold. */
     static uint8_t file[NOLKRADA_READ_BYTES];
     static uint32_t again[NOLKRADA_SHEET_NUMBERS];
     static uint32_t tasks[NOLKRADA_MAX_RELEASES], costs[NOLKRADA_MAX_RELEASES];
     static uint64_t ticks[NOLKRADA_MAX_RELEASES];
     uint64_t bytes[1], counts[3];
-    if (refused("write", nolkrada_write(sheet, LENGTH(sheet), TASKS, charge, RELEASES, task, RELEASES, tick, RELEASES, cost, RELEASES,
-                                        file, sizeof file, bytes, 1)))
+    if (refused("write", nolkrada_write(numbers, LENGTH(sheet), TASKS, charge, RELEASES, task, RELEASES, tick, RELEASES, cost,
+                                        RELEASES, file, sizeof file, bytes, 1)))
         return 1;
     if (refused("read", nolkrada_read(file, bytes[0], again, LENGTH(again), tasks, LENGTH(tasks), ticks, LENGTH(ticks), costs,
                                       LENGTH(costs), counts, 3)))
         return 1;
     printf("%" PRIu64 " bytes, %" PRIu64 " tasks, %" PRIu64 " releases, charge %" PRIu64 ", %s\n", bytes[0], counts[0], counts[1],
-           counts[2], memcmp(again, sheet, sizeof sheet) == 0 ? "the same sheet" : "another sheet");
+           counts[2], memcmp(again, numbers, sizeof sheet) == 0 ? "the same sheet" : "another sheet");
     return 0;
 }
 
@@ -149,9 +159,9 @@ static int print_text(void) {
 }
 
 int main(void) {
-    uint32_t kept[TASKS];
+    uint32_t kept[TASKS], other[TASKS];
     uint64_t arrivals[1];
-    if (print_choice(kept)) return 1;
+    if (print_choice(sheet, kept)) return 1;
     if (print_plan(kept)) return 1;
     if (print_verdict(kept, 1)) return 1;
     if (refused("arrival count", nolkrada_arrival_count(sheet, LENGTH(sheet), TASKS, NO_CHARGE, 0, kept, TASKS, 8, arrivals, 1)))
@@ -161,8 +171,10 @@ int main(void) {
     if (print_jump(kept)) return 1;
     if (print_months(kept)) return 1;
     if (print_charge(kept)) return 1;
-    if (print_file(NO_CHARGE)) return 1;
-    if (print_file(1)) return 1;
+    if (print_choice(marked, other)) return 1;
+    if (print_file(sheet, NO_CHARGE)) return 1;
+    if (print_file(sheet, 1)) return 1;
+    if (print_file(marked, NO_CHARGE)) return 1;
     if (print_text()) return 1;
     /* One less than the choice. */
     kept[1] = 3;

@@ -9,7 +9,7 @@ mod sums;
 
 use generator::*;
 use std::collections::BTreeSet;
-use reference::{add_release, Budget, Judged, Refusal, Release, Sheet, Task, Verdict};
+use reference::{add_release, add_task, Budget, Chosen, Judged, Refusal, Release, Sheet, Task, Verdict};
 use reference::{HORIZON, MAX_RELEASES, MAX_SHORT_TICK, MAX_TICK, MAX_TIME};
 
 const SEED: u64 = 20_240_601;
@@ -79,7 +79,7 @@ struct Case {
 impl Case {
     fn sound(r: &mut Random, sheet: &Sheet, list: &[Release]) -> Case {
         Case {
-            numbers: numbers_of(sheet),
+            numbers: given_numbers_of(r, sheet),
             count: sheet.count as u32,
             charge: sheet.charge,
             kept: kept_for(r, sheet),
@@ -92,7 +92,7 @@ impl Case {
 
     /// One thing about the case changed.
     fn damage(&mut self, r: &mut Random) {
-        match r.within(0, 13) {
+        match r.within(0, 14) {
             0 => self.count = r.of(&[0, 1, 31, 32, 33, 34, 64, u32::MAX]),
             1 => self.numbers.truncate(r.within(0, self.numbers.len() as u32) as usize),
             2 => {
@@ -102,7 +102,7 @@ impl Case {
             3 => self.kept.truncate(r.within(0, self.kept.len() as u32) as usize),
             4 | 5 => {
                 let i = r.within(0, self.kept.len() as u32 - 1) as usize;
-                self.kept[i] = if r.once_in(3) { u32::MAX } else { self.numbers[4 * i + 1].wrapping_add(1) };
+                self.kept[i] = if r.once_in(3) { u32::MAX } else { self.numbers[TASK_NUMBERS * i + 1].wrapping_add(1) };
             }
             6 => self.kept.push(r.bits() as u32),
             7 => self.n = r.of(&[self.n + 1, 1024, 1025, u32::MAX]),
@@ -111,12 +111,23 @@ impl Case {
             10 => self.cost.truncate(self.cost.len().saturating_sub(1)),
             11 => self.numbers.push(r.bits() as u32),
             12 => self.charge = if r.once_in(2) { r.of(&EDGE_CHARGES) } else { r.bits() as u8 },
+            13 => {
+                let i = r.within(0, self.kept.len() as u32 - 1) as usize;
+                self.numbers[TASK_NUMBERS * i + 4] = if r.once_in(2) { 0 } else { r.of(&LOW_MARKS) };
+            }
             _ => {
                 self.task.push(r.bits() as u32);
                 self.tick.push(r.bits());
                 self.cost.push(r.bits() as u32);
             }
         }
+    }
+
+    /// The same case with every mark high.
+    fn all_high(&self) -> Case {
+        let mut case = self.clone();
+        case.numbers.iter_mut().skip(TASK_NUMBERS - 1).step_by(TASK_NUMBERS).for_each(|mark| *mark = 0);
+        case
     }
 
     fn sheet(&self) -> Sheet {
@@ -151,9 +162,14 @@ impl Case {
 struct Tally {
     calls: [u64; 10],
     refusals: [u64; 18],
-    /// How many of the calls were answered with a charge, and the charges.
+    /// How many of the calls were answered with a charge, and the charges; and how many with a low task.
     charged: [u64; 10],
     charges: BTreeSet<u8>,
+    marked: [u64; 10],
+    /// How many choices with a low task ended in each of ENDS.
+    ends: [u64; 4],
+    /// Files that were refused with 6 for a last byte of kind 6 alone, by that byte.
+    wrong_marks: BTreeSet<u8>,
     verdicts: [u64; 3],
     /// Of the verdicts: the largest number of evaluations, and how many had each of LISTS.
     most_evaluations: u64,
@@ -179,7 +195,23 @@ const NAMES: [&str; 10] =
 /// What the lists of t of a verdict may have: one member at q = 0, a last t over H after others, a first t over H; and more than one list.
 const LISTS: [&str; 4] = ["a list of one", "a last t over H", "a first t over H", "more than one q"];
 
+/// How a choice on a sheet with a low task may end: as the ordinary one, as that of the high tasks alone, and with 15 of that one, at the
+/// task at which the ordinary one ended or at another.
+const ENDS: [&str; 4] = ["ordinary", "high only", "15 at the same task", "15 at another task"];
+
+/// How often each of them has to come up.
+const OFTEN: u64 = 2_000;
+
 impl Tally {
+    /// Notes how a choice with a low task ends, of which the ordinary one is given too.
+    fn ended(&mut self, ordinary: &Result<Chosen, Refusal>, chosen: &Result<Chosen, Refusal>) {
+        let end = match (ordinary, chosen) {
+            (_, Ok(c)) => c.high_only as usize,
+            (Err(a), Err(b)) if a == b => 2,
+            _ => 3,
+        };
+        self.ends[end] += 1;
+    }
     /// Notes the evaluations of a verdict.
     fn judged(&mut self, case: &Case, task: u32, judged: &Judged) {
         let begins = |q: i64| reference::tried(&case.sheet(), &case.kept, task as usize, q).take(2).collect::<Vec<i64>>();
@@ -197,12 +229,13 @@ impl Tally {
     fn may_tick(&self, case: &Case) -> bool {
         self.differences == 0 || case.tick.iter().all(|&tick| tick <= LATE)
     }
-    /// Notes a call that is answered with this charge.
-    fn answered(&mut self, call: usize, charge: u8) {
-        if charge > 0 {
+    /// Notes a call that is answered with this sheet.
+    fn answered(&mut self, call: usize, sheet: &Sheet) {
+        if sheet.charge > 0 {
             self.charged[call] += 1;
-            self.charges.insert(charge);
+            self.charges.insert(sheet.charge);
         }
+        self.marked[call] += sheet.tasks.iter().any(|t| t.low) as u64;
     }
     fn note(&mut self, call: usize, expected: Option<Refusal>, got: u64, slots: bool, show: impl Fn() -> String) {
         self.calls[call] += 1;
@@ -237,7 +270,7 @@ fn in_words<T>(slots: usize, needed: usize, given: Result<T, Refusal>) -> Result
 /// A read: the whole file, then the slots of the sheet, of the columns and of the answer.
 fn read_into(file: &[u8], sheet: usize, slots: [usize; 3], answer: usize) -> Result<(Sheet, Vec<Release>), Refusal> {
     reference::decode(file)?;
-    short(sheet, 128)?;
+    short(sheet, SHEET_NUMBERS)?;
     let given = reference::read(file, slots)?;
     short(answer, 3)?;
     Ok(given)
@@ -246,7 +279,7 @@ fn read_into(file: &[u8], sheet: usize, slots: [usize; 3], answer: usize) -> Res
 /// A load: the whole text, then the slots of the sheet and of the answer.
 fn load_into(text: &[u8], sheet: usize, answer: usize) -> Result<Sheet, Refusal> {
     let given = reference::load(text)?;
-    short(sheet, 128)?;
+    short(sheet, SHEET_NUMBERS)?;
     short(answer, 1)?;
     Ok(given)
 }
@@ -257,7 +290,7 @@ fn compare_arrival_count(r: &mut Random, tally: &mut Tally, case: &Case, task: u
     let expected = in_words(slots, 1, reference::arrival_count(&case.sheet(), task as usize, &case.kept, t));
     let got = library::arrival_count(&case.numbers, case.count, case.charge, task, &case.kept, t, &mut answer.now);
     if expected.is_ok() {
-        tally.answered(0, case.charge);
+        tally.answered(0, &case.sheet());
     }
     let same = answer.holds(expected.ok().map(|n| [n]).as_ref().map(|a| &a[..]));
     tally.note(0, expected.err(), got, same, || format!("task {} t {} answer {:?} {}", task, t, answer.now, case.show()));
@@ -280,7 +313,7 @@ fn compare_verdict(r: &mut Random, tally: &mut Tally, case: &Case, task: u32, bu
     });
     if let Ok(a) = expected {
         tally.verdicts[a[0] as usize] += 1;
-        tally.answered(1, case.charge);
+        tally.answered(1, &case.sheet());
     }
     let got = library::verdict(&case.numbers, case.count, case.charge, task, &case.kept, &mut answer.now);
     let same = answer.holds(expected.as_ref().ok().map(|a| &a[..]));
@@ -289,42 +322,54 @@ fn compare_verdict(r: &mut Random, tally: &mut Tally, case: &Case, task: u32, bu
 
 fn compare_choice(r: &mut Random, tally: &mut Tally, case: &Case, budget: u64) {
     let needed = case.count.min(40) as usize;
-    let (a, b) = (around(r, needed), around(r, needed));
-    let (mut kept, mut worst) = (numbers(r, a), numbers(r, b));
-    let Ok(expected) = reference::choice(&case.sheet(), a, b, &mut Budget::of(budget)) else {
+    let slots = [around(r, needed), around(r, needed), around(r, 1)];
+    compare_choice_into(r, tally, case, slots, budget);
+}
+
+/// The same with so many slots of kept jitters, of worst values and of the answer.
+fn compare_choice_into(r: &mut Random, tally: &mut Tally, case: &Case, slots: [usize; 3], budget: u64) {
+    let [a, b, w] = slots;
+    let (mut kept, mut worst, mut answer) = (numbers(r, a), numbers(r, b), words(r, w));
+    let Ok(given) = reference::choice(&case.sheet(), a, b, &mut Budget::of(budget)) else {
         tally.passed_over += 1;
         return;
     };
-    let got = library::choice(&case.numbers, case.count, case.charge, &mut kept.now, &mut worst.now);
+    let expected = in_words(w, 1, given);
+    let got = library::choice(&case.numbers, case.count, case.charge, &mut kept.now, &mut worst.now, &mut answer.now);
     if expected.is_ok() {
-        tally.answered(2, case.charge);
+        tally.answered(2, &case.sheet());
     }
-    let columns = expected.as_ref().ok();
-    let same = kept.holds(columns.map(|c| &c.0[..])) && worst.holds(columns.map(|c| &c.1[..]));
+    let chosen = expected.as_ref().ok();
+    let scope = chosen.map(|c| [c.high_only as u64]);
+    let same = kept.holds(chosen.map(|c| &c.kept[..]))
+        && worst.holds(chosen.map(|c| &c.worst[..]))
+        && answer.holds(scope.as_ref().map(|s| &s[..]));
     tally.note(2, expected.as_ref().err().copied(), got, same, || {
-        format!("kept {:?} worst {:?} expected {:?} {}", kept.now, worst.now, expected, case.show())
+        format!("kept {:?} worst {:?} answer {:?} expected {:?} {}", kept.now, worst.now, answer.now, expected, case.show())
     });
-    if let Ok((kept, _)) = &expected {
-        compare_choice_evaluations(tally, case, kept, budget.max(1_000_000));
+    if let Ok(chosen) = &expected {
+        compare_choice_evaluations(tally, case, chosen, budget.max(1_000_000));
     }
 }
 
 /// The evaluations of a choice that succeeds, which the reference counts without a verdict: those of the archive's verdicts at the chosen
-/// kept jitters, added up.
-fn compare_choice_evaluations(tally: &mut Tally, case: &Case, kept: &[u32], budget: u64) {
-    let Ok(counted) = reference::choice_evaluations(&case.sheet(), &mut Budget::of(budget)) else {
+/// kept jitters, added up over the tasks that are judged, all of which fit with the worst value chosen. Those of the ordinary choice before
+/// one of the high tasks alone are no part of it.
+fn compare_choice_evaluations(tally: &mut Tally, case: &Case, chosen: &Chosen, budget: u64) {
+    let sheet = case.sheet();
+    let Ok(counted) = reference::choice_evaluations(&sheet, &mut Budget::of(budget)) else {
         tally.passed_over += 1;
         return;
     };
     let (mut fit, mut sum) = (true, 0);
-    for task in 0..case.count {
+    for task in (0..sheet.count).filter(|&i| !(chosen.high_only && sheet.task(i).low)) {
         let mut answer = [0; 4];
-        let code = library::verdict(&case.numbers, case.count, case.charge, task, kept, &mut answer);
-        (fit, sum) = (fit && (code, answer[0]) == (0, 2), sum + answer[3]);
+        let code = library::verdict(&case.numbers, case.count, case.charge, task as u32, &chosen.kept, &mut answer);
+        (fit, sum) = (fit && (code, answer[0], answer[2]) == (0, 2, chosen.worst[task] as u64), sum + answer[3]);
     }
     tally.added_up += 1;
-    let same = fit && counted == Some((kept.to_vec(), sum));
-    tally.note(1, None, 0, same, || format!("kept {:?}, {} evaluations, by one walk {:?} {}", kept, sum, counted, case.show()));
+    let same = fit && counted == Some((chosen.high_only, chosen.kept.clone(), sum));
+    tally.note(1, None, 0, same, || format!("{:?}, {} evaluations, by one walk {:?} {}", chosen, sum, counted, case.show()));
 }
 
 fn compare_trace_check(r: &mut Random, tally: &mut Tally, case: &Case) {
@@ -338,7 +383,7 @@ fn compare_trace_check(r: &mut Random, tally: &mut Tally, case: &Case) {
     });
     if let Some([close, _]) = numbers {
         tally.too_close += close;
-        tally.answered(3, case.charge);
+        tally.answered(3, &case.sheet());
     }
     let same = answer.holds(numbers.as_ref().map(|a| &a[..]));
     tally.note(3, expected.err(), got, same, || format!("answer {:?} {}", answer.now, case.show()));
@@ -350,7 +395,7 @@ fn compare_ready(r: &mut Random, tally: &mut Tally, case: &Case) {
     let expected = reference::ready(&case.sheet(), &case.kept, case.n as usize, &case.reference_list(), slots);
     let got = library::ready(&case.numbers, case.count, case.charge, &case.kept, case.n, case.library_list(), &mut ready.now);
     if expected.is_ok() {
-        tally.answered(4, case.charge);
+        tally.answered(4, &case.sheet());
     }
     let same = ready.holds(expected.as_ref().ok().map(|c| &c[..]));
     tally.note(4, expected.as_ref().err().copied(), got, same, || {
@@ -373,7 +418,7 @@ fn compare_run(r: &mut Random, tally: &mut Tally, case: &Case, ticks: u64) {
     );
     let columns = expected.as_ref().ok();
     if columns.is_some() {
-        tally.answered(5, case.charge);
+        tally.answered(5, &case.sheet());
     }
     let same = ready.holds(columns.map(|c| &c.0[..])) && finish.holds(columns.map(|c| &c.1[..]));
     tally.note(5, expected.as_ref().err().copied(), got, same, || {
@@ -398,7 +443,7 @@ fn compare_jump(r: &mut Random, tally: &mut Tally, case: &Case) {
         && answer.holds(stops.as_ref().map(|s| &s[..]));
     if let Some(j) = jumped {
         let largest = |ticks: &[u64], before: u64| ticks.iter().copied().fold(before, u64::max);
-        tally.answered(9, case.charge);
+        tally.answered(9, &case.sheet());
         tally.most_stops = tally.most_stops.max(j.stops);
         tally.shared_stops += (j.stops < 2 * case.n as u64) as u64;
         (tally.last_ready, tally.last_finish) = (largest(&j.ready, tally.last_ready), largest(&j.finish, tally.last_finish));
@@ -438,7 +483,7 @@ fn compare_jump_with_run(r: &mut Random, tally: &mut Tally, case: &Case, ticks: 
 fn compare_read(r: &mut Random, tally: &mut Tally, file: &[u8]) {
     let releases = reference::decode(file).map_or(0, |(_, list)| list.len());
     let slots = [around(r, releases), around(r, releases), around(r, releases)];
-    let (a, s) = (around(r, 3), around(r, 128));
+    let (a, s) = (around(r, 3), around(r, SHEET_NUMBERS));
     let (mut answer, mut sheet) = (words(r, a), numbers(r, s));
     let (mut task, mut tick, mut cost) = (numbers(r, slots[0]), words(r, slots[1]), numbers(r, slots[2]));
     let expected = read_into(file, s, slots, a);
@@ -449,9 +494,9 @@ fn compare_read(r: &mut Random, tally: &mut Tally, file: &[u8]) {
         }
         Ok((s, list)) => {
             let mut whole = numbers_of(s);
-            whole.resize(128, 0);
+            whole.resize(SHEET_NUMBERS, 0);
             let column = |f: fn(&Release) -> u32| list.iter().map(f).collect::<Vec<u32>>();
-            tally.answered(6, s.charge);
+            tally.answered(6, s);
             answer.holds(Some(&[s.count as u64, list.len() as u64, s.charge as u64]))
                 && sheet.holds(Some(&whole))
                 && task.holds(Some(&column(|x| x.task)))
@@ -460,14 +505,14 @@ fn compare_read(r: &mut Random, tally: &mut Tally, file: &[u8]) {
         }
     };
     tally.note(6, expected.as_ref().err().copied(), got, same, || format!("slots {:?} file {:?}", slots, file));
-    if reference::decode(file).is_ok() {
-        compare_again(tally, file);
+    if let Ok((sheet, _)) = reference::decode(file) {
+        compare_again(tally, file, &sheet);
     }
 }
 
 /// A file that is accepted, read and written again by the archive: the same bytes.
-fn compare_again(tally: &mut Tally, file: &[u8]) {
-    let (mut sheet, mut counts, mut length) = ([0; 128], [0; 3], [0; 1]);
+fn compare_again(tally: &mut Tally, file: &[u8], given: &Sheet) {
+    let (mut sheet, mut counts, mut length) = ([0; SHEET_NUMBERS], [0; 3], [0; 1]);
     let (mut task, mut tick, mut cost) = ([0; MAX_RELEASES], [0; MAX_RELEASES], [0; MAX_RELEASES]);
     let mut out = vec![0; file.len()];
     let got = library::read(file, &mut sheet, &mut task, &mut tick, &mut cost, &mut counts);
@@ -475,14 +520,14 @@ fn compare_again(tally: &mut Tally, file: &[u8]) {
     let list = library::Columns { task: &task, tick: &tick, cost: &cost };
     let and = library::write(&sheet, tasks, charge as u8, releases, list, &mut out, &mut length);
     let same = out == file && length[0] == file.len() as u64;
-    tally.answered(7, charge as u8);
+    tally.answered(7, given);
     tally.note(7, None, if got == 0 { and } else { got }, same, || format!("read and written again: {:?}", file));
 }
 
 /// The bytes that a write of a case needs, more or less where its columns are short.
 fn bytes_of(case: &Case) -> usize {
     let ticks = &case.tick[..case.tick.len().min(case.n.min(1030) as usize)];
-    reference::bytes_needed(case.charge, case.count.min(40) as usize, ticks)
+    reference::bytes_needed(&case.sheet(), case.count.min(40) as usize, ticks)
 }
 
 /// A write, and a read of what was written.
@@ -501,20 +546,20 @@ fn compare_write_to(r: &mut Random, tally: &mut Tally, case: &Case, slots: usize
     let same = answer.holds(length.as_ref().map(|l| &l[..])) && out.holds(expected.as_ref().ok().map(|f| &f[..]));
     tally.note(7, expected.as_ref().err().copied(), got, same, || case.show());
     if let Ok(file) = expected {
-        tally.answered(7, case.charge);
+        tally.answered(7, &case.sheet());
         compare_read(r, tally, &file);
     }
 }
 
 /// A load; and where the text is accepted, that the same tasks as records are read to the same sheet, without a charge.
 fn compare_load(r: &mut Random, tally: &mut Tally, text: &[u8]) {
-    let (a, s) = (around(r, 1), around(r, 128));
+    let (a, s) = (around(r, 1), around(r, SHEET_NUMBERS));
     let (mut answer, mut sheet) = (words(r, a), numbers(r, s));
     let expected = load_into(text, s, a);
     let got = library::load(text, &mut sheet.now, &mut answer.now);
     let whole = expected.as_ref().ok().map(|s| {
         let mut whole = numbers_of(s);
-        whole.resize(128, 0);
+        whole.resize(SHEET_NUMBERS, 0);
         whole
     });
     let count = expected.as_ref().ok().map(|s| [s.count as u64]);
@@ -529,7 +574,7 @@ fn compare_load(r: &mut Random, tally: &mut Tally, text: &[u8]) {
 
 fn compare_load_with_read(r: &mut Random, tally: &mut Tally, text: &[u8], given: &Sheet) {
     let file = reference::encode(given, &[]);
-    let (mut loaded, mut read) = (numbers(r, 128), numbers(r, 128));
+    let (mut loaded, mut read) = (numbers(r, SHEET_NUMBERS), numbers(r, SHEET_NUMBERS));
     let (mut count, mut counts) = ([u64::MAX; 1], [u64::MAX; 3]);
     let got = library::load(text, &mut loaded.now, &mut count);
     let and = library::read(&file, &mut read.now, &mut [], &mut [], &mut [], &mut counts);
@@ -559,6 +604,7 @@ fn small(r: &mut Random, tally: &mut Tally, cases: u32) {
     for _ in 0..cases {
         let sheet = small_sheet(r);
         let sheet = if r.once_in(2) { with_charge(r, sheet) } else { with_part_charged(r, sheet) };
+        let sheet = with_marks(r, sheet);
         let n = r.within(0, 12) as usize;
         let step = r.of(&[1, 4, 12, 40]);
         let mut list = if r.once_in(3) { legal_list_for(r, &sheet, n) } else { list_for(r, &sheet, n, step) };
@@ -600,23 +646,25 @@ fn check_reference_windows(r: &mut Random, cases: u32) {
     }
 }
 
-/// The evaluations of a choice that succeeds, by one walk over q for each task: those of the verdicts at its kept jitters, added up. Some of
-/// the verdicts take more than one q, with more than one t each.
+/// The evaluations of a choice that succeeds, by one walk over q for each task that is judged: those of the verdicts at its kept jitters,
+/// added up. Some of the verdicts take more than one q, with more than one t each.
 fn check_reference_evaluations(r: &mut Random, cases: u32) {
     let mut long = 0;
     for _ in 0..cases {
         let (tasks, top) = (r.of(&[1, 2, 5, 12]), r.of(&[40, 1_000]));
         let sheet = if r.once_in(2) { small_sheet(r) } else { loaded_sheet(r, tasks, top) };
         let sheet = with_part_charged(r, sheet);
+        let sheet = with_marks(r, sheet);
         let budget = || Budget::of(100_000);
-        let Ok(Ok((kept, _))) = reference::choice(&sheet, 32, 32, &mut budget()) else {
+        let Ok(Ok(Chosen { kept, high_only, .. })) = reference::choice(&sheet, 32, 32, &mut budget()) else {
             continue;
         };
-        let judged = (0..sheet.count).map(|i| reference::judge(&sheet, &kept, i, &mut budget())).collect::<Result<Vec<Judged>, _>>();
+        let tasks = (0..sheet.count).filter(|&i| !(high_only && sheet.task(i).low));
+        let judged = tasks.map(|i| reference::judge(&sheet, &kept, i, &mut budget())).collect::<Result<Vec<Judged>, _>>();
         let (Ok(judged), Ok(counted)) = (judged, reference::choice_evaluations(&sheet, &mut budget())) else {
             continue;
         };
-        assert_eq!(counted, Some((kept, judged.iter().map(|j| j.evaluations).sum())));
+        assert_eq!(counted, Some((high_only, kept, judged.iter().map(|j| j.evaluations).sum())));
         long += judged.iter().filter(|j| j.taken > 1 && j.evaluations > 2 * j.taken as u64).count();
     }
     assert!(long > 0);
@@ -678,6 +726,7 @@ fn loaded(r: &mut Random, tally: &mut Tally, cases: u32, tasks: &[u32]) {
         let (n, top) = (r.of(tasks), r.of(&[40, 200, 1_000, 20_000, 1_000_000]));
         let sheet = loaded_sheet(r, n, top);
         let sheet = any_charge(r, sheet);
+        let sheet = with_marks(r, sheet);
         let case = Case::sound(r, &sheet, &[]);
         for _ in 0..3 {
             compare_sheet_calls(r, tally, &case, 30_000);
@@ -689,6 +738,7 @@ fn boundary(r: &mut Random, tally: &mut Tally, cases: u32) {
     for _ in 0..cases {
         let sheet = boundary_sheet(r);
         let sheet = with_charge(r, sheet);
+        let sheet = with_marks(r, sheet);
         let mut list = list_for_any(r, &sheet);
         if r.once_in(2) {
             damage_list(r, &sheet, &mut list);
@@ -720,6 +770,7 @@ fn long_lists(r: &mut Random, tally: &mut Tally, cases: u32) {
         let (tasks, top) = (r.of(&[1, 3, 32]), r.of(&[40, 300, 3_000]));
         let sheet = loaded_sheet(r, tasks, top);
         let sheet = any_charge(r, sheet);
+        let sheet = with_marks(r, sheet);
         let n = r.of(&[1023, 1024, 1024, 1025]);
         let step = r.of(&[0, 3, 60]);
         let mut list = if r.once_in(3) { legal_list_for(r, &sheet, n) } else { list_for(r, &sheet, n, step) };
@@ -752,6 +803,7 @@ fn long_ticks(r: &mut Random, tally: &mut Tally, cases: u32, sizes: &[usize]) {
         let (tasks, top) = (r.of(&[1, 2, 5, 32]), r.of(&[40, 1_000, 1_000_000]));
         let sheet = if r.once_in(3) { loaded_sheet(r, tasks, top) } else { small_sheet(r) };
         let sheet = any_charge(r, sheet);
+        let sheet = with_marks(r, sheet);
         let (n, step) = (r.of(sizes), r.of(&[0, 3, 40, 2_000]));
         let list = if r.once_in(3) { legal_list_for(r, &sheet, n) } else { list_for(r, &sheet, n, step) };
         let (tick, over) = (r.of(&MIDDLE_TICKS), if r.once_in(8) { r.tick(1, 50) } else { 0 });
@@ -808,7 +860,7 @@ fn largest_finish(r: &mut Random, tally: &mut Tally) {
         (255, MAX_TICK, (1_000_001_023_000_000, 1_000_001_024_000_001)),
     ] {
         let cost = MAX_TIME - charge as u32;
-        let sheet = Sheet::of(&[Task { p: MAX_TIME, j: 0, e: cost, d: MAX_TIME }]).charged(charge);
+        let sheet = Sheet::of(&[Task::high(MAX_TIME, 0, cost, MAX_TIME)]).charged(charge);
         let case = Case::sound(r, &sheet, &[Release { task: 0, tick, cost }; 1024]);
         let expected = reference::run(&case.sheet(), &case.kept, 1024, &case.reference_list(), 1024, 1024).unwrap();
         assert_eq!((expected.0[1023], expected.1[1023]), last);
@@ -887,7 +939,8 @@ fn two_releases(r: &mut Random, tally: &mut Tally) {
     }
 }
 
-/// Sound files of short and of long ticks, with a charge and without, cut at every byte and with every byte changed; random records.
+/// Sound files of short and of long ticks, with a charge and without, with high and low tasks, cut at every byte and with every byte
+/// changed; random records.
 fn files(r: &mut Random, tally: &mut Tally, cases: u32) {
     for _ in 0..cases {
         let (tasks, releases) = (r.within(1, 4) as usize, r.within(0, 6) as usize);
@@ -902,22 +955,34 @@ fn files(r: &mut Random, tally: &mut Tally, cases: u32) {
             compare_read(r, tally, &other);
         }
         let mut longer = file.clone();
-        longer.push(r.within(0, 6) as u8);
+        longer.push(r.within(0, 7) as u8);
         compare_read(r, tally, &longer);
         for _ in 0..20 {
             let any = random_file(r);
             compare_read(r, tally, &any);
         }
-        let noise: Vec<u8> = (0..r.within(0, 40)).map(|_| r.within(0, 6) as u8).collect();
+        let noise: Vec<u8> = (0..r.within(0, 40)).map(|_| r.within(0, 7) as u8).collect();
         compare_read(r, tally, &noise);
     }
 }
 
-/// The record of the task (6,5,2,6).
+/// The record of a task.
+fn record_of(t: Task) -> Vec<u8> {
+    let mut record = Vec::new();
+    add_task(&mut record, t);
+    record
+}
+
+/// The record of the high task (6,5,2,6).
 fn one_task() -> Vec<u8> {
-    let mut file = reference::encode(&Sheet::of(&[Task { p: 6, j: 5, e: 2, d: 6 }]), &[]);
-    file.pop();
-    file
+    record_of(Task::high(6, 5, 2, 6))
+}
+
+/// The record of the low task (6,5,2,6), with this last byte, which is to be 0.
+fn one_low_task(mark: u8) -> Vec<u8> {
+    let mut record = record_of(Task::high(6, 5, 2, 6).marked(true));
+    record[17] = mark;
+    record
 }
 
 /// Two releases with ticks at the edges, each in either kind. Sound ones whole and cut at every byte, then with a task that is not
@@ -940,8 +1005,9 @@ fn edge_files(r: &mut Random, tally: &mut Tally) {
     }
 }
 
-/// Up to so many records of every kind in every order: whole, cut in the last one, and with a byte after it. Ticks rise in the order of
-/// the kinds, so that a release of kind 2 after one of kind 4 has a tick that falls. Of the charge the tasks hold at most 4.
+/// Up to so many records of every kind in every order, of kind 6 with a last byte of 0 and of 1: whole, cut in the last one, and with a
+/// byte after it. Ticks rise in the order of the kinds, so that a release of kind 2 after one of kind 4 has a tick that falls. Of the charge
+/// the tasks hold at most 4.
 fn record_orders(r: &mut Random, tally: &mut Tally, charge: u8, records: u64) {
     let mut all: Vec<Vec<u8>> = vec![Vec::new()];
     for turn in 0..records {
@@ -949,6 +1015,7 @@ fn record_orders(r: &mut Random, tally: &mut Tally, charge: u8, records: u64) {
             1 => one_task(),
             3 => vec![3],
             5 => vec![5, charge],
+            6 | 7 => one_low_task(kind - 6),
             _ => {
                 let mut record = Vec::new();
                 let tick = if kind == 2 { MAX_SHORT_TICK - 5 } else { MAX_SHORT_TICK + 1 } + turn;
@@ -958,12 +1025,12 @@ fn record_orders(r: &mut Random, tally: &mut Tally, charge: u8, records: u64) {
         };
         let mut longer = Vec::new();
         for file in &all {
-            for kind in 1..=5 {
+            for kind in 1..=7 {
                 let whole = [&file[..], &record(kind)].concat();
                 for end in file.len() + 1..=whole.len() {
                     compare_read(r, tally, &whole[..end]);
                 }
-                let after = r.within(0, 6) as u8;
+                let after = r.within(0, 7) as u8;
                 compare_read(r, tally, &[&whole[..], &[after]].concat());
                 longer.push(whole);
             }
@@ -972,8 +1039,8 @@ fn record_orders(r: &mut Random, tally: &mut Tally, charge: u8, records: u64) {
     }
 }
 
-/// Files of the kinds 1, 2 and 3 alone, as there were before the longer ticks and the charge: the releases that they had, no charge, and
-/// the same bytes again.
+/// Files of the kinds 1, 2 and 3 alone, as there were before the longer ticks, the charge and the marks: the releases that they had, no
+/// charge, every task high, and the same bytes again.
 fn old_files(r: &mut Random, tally: &mut Tally, cases: u32) {
     for _ in 0..cases {
         let (tasks, n) = (r.of(&[1, 3, 32]), r.of(&[1, 2, 7, 30, 1024]));
@@ -1015,22 +1082,26 @@ fn full_files(r: &mut Random, tally: &mut Tally, charge: u8) {
     }
 }
 
-/// The largest file, with a charge, and what may follow its last release: 14,899 bytes decide a read, and of a task there 14,898 do not.
-/// Without a charge 14,897 do, and of a task 14,896 do not.
+/// The largest file, of low tasks and with a charge, and what may follow its last release: 14,932 bytes decide a read, and of a low task
+/// there 14,931 do not. Without a charge it is two bytes less, and for each high task one.
 fn deciding_bytes(r: &mut Random, tally: &mut Tally) {
-    for (charge, decide) in [(255, 14_899), (1, 14_899), (0, 14_897)] {
-        let file = late_file_for(r, charge, 32, 1024, MAX_TICK);
-        assert_eq!(file.len(), decide - 16);
-        assert!(reference::decode(&file).is_ok_and(|(sheet, list)| (sheet.charge, sheet.count, list.len()) == (charge, 32, 1024)));
+    for (charge, lows, decide) in [
+        (255, 32, 14_932), (1, 32, 14_932), (0, 32, 14_930), (255, 0, 14_900), (0, 0, 14_898), (1, 1, 14_901), (1, 31, 14_931),
+    ] {
+        let sheet = roomy_sheet_for(r, 32, charge).marked(&vec![true; lows]);
+        let file = late_file_of(r, &sheet, 1024, MAX_TICK);
+        assert_eq!(file.len(), decide - 17);
+        assert!(reference::decode(&file).is_ok_and(|(read, list)| (read, list.len()) == (sheet, 1024)));
+        compare_read(r, tally, &file);
         let end = file.len() - 1;
         let releases = &file[..end];
         let mut long = Vec::new();
         add_release(&mut long, 4, Release { task: 0, tick: MAX_TICK, cost: 1 });
         let mut short = Vec::new();
         add_release(&mut short, 2, Release { task: 0, tick: MAX_SHORT_TICK, cost: 1 });
-        let records: [(&[u8], u32, usize); 8] = [
-            (&one_task(), 3, end), (&long, 10, end), (&short, 8, end), (&[3], 11, end + 1), (&[6], 1, end), (&[0], 1, end),
-            (&[5, 1], 3, end), (&[5, 0], 3, end),
+        let records: [(&[u8], u32, usize); 10] = [
+            (&one_task(), 3, end), (&long, 10, end), (&short, 8, end), (&[3], 11, end + 1), (&[7], 1, end), (&[0], 1, end),
+            (&[5, 1], 3, end), (&[5, 0], 3, end), (&one_low_task(0), 3, end), (&one_low_task(1), 3, end),
         ];
         for (record, number, place) in records {
             let whole = [releases, record, &[3; 40]].concat();
@@ -1040,18 +1111,22 @@ fn deciding_bytes(r: &mut Random, tally: &mut Tally) {
                 compare_read(r, tally, &whole[..end]);
             }
         }
-        let cut = [releases, &one_task()].concat();
-        assert_eq!(cut.len(), decide);
-        assert_eq!(reference::decode(&cut[..decide - 1]), Err(Refusal { number: 2, place: end as u64 }));
+        for mark in [0, 1] {
+            let cut = [releases, &one_low_task(mark)].concat();
+            assert_eq!(cut.len(), decide);
+            assert_eq!(reference::decode(&cut[..decide - 1]), Err(Refusal { number: 2, place: end as u64 }));
+        }
     }
 }
 
-/// The bytes that a write needs, with a charge or none and ticks of any size and in any order: 13 with their number where fewer are lent,
-/// whatever else is wrong with the releases.
+/// The bytes that a write needs, with a charge or none, high and low tasks and ticks of any size and in any order: 13 with their number
+/// where fewer are lent, whatever else is wrong with the releases.
 fn write_places(r: &mut Random, tally: &mut Tally, cases: u32, sizes: &[usize]) {
     for _ in 0..cases {
-        let sheet = small_sheet(r);
+        let tasks = r.of(&[1, 2, 5, 32]);
+        let sheet = sheet_for(r, tasks);
         let sheet = any_charge(r, sheet);
+        let sheet = with_marks(r, sheet);
         let n = r.of(sizes);
         let mut list = list_for(r, &sheet, n, 9);
         let any = r.once_in(2);
@@ -1150,7 +1225,7 @@ fn charge_edges(r: &mut Random, tally: &mut Tally) {
         for e in [1u32, 2, 7, 300, 999_744, 999_745, 999_746, 999_999, 1_000_000] {
             for (p, d) in around.iter().flat_map(|p| around.map(|d| (*p, d))) {
                 let work = e as i64 + charge as i64;
-                let task = Task { p: (work + p).max(0) as u32, j: r.within(0, 9), e, d: (work + d).max(0) as u32 };
+                let task = Task::high((work + p).max(0) as u32, r.within(0, 9), e, (work + d).max(0) as u32);
                 let least = task.p.min(task.d);
                 let expected = if least == 0 || task.p.max(task.d) > MAX_TIME || e > least {
                     Some(6)
@@ -1159,9 +1234,9 @@ fn charge_edges(r: &mut Random, tally: &mut Tally) {
                 } else {
                     None
                 };
-                let other = Task { p: MAX_TIME, j: 0, e: 1, d: MAX_TIME };
+                let other = Task::high(MAX_TIME, 0, 1, MAX_TIME);
                 for (place, tasks) in [(0, vec![task]), (0, vec![task, other]), (1, vec![other, task])] {
-                    let sheet = Sheet::of(&tasks).charged(charge);
+                    let sheet = with_marks(r, Sheet::of(&tasks).charged(charge));
                     let refusal = expected.map(|number| Refusal { number, place });
                     assert_eq!(reference::check_sheet(&sheet).err(), refusal);
                     let list = list_for_any(r, &sheet);
@@ -1183,15 +1258,15 @@ fn charge_edges(r: &mut Random, tally: &mut Tally) {
 fn charge_orders(r: &mut Random, tally: &mut Tally, charge: u8) {
     let room = charge as u32;
     let kinds = [
-        (None, Task { p: 9 + room, j: 3, e: 2, d: 12 + room }),
-        (Some(6), Task { p: 9 + room, j: MAX_TIME + 1, e: 2, d: 12 + room }),
-        (Some(17), Task { p: 1 + room, j: 3, e: 2, d: 12 + room }),
-        (Some(17), Task { p: 9 + room, j: 3, e: 2, d: 1 + room }),
-        (Some(6), Task { p: 1, j: 3, e: 2, d: 12 + room }),
+        (None, Task::high(9 + room, 3, 2, 12 + room)),
+        (Some(6), Task::high(9 + room, MAX_TIME + 1, 2, 12 + room)),
+        (Some(17), Task::high(1 + room, 3, 2, 12 + room)),
+        (Some(17), Task::high(9 + room, 3, 2, 1 + room)),
+        (Some(6), Task::high(1, 3, 2, 12 + room)),
     ];
     for choice in 0..125 {
         let [a, b, c] = [choice / 25, choice / 5 % 5, choice % 5].map(|n| kinds[n]);
-        let sheet = Sheet::of(&[a.1, b.1, c.1]).charged(charge);
+        let sheet = with_marks(r, Sheet::of(&[a.1, b.1, c.1]).charged(charge));
         let first = [a.0, b.0, c.0].iter().position(|n| n.is_some());
         let expected = first.map(|i| Refusal { number: [a.0, b.0, c.0][i].unwrap(), place: i as u64 });
         assert_eq!(reference::check_sheet(&sheet).err(), expected);
@@ -1203,7 +1278,8 @@ fn charge_orders(r: &mut Random, tally: &mut Tally, charge: u8) {
         }
         compare_all(r, tally, &case);
         let file = reference::encode(&sheet, &list);
-        let offset = expected.map(|x| Refusal { place: 2 + 17 * x.place, ..x });
+        // the bytes before it, less that of an end
+        let offset = expected.map(|x| Refusal { place: reference::bytes_needed(&sheet, x.place as usize, &[]) as u64 - 1, ..x });
         if let Some(refusal) = offset {
             assert_eq!(reference::decode(&file), Err(refusal));
         }
@@ -1218,34 +1294,33 @@ fn charge_orders(r: &mut Random, tally: &mut Tally, charge: u8) {
     }
 }
 
+/// A file that is refused so, or accepted: whole and cut at every byte.
+fn check_file(r: &mut Random, tally: &mut Tally, file: &[u8], expected: Option<(u32, u64)>) {
+    let refusal = expected.map(|(number, place)| Refusal { number, place });
+    assert_eq!(reference::decode(file).err(), refusal, "{file:?}");
+    for end in 0..=file.len() {
+        compare_read(r, tally, &file[..end]);
+    }
+}
+
 /// Every charge in a file, before a task that holds it and before one that does not; records of a charge where none may stand, cut ones
 /// and others; what is refused is written out.
 fn charge_files(r: &mut Random, tally: &mut Tally) {
-    let record = |t: Task| {
-        let mut file = reference::encode(&Sheet::of(&[t]), &[]);
-        file.pop();
-        file
-    };
-    let mut check = |file: &[u8], expected: Option<(u32, u64)>| {
-        let refusal = expected.map(|(number, place)| Refusal { number, place });
-        assert_eq!(reference::decode(file).err(), refusal, "{file:?}");
-        for end in 0..=file.len() {
-            compare_read(r, tally, &file[..end]);
-        }
-    };
+    let mut check = |file: &[u8], expected: Option<(u32, u64)>| check_file(r, tally, file, expected);
     for charge in 0..=255u8 {
         let least = 2 + charge as u32;
         for (p, d, number) in [(least, least, None), (least - 1, least, Some(17)), (least, least - 1, Some(17)), (1, least, Some(6))] {
-            let file = [&[5, charge][..], &record(Task { p, j: 0, e: 2, d }), &[3]].concat();
             let expected = if charge == 0 { Some((6, 0)) } else { number.map(|n| (n, 2)) };
-            check(&file, expected);
+            for low in [false, true] {
+                check(&[&[5, charge][..], &record_of(Task::high(p, 0, 2, d).marked(low)), &[3]].concat(), expected);
+            }
         }
     }
-    let (task, tight) = (one_task(), record(Task { p: 9, j: 0, e: 8, d: 9 }));
+    let (task, tight) = (one_task(), record_of(Task::high(9, 0, 8, 9)));
     let (mut short, mut long) = (Vec::new(), Vec::new());
     add_release(&mut short, 2, Release { task: 0, tick: 1, cost: 2 });
     add_release(&mut long, 4, Release { task: 0, tick: MAX_TICK, cost: 2 });
-    let files: [(&[&[u8]], Option<(u32, u64)>); 33] = [
+    let files: [(&[&[u8]], Option<(u32, u64)>); 34] = [
         (&[&[5]], Some((2, 0))),
         (&[&[5, 1]], Some((2, 2))),
         (&[&[5, 0]], Some((6, 0))),
@@ -1253,7 +1328,8 @@ fn charge_files(r: &mut Random, tally: &mut Tally) {
         (&[&[5, 1], &short, &[3]], Some((5, 2))),
         (&[&[5, 1], &long, &[3]], Some((5, 2))),
         (&[&[5, 1], &[0]], Some((1, 2))),
-        (&[&[5, 1], &[6, 1]], Some((1, 2))),
+        (&[&[5, 1], &[6, 1]], Some((2, 2))),
+        (&[&[5, 1], &[7, 1]], Some((1, 2))),
         (&[&[5, 1], &[5]], Some((2, 2))),
         (&[&[5, 1], &[5, 1], &task, &[3]], Some((3, 2))),
         (&[&[5, 1], &[5, 0], &task, &[3]], Some((3, 2))),
@@ -1300,6 +1376,7 @@ fn charge_law(r: &mut Random, tally: &mut Tally, cases: u32, releases: &[usize])
         let (tasks, top) = (r.of(&[1, 2, 5, 32]), r.of(&[40, 1_000, 20_000, 1_000_000]));
         let sheet = if r.once_in(2) { small_sheet(r) } else { loaded_sheet(r, tasks, top) };
         let sheet = if r.once_in(2) { with_fitting_charge(r, sheet) } else { with_part_charged(r, sheet) };
+        let sheet = with_marks(r, sheet);
         if reference::check_sheet(&sheet).is_err() {
             continue;
         }
@@ -1307,35 +1384,36 @@ fn charge_law(r: &mut Random, tally: &mut Tally, cases: u32, releases: &[usize])
         let list = if r.once_in(3) { legal_list_for(r, &sheet, n) } else { list_for(r, &sheet, n, step) };
         let case = Case::sound(r, &sheet, &list);
         let whole = Case { kept: case.kept.clone(), ..Case::sound(r, &charge_in_costs(&sheet), &with_costs(&list, sheet.charge)) };
-        compare_charged(tally, &case, &whole);
+        let choices = reference::choice(&sheet, 32, 32, &mut Budget::of(160_000)).is_ok();
+        compare_both(tally, [&case, &whole], choices);
     }
 }
 
-/// The calls of both cases, the second without a charge: the same codes and slots.
-fn compare_charged(tally: &mut Tally, case: &Case, whole: &Case) {
-    let (tasks, n) = (case.count as usize, case.n as usize);
-    let both = [case, whole];
+/// The calls of two cases with as many tasks and releases: the same codes and slots. With the choice too, where so stated.
+fn compare_both(tally: &mut Tally, both: [&Case; 2], choices: bool) {
+    let (tasks, n) = (both[0].count.min(40) as usize, both[0].n.min(1030) as usize);
+    let ticks = both[0].ends_by([n, n], SOON) && tally.may_tick(both[0]);
     let mut same = |call: usize, [a, b]: [(u64, Vec<Vec<u64>>); 2]| {
-        tally.note(call, None, 0, a == b, || format!("{:?} and with the costs {:?} {}", a, b, case.show()));
+        tally.note(call, None, 0, a == b, || format!("{:?} {}, and {:?} {}", a, both[0].show(), b, both[1].show()));
     };
     let wide = |column: &[u32]| column.iter().map(|&x| x as u64).collect::<Vec<u64>>();
-    for task in [0, case.count - 1] {
+    for task in [0, both[0].count.saturating_sub(1)] {
         same(0, both.map(|c| {
             let mut answer = vec![7; 1];
             (library::arrival_count(&c.numbers, c.count, c.charge, task, &c.kept, 1_000, &mut answer), vec![answer])
         }));
-        if reference::verdict(&case.sheet(), task as usize, &case.kept, &mut Budget::of(40_000)).is_ok() {
+        if reference::verdict(&both[0].sheet(), task as usize, &both[0].kept, &mut Budget::of(40_000)).is_ok() {
             same(1, both.map(|c| {
                 let mut answer = vec![7; 4];
                 (library::verdict(&c.numbers, c.count, c.charge, task, &c.kept, &mut answer), vec![answer])
             }));
         }
     }
-    if reference::choice(&case.sheet(), tasks, tasks, &mut Budget::of(160_000)).is_ok() {
+    if choices {
         same(2, both.map(|c| {
-            let (mut kept, mut worst) = (vec![7; tasks], vec![7; tasks]);
-            let code = library::choice(&c.numbers, c.count, c.charge, &mut kept, &mut worst);
-            (code, vec![wide(&kept), wide(&worst)])
+            let (mut kept, mut worst, mut answer) = (vec![7; tasks], vec![7; tasks], vec![7; 1]);
+            let code = library::choice(&c.numbers, c.count, c.charge, &mut kept, &mut worst, &mut answer);
+            (code, vec![wide(&kept), wide(&worst), answer])
         }));
     }
     same(3, both.map(|c| {
@@ -1346,7 +1424,7 @@ fn compare_charged(tally: &mut Tally, case: &Case, whole: &Case) {
         let mut ready = vec![7; n];
         (library::ready(&c.numbers, c.count, c.charge, &c.kept, c.n, c.library_list(), &mut ready), vec![ready])
     }));
-    if case.ends_by([n, n], SOON) {
+    if ticks {
         same(5, both.map(|c| {
             let (mut ready, mut finish) = (vec![7; n], vec![7; n]);
             let code = library::run(&c.numbers, c.count, c.charge, &c.kept, c.n, c.library_list(), &mut ready, &mut finish);
@@ -1367,6 +1445,7 @@ fn check_reference_charge(r: &mut Random, cases: u32) {
     for _ in 0..cases {
         let sheet = small_sheet(r);
         let sheet = with_fitting_charge(r, sheet);
+        let sheet = with_marks(r, sheet);
         let whole = charge_in_costs(&sheet);
         let kept = kept_for(r, &sheet);
         let budget = || Budget::of(40_000);
@@ -1386,6 +1465,224 @@ fn check_reference_charge(r: &mut Random, cases: u32) {
     }
 }
 
+// ---- Marks -------------------------------------------------------------------------------------------------------------
+
+/// Every pattern of marks.
+fn patterns(tasks: usize) -> impl Iterator<Item = Vec<bool>> {
+    (0..1u32 << tasks).map(move |pattern| (0..tasks).map(|i| pattern >> i & 1 == 1).collect())
+}
+
+/// Choices of small sheets with every pattern of marks: of those whose ordinary choice ends in 15, and of some others.
+fn marked_choices(r: &mut Random, tally: &mut Tally, cases: u32) {
+    let budget = || Budget::of(160_000);
+    for _ in 0..cases {
+        let sheet = small_sheet(r);
+        let sheet = with_part_charged(r, sheet);
+        let ordinary = match reference::choice(&sheet, 32, 32, &mut budget()) {
+            Ok(Ok(_)) if !r.once_in(6) => continue,
+            Ok(ordinary) => ordinary,
+            Err(_) => {
+                tally.passed_over += 1;
+                continue;
+            }
+        };
+        assert!(ordinary.as_ref().map_or_else(|x| x.number == 15, |c| !c.high_only));
+        for lows in patterns(sheet.count) {
+            let marked = sheet.marked(&lows);
+            let Ok(chosen) = reference::choice(&marked, 32, 32, &mut budget()) else {
+                tally.passed_over += 1;
+                continue;
+            };
+            if lows.contains(&true) {
+                tally.ended(&ordinary, &chosen);
+            }
+            let case = Case::sound(r, &marked, &[]);
+            compare_choice_into(r, tally, &case, [sheet.count, sheet.count, 1], 160_000);
+        }
+    }
+}
+
+/// The choices with marks that were worked out by hand.
+fn marked_by_hand(r: &mut Random, tally: &mut Tally) {
+    for (sheet, lows, _) in sums::marked_choices() {
+        for _ in 0..20 {
+            let case = Case::sound(r, &sheet.marked(&lows), &[]);
+            compare_choice(r, tally, &case, 100_000_000);
+        }
+    }
+}
+
+/// A sheet with marks, and the same with every task high: the archive gives the same arrival counts, verdicts, checks, ready ticks and runs
+/// of both, the same choice where the ordinary one succeeds, and the same refusals. Sound and damaged.
+fn mark_law(r: &mut Random, tally: &mut Tally, cases: u32, releases: &[usize]) {
+    for _ in 0..cases {
+        let (tasks, top) = (r.of(&[1, 2, 5, 32]), r.of(&[40, 1_000, 20_000, 1_000_000]));
+        let sheet = if r.once_in(2) { small_sheet(r) } else { loaded_sheet(r, tasks, top) };
+        let sheet = any_charge(r, sheet);
+        let sheet = with_marks(r, sheet);
+        let (n, step) = (r.of(releases), r.of(&[0, 3, 40, 2_000]));
+        let mut list = if r.once_in(3) { legal_list_for(r, &sheet, n) } else { list_for(r, &sheet, n, step) };
+        if r.once_in(8) {
+            damage_list(r, &sheet, &mut list);
+        }
+        let mut case = Case::sound(r, &sheet, &list);
+        if r.once_in(5) {
+            case.damage(r);
+        }
+        let high = case.all_high();
+        let choices = match reference::choice(&high.sheet(), 40, 40, &mut Budget::of(160_000)) {
+            Ok(given) => given.map_or_else(|x| x.number != 15, |_| true),
+            Err(_) => false,
+        };
+        compare_both(tally, [&case, &high], choices);
+    }
+}
+
+/// What a choice promises, on runs of the reference: with its kept jitters no job of a task that it judged is late where the releases of
+/// that task are legal, whatever the others release. Of the choices of the high tasks alone some leave a low task with a late job.
+fn check_reference_marks(r: &mut Random, cases: u32) {
+    let (mut judged, mut late) = ([0; 2], 0);
+    for _ in 0..cases {
+        let sheet = small_sheet(r);
+        let sheet = with_part_charged(r, sheet);
+        let sheet = with_marks(r, sheet);
+        let Ok(Ok(Chosen { kept, high_only, .. })) = reference::choice(&sheet, 32, 32, &mut Budget::of(40_000)) else {
+            continue;
+        };
+        for _ in 0..4 {
+            let list = if r.once_in(2) { legal_list_for(r, &sheet, 24) } else { list_for(r, &sheet, 24, 8) };
+            let ready = reference::ready_ticks(&sheet, &kept, &list);
+            let finish = reference::finish_ticks(sheet.charge, &list, &ready);
+            for i in 0..sheet.count {
+                let own: Vec<usize> = (0..list.len()).filter(|&p| list[p].task as usize == i).collect();
+                let releases: Vec<Release> = own.iter().map(|&p| list[p]).collect();
+                if reference::first_too_close(&sheet, &releases).is_some() {
+                    continue;
+                }
+                let is_late = own.iter().any(|&p| finish[p] - list[p].tick as i64 > sheet.task(i).d as i64);
+                if high_only && sheet.task(i).low {
+                    late += is_late as u32;
+                } else {
+                    assert!(!is_late, "task {i} {sheet:?} {kept:?} {list:?}");
+                    judged[high_only as usize] += own.len();
+                }
+            }
+        }
+    }
+    assert!(judged.iter().all(|&n| n > 1_000) && late > 1_000, "{judged:?} {late}");
+}
+
+/// Marks in files: each last byte of kind 6, in the first task and in another; low tasks where none may stand, cut ones, out of range,
+/// too tight for the charge, and with two of these; what is refused is written out.
+fn mark_files(r: &mut Random, tally: &mut Tally) {
+    let (task, low, wrong) = (one_task(), one_low_task(0), one_low_task(1));
+    for mark in 0..=255 {
+        let (record, number) = (one_low_task(mark), if mark == 0 { None } else { Some(6) });
+        for (before, charge) in [(vec![], vec![]), (vec![], vec![5, 4]), (task.repeat(2), vec![]), (low.repeat(3), vec![5, 1])] {
+            let place = (charge.len() + before.len()) as u64;
+            for after in [vec![3], [&task[..], &[3]].concat()] {
+                let file = [&charge[..], &before, &record, &after].concat();
+                check_file(r, tally, &file, number.map(|n| (n, place)));
+            }
+        }
+        if mark > 0 {
+            tally.wrong_marks.insert(mark);
+        }
+    }
+    let (range, tight) = (record_of(Task::high(6, 5, 7, 6).marked(true)), record_of(Task::high(9, 0, 8, 9).marked(true)));
+    let mut both = tight.clone();
+    both[17] = 255;
+    let (mut short, mut long) = (Vec::new(), Vec::new());
+    add_release(&mut short, 2, Release { task: 0, tick: 1, cost: 2 });
+    add_release(&mut long, 4, Release { task: 0, tick: MAX_TICK, cost: 2 });
+    let files: [(&[&[u8]], Option<(u32, u64)>); 40] = [
+        (&[&[6]], Some((2, 0))),
+        (&[&low[..17]], Some((2, 0))),
+        (&[&low], Some((2, 18))),
+        (&[&low, &[3]], None),
+        (&[&low, &low, &[3]], None),
+        (&[&low, &task, &[3]], None),
+        (&[&task, &low, &[3]], None),
+        (&[&[5, 4], &low, &short, &long, &[3]], None),
+        (&[&wrong], Some((6, 0))),
+        (&[&wrong[..17]], Some((2, 0))),
+        (&[&wrong, &[9]], Some((6, 0))),
+        // a low task is kind 1 with one byte more: without it the next kind is taken for it
+        (&[&low[..17], &[3]], Some((6, 0))),
+        (&[&low[..17], &task, &[3]], Some((6, 0))),
+        (&[&task, &[0], &[3]], Some((1, 17))),
+        // after a release 3, whatever its last byte is
+        (&[&low, &short, &low, &[3]], Some((3, 28))),
+        (&[&low, &short, &wrong, &[3]], Some((3, 28))),
+        (&[&task, &short, &low, &[3]], Some((3, 27))),
+        (&[&task, &long, &wrong, &[3]], Some((3, 31))),
+        (&[&task, &short, &range, &[3]], Some((3, 27))),
+        (&[&low, &short, &low[..17]], Some((2, 28))),
+        (&[&low, &long, &wrong[..17]], Some((2, 32))),
+        // the 33rd task 4, whatever its last byte is
+        (&[&low.repeat(32), &[3]], None),
+        (&[&low.repeat(32), &low, &[3]], Some((4, 576))),
+        (&[&low.repeat(32), &wrong, &[3]], Some((4, 576))),
+        (&[&low.repeat(32), &wrong[..17]], Some((2, 576))),
+        (&[&task.repeat(32), &low, &[3]], Some((4, 544))),
+        (&[&task.repeat(32), &wrong, &[3]], Some((4, 544))),
+        (&[&task.repeat(31), &wrong, &[3]], Some((6, 527))),
+        (&[&[5, 4], &low.repeat(32), &both, &[3]], Some((4, 578))),
+        // 6 and 17
+        (&[&range, &[3]], Some((6, 0))),
+        (&[&[5, 1], &tight, &[3]], None),
+        (&[&[5, 4], &tight, &[3]], Some((17, 2))),
+        (&[&[5, 4], &low, &tight, &[3]], Some((17, 20))),
+        (&[&[5, 4], &low, &both, &[3]], Some((6, 20))),
+        (&[&[5, 4], &task, &tight, &wrong, &[3]], Some((17, 19))),
+        (&[&[5, 4], &task, &wrong, &tight, &[3]], Some((6, 19))),
+        // a charge after a low task, and a release and an end after one
+        (&[&low, &[5, 1], &[3]], Some((3, 18))),
+        (&[&low, &[3], &low], Some((11, 19))),
+        (&[&[3], &low], Some((5, 0))),
+        (&[&short, &low, &[3]], Some((5, 0))),
+    ];
+    for (records, expected) in files {
+        check_file(r, tally, &records.concat(), expected);
+    }
+    // releases of low tasks
+    for (number, cost, expected) in [(0, 2, None), (1, 2, None), (2, 2, Some((7, 35))), (0, 3, Some((9, 35))), (1, 0, Some((9, 35)))] {
+        let mut release = Vec::new();
+        add_release(&mut release, 2, Release { task: number, tick: 0, cost });
+        check_file(r, tally, &[&low[..], &task, &release, &[3]].concat(), expected);
+    }
+}
+
+/// Files of the kinds up to 5, and of the same tasks with marks: the archive reads the same but for the marks, and writes the records of
+/// high tasks as kind 1 and of low ones as kind 6.
+fn marked_files(r: &mut Random, tally: &mut Tally, cases: u32) {
+    for _ in 0..cases {
+        let (tasks, n, charge) = (r.of(&[1, 2, 7, 32]), r.of(&[0, 1, 5, 30]), r.of(&EDGE_CHARGES));
+        let sheet = roomy_sheet_for(r, tasks, charge);
+        let marked = with_marks(r, sheet.clone());
+        let list = list_for(r, &sheet, n, 9);
+        let by = if r.once_in(2) { 0 } else { MAX_TICK - list.last().map_or(0, |x| x.tick) };
+        let list = moved(&list, by);
+        let read = |file: &[u8]| {
+            let (mut numbers, mut counts) = (vec![7; SHEET_NUMBERS], vec![7; 3]);
+            let (mut task, mut tick, mut cost) = (vec![7; 32], vec![7; 32], vec![7; 32]);
+            let code = library::read(file, &mut numbers, &mut task, &mut tick, &mut cost, &mut counts);
+            (code, numbers, counts, task, tick, cost)
+        };
+        let (high, low) = (reference::encode(&sheet, &list), reference::encode(&marked, &list));
+        let lows = marked.tasks.iter().filter(|t| t.low).count();
+        assert_eq!(low.len(), high.len() + lows);
+        let (mut with, without) = (read(&low), read(&high));
+        for (i, t) in marked.tasks.iter().enumerate() {
+            with.1[TASK_NUMBERS * i + 4] -= t.low as u32;
+        }
+        tally.note(6, None, with.0, with == without, || format!("with marks {with:?}, and without {without:?} {low:?}"));
+        let case = Case::sound(r, &marked, &list);
+        compare_write_to(r, tally, &case, low.len());
+        compare_write_to(r, tally, &case.all_high(), high.len());
+    }
+}
+
 /// Some tasks of one period P and one kept jitter K above a task of which W(0) is kP − K: what they leave free of each P up to there is
 /// its cost and K. There the arrival count steps, a tick later it is one more.
 fn sheet_at_step(above: u32, p: u32, k: u32, keep: u32) -> Option<(Sheet, Vec<u32>)> {
@@ -1395,8 +1692,8 @@ fn sheet_at_step(above: u32, p: u32, k: u32, keep: u32) -> Option<(Sheet, Vec<u3
         return None;
     }
     let share = |j: u32| taken / above + (j < taken % above) as u32;
-    let mut tasks: Vec<Task> = (0..above).map(|j| Task { p, j: keep, e: share(j), d: 1_000_000 }).collect();
-    tasks.push(Task { p: 1_000_000, j: 0, e: cost, d: 1_000_000 });
+    let mut tasks: Vec<Task> = (0..above).map(|j| Task::high(p, keep, share(j), 1_000_000)).collect();
+    tasks.push(Task::high(1_000_000, 0, cost, 1_000_000));
     let mut kept = vec![keep; above as usize];
     kept.push(0);
     Some((Sheet::of(&tasks), kept))
@@ -1454,8 +1751,8 @@ fn long_walks(r: &mut Random, tally: &mut Tally) {
         &[[2_000, 1, 1_000, 1_002], [2_000, 1_500, 1_000, 1_000_000]],
     ];
     for (sheet, charge) in sheets.into_iter().flat_map(|s| [(s, 0), (s, 200)]) {
-        let flat: Vec<u32> = sheet.iter().flatten().copied().collect();
-        let mut whole = sheet_of(&flat, sheet.len() as u32, charge);
+        let all: Vec<Task> = sheet.iter().map(|t| Task::high(t[0], t[1], t[2], t[3])).collect();
+        let mut whole = with_marks(r, Sheet::of(&all).charged(charge));
         if whole.tasks.iter().any(|t| t.e <= charge as u32) {
             continue;
         }
@@ -1473,14 +1770,19 @@ fn long_walks(r: &mut Random, tally: &mut Tally) {
     }
 }
 
-/// A choice that is too long to be made by trying every K: the K chosen fits with the worst value given, and one less does not fit.
+/// A choice that is too long to be made by trying every K: the K chosen fits with the worst value given, and one less does not fit; where
+/// it is that of the high tasks alone, both are 0 of a low task.
 fn compare_choice_by_verdicts(tally: &mut Tally, case: &Case) {
     let (sheet, n) = (case.sheet(), case.count as usize);
-    let (mut kept, mut worst) = (vec![0; n], vec![0; n]);
-    if library::choice(&case.numbers, case.count, case.charge, &mut kept, &mut worst) != 0 {
+    let (mut kept, mut worst, mut answer) = (vec![0; n], vec![0; n], [0; 1]);
+    if library::choice(&case.numbers, case.count, case.charge, &mut kept, &mut worst, &mut answer) != 0 {
         return;
     }
     for i in 0..n {
+        if answer[0] == 1 && sheet.task(i).low {
+            tally.note(2, None, 0, (kept[i], worst[i]) == (0, 0), || format!("task {} kept {:?} worst {:?} {}", i, kept, worst, case.show()));
+            continue;
+        }
         let at = |k: u32| {
             let mut all = kept.clone();
             all[i] = k;
@@ -1520,17 +1822,17 @@ fn short_answers(r: &mut Random, tally: &mut Tally) {
         (|_| (), 1, [(13, 1), (13, 4)]),
         (|c| c.count = 0, 1, [(5, 0), (5, 0)]),
         (|c| c.count = 33, 1, [(4, 32), (4, 32)]),
-        (|c| c.numbers[6] = 0, 0, [(6, 1), (6, 1)]),
+        (|c| c.numbers[7] = 0, 0, [(6, 1), (6, 1)]),
         (|_| (), 7, [(14, 7), (14, 7)]),
         (|c| c.kept.clear(), 1, [(13, 3), (13, 3)]),
         (|c| c.kept[1] = 8, 1, [(13, 1), (13, 4)]),
         // a charge: the tasks hold up to 4
         (|c| c.charge = 4, 1, [(13, 1), (13, 4)]),
         (|c| c.charge = 5, 1, [(17, 0), (17, 0)]),
-        (|c| (c.charge, c.numbers[10]) = (4, 7), 1, [(17, 2), (17, 2)]),
-        (|c| (c.charge, c.numbers[6]) = (5, 0), 1, [(17, 0), (17, 0)]),
+        (|c| (c.charge, c.numbers[12]) = (4, 7), 1, [(17, 2), (17, 2)]),
+        (|c| (c.charge, c.numbers[7]) = (5, 0), 1, [(17, 0), (17, 0)]),
         (|c| (c.charge, c.numbers[2]) = (5, 7), 1, [(6, 0), (6, 0)]),
-        (|c| (c.charge, c.numbers[6], c.numbers[10]) = (4, 0, 7), 1, [(6, 1), (6, 1)]),
+        (|c| (c.charge, c.numbers[7], c.numbers[12]) = (4, 0, 7), 1, [(6, 1), (6, 1)]),
         (|c| (c.charge, c.count) = (255, 0), 1, [(5, 0), (5, 0)]),
         (|c| (c.charge, c.count) = (255, 33), 1, [(4, 32), (4, 32)]),
         (|c| (c.charge, c.kept) = (255, vec![]), 7, [(17, 0), (17, 0)]),
@@ -1552,8 +1854,46 @@ fn short_answers(r: &mut Random, tally: &mut Tally) {
         tally.note(1, None, got, answer.holds(Some(&[1, 0, 9, 1])), || format!("{} slots: {:?}", slots, answer.now));
     }
 
+    // a choice on the printed sheet, which ends in 15 at task 2: the change, the slots of kept jitters, worst values and answer, and what it
+    // refuses
+    let choices: [(fn(&mut Case), [usize; 3], (u32, u64)); 22] = [
+        (|_| (), [3, 3, 1], (15, 2)),
+        (|_| (), [3, 3, 0], (13, 1)),
+        (|_| (), [2, 3, 0], (13, 3)),
+        (|_| (), [3, 2, 1], (13, 3)),
+        (|_| (), [0, 0, 0], (13, 3)),
+        // the ordinary choice, and that of the high tasks alone
+        (|c| c.numbers[13] = 11, [3, 3, 0], (13, 1)),
+        (|c| c.numbers[13] = 11, [3, 2, 0], (13, 3)),
+        (|c| c.numbers[14] = 1, [3, 3, 0], (13, 1)),
+        (|c| c.numbers[14] = 1, [2, 3, 0], (13, 3)),
+        (|c| c.numbers[9] = u32::MAX, [3, 3, 0], (13, 1)),
+        // with task 0 low it ends at task 2 still; where no K fits task 0 the ordinary one ends there
+        (|c| c.numbers[4] = 256, [3, 3, 1], (15, 2)),
+        (|c| c.numbers[3] = 2, [3, 3, 1], (15, 0)),
+        (|c| (c.numbers[3], c.numbers[4]) = (2, 1), [3, 3, 1], (15, 2)),
+        (|c| (c.numbers[3], c.numbers[4]) = (2, 1), [3, 3, 0], (13, 1)),
+        (|c| (c.numbers[3], c.numbers[14]) = (2, 1), [3, 3, 1], (15, 0)),
+        (|c| (c.numbers[3], c.numbers[8], c.numbers[4]) = (2, 4, 1), [3, 3, 1], (15, 1)),
+        // the sheet before all
+        (|c| c.count = 0, [0, 0, 0], (5, 0)),
+        (|c| c.count = 33, [0, 0, 0], (4, 32)),
+        (|c| c.numbers[7] = 0, [0, 0, 0], (6, 1)),
+        (|c| (c.numbers[7], c.numbers[9]) = (0, 1), [3, 3, 0], (6, 1)),
+        (|c| (c.charge, c.numbers[4]) = (5, 1), [0, 0, 0], (17, 0)),
+        (|c| (c.charge, c.numbers[4]) = (4, 1), [3, 3, 0], (13, 1)),
+    ];
+    for (change, [a, b, w], (number, place)) in choices {
+        let case = changed(change);
+        let (mut kept, mut worst, mut answer) = (numbers(r, a), numbers(r, b), words(r, w));
+        let got = library::choice(&case.numbers, case.count, case.charge, &mut kept.now, &mut worst.now, &mut answer.now);
+        let same = kept.holds(None) && worst.holds(None) && answer.holds(None);
+        tally.note(2, refused(number, place), got, same, || format!("slots {:?} {}", [a, b, w], case.show()));
+        compare_choice_into(r, tally, &case, [a, b, w], 1_000_000);
+    }
+
     // a list of three: what a trace check with one slot and a write with none refuse, and the bytes that the write needs
-    let lists: [(fn(&mut Case), [(u32, u64); 2], usize); 19] = [
+    let lists: [(fn(&mut Case), [(u32, u64); 2], usize); 25] = [
         (|_| (), [(13, 2), (13, 1)], 82),
         (|c| c.count = 0, [(5, 0), (5, 0)], 0),
         (|c| c.numbers[0] = 0, [(6, 0), (6, 0)], 0),
@@ -1574,6 +1914,13 @@ fn short_answers(r: &mut Random, tally: &mut Tally) {
         (|c| (c.charge, c.n) = (5, 1025), [(17, 0), (17, 0)], 0),
         (|c| (c.charge, c.n) = (4, 1025), [(10, 1024), (10, 1024)], 0),
         (|c| (c.charge, c.tick) = (255, vec![]), [(17, 0), (17, 0)], 0),
+        // a low task has one byte more, and one past the count none
+        (|c| c.numbers[4] = 1, [(13, 2), (13, 1)], 83),
+        (|c| (c.numbers[4], c.numbers[9], c.numbers[14]) = (2, 256, u32::MAX), [(13, 2), (13, 1)], 85),
+        (|c| (c.charge, c.numbers[9]) = (4, 1), [(13, 2), (13, 1)], 85),
+        (|c| (c.numbers[14], c.tick) = (1 << 31, vec![MAX_TICK; 4]), [(13, 2), (13, 1)], 95),
+        (|c| (c.numbers[9], c.cost[0]) = (1, 0), [(13, 2), (13, 1)], 83),
+        (|c| c.numbers.extend([6, 5, 2, 6, 1]), [(13, 2), (13, 1)], 82),
     ];
     for (change, [check, write], needed) in lists {
         let case = changed(change);
@@ -1595,7 +1942,7 @@ fn short_answers(r: &mut Random, tally: &mut Tally) {
         (|_| (), [2, 2], (13, 1), None),
         (|c| c.count = 0, [2, 2], (5, 0), Some((5, 0))),
         (|c| c.count = 33, [2, 2], (4, 32), Some((4, 32))),
-        (|c| c.numbers[6] = 0, [2, 2], (6, 1), Some((6, 1))),
+        (|c| c.numbers[7] = 0, [2, 2], (6, 1), Some((6, 1))),
         (|c| c.n = 1025, [2, 2], (10, 1024), Some((10, 1024))),
         (|c| c.kept.truncate(2), [2, 2], (13, 3), Some((13, 3))),
         (|c| c.task.truncate(1), [2, 2], (13, 2), Some((13, 2))),
@@ -1611,7 +1958,7 @@ fn short_answers(r: &mut Random, tally: &mut Tally) {
         (|c| c.cost[1] = 3, [2, 2], (13, 1), Some((9, 1))),
         // two things besides the answer
         (|c| (c.count, c.n) = (0, 1025), [2, 2], (5, 0), Some((5, 0))),
-        (|c| (c.numbers[6], c.n) = (0, 1025), [0, 0], (6, 1), Some((6, 1))),
+        (|c| (c.numbers[7], c.n) = (0, 1025), [0, 0], (6, 1), Some((6, 1))),
         (|c| (c.n, c.kept) = (1025, vec![]), [0, 0], (10, 1024), Some((10, 1024))),
         (|c| (c.kept, c.task) = (vec![], vec![]), [0, 0], (13, 3), Some((13, 3))),
         (|c| c.kept[1] = 8, [1, 2], (13, 2), Some((13, 2))),
@@ -1626,8 +1973,8 @@ fn short_answers(r: &mut Random, tally: &mut Tally) {
         (|c| c.charge = 4, [2, 2], (13, 1), None),
         (|c| c.charge = 5, [2, 2], (17, 0), Some((17, 0))),
         (|c| (c.charge, c.n) = (5, 1025), [2, 2], (17, 0), Some((17, 0))),
-        (|c| (c.charge, c.numbers[10], c.kept) = (4, 7, vec![]), [0, 0], (17, 2), Some((17, 2))),
-        (|c| (c.charge, c.numbers[6], c.numbers[10]) = (4, 0, 7), [2, 2], (6, 1), Some((6, 1))),
+        (|c| (c.charge, c.numbers[12], c.kept) = (4, 7, vec![]), [0, 0], (17, 2), Some((17, 2))),
+        (|c| (c.charge, c.numbers[7], c.numbers[12]) = (4, 0, 7), [2, 2], (6, 1), Some((6, 1))),
         (|c| (c.charge, c.cost[1]) = (4, 3), [2, 2], (13, 1), Some((9, 1))),
         (|c| (c.charge, c.kept[1]) = (4, 8), [2, 2], (13, 1), Some((12, 1))),
     ];
@@ -1664,31 +2011,36 @@ fn short_answers(r: &mut Random, tally: &mut Tally) {
     let one = reference::encode(&sheet, &sums::printed_releases()[..1]);
     let charged = reference::encode(&sheet.charged(4), &sums::printed_releases()[..1]);
     let over = reference::encode(&sheet.charged(5), &sums::printed_releases()[..1]);
-    let files: [(&[u8], usize, [usize; 3], usize, (u32, u64)); 25] = [
-        (&file, 127, [3, 3, 3], 3, (13, 128)),
-        (&file, 128, [3, 3, 3], 2, (13, 3)),
-        (&file, 0, [0, 3, 3], 0, (13, 128)),
-        (&file, 128, [2, 3, 3], 0, (13, 3)),
-        (&file, 128, [3, 0, 3], 1, (13, 3)),
+    let low = reference::encode(&sheet.marked(&[false, true, true]), &sums::printed_releases()[..1]);
+    let files: [(&[u8], usize, [usize; 3], usize, (u32, u64)); 29] = [
+        (&file, 159, [3, 3, 3], 3, (13, 160)),
+        (&file, 160, [3, 3, 3], 2, (13, 3)),
+        (&file, 0, [0, 3, 3], 0, (13, 160)),
+        (&file, 160, [2, 3, 3], 0, (13, 3)),
+        (&file, 160, [3, 0, 3], 1, (13, 3)),
         (&file, 200, [5, 4, 2], 0, (13, 3)),
         // of one release, so that the place says which of them is short
-        (&one, 128, [1, 1, 1], 0, (13, 3)),
-        (&one, 128, [1, 1, 1], 1, (13, 3)),
-        (&one, 128, [1, 1, 1], 2, (13, 3)),
-        (&one, 128, [1, 0, 1], 2, (13, 1)),
-        (&charged, 128, [1, 1, 1], 2, (13, 3)),
-        (&charged, 128, [0, 1, 1], 2, (13, 1)),
-        (&charged, 127, [0, 1, 1], 2, (13, 128)),
-        (&charged[..63], 127, [0, 1, 1], 2, (2, 63)),
-        (&charged[2..], 128, [1, 1, 1], 2, (13, 3)),
+        (&one, 160, [1, 1, 1], 0, (13, 3)),
+        (&one, 160, [1, 1, 1], 1, (13, 3)),
+        (&one, 160, [1, 1, 1], 2, (13, 3)),
+        (&one, 160, [1, 0, 1], 2, (13, 1)),
+        (&low, 160, [1, 1, 1], 2, (13, 3)),
+        (&low, 160, [1, 1, 0], 2, (13, 1)),
+        (&low, 159, [0, 0, 0], 0, (13, 160)),
+        (&low[..62], 159, [0, 0, 0], 0, (2, 53)),
+        (&charged, 160, [1, 1, 1], 2, (13, 3)),
+        (&charged, 160, [0, 1, 1], 2, (13, 1)),
+        (&charged, 159, [0, 1, 1], 2, (13, 160)),
+        (&charged[..63], 159, [0, 1, 1], 2, (2, 63)),
+        (&charged[2..], 160, [1, 1, 1], 2, (13, 3)),
         (&charged[..1], 0, [0, 0, 0], 0, (2, 0)),
         (&over, 0, [0, 0, 0], 0, (17, 2)),
         (&over[..18], 0, [0, 0, 0], 0, (2, 2)),
         (&[], 0, [0, 0, 0], 0, (2, 0)),
         (&file[..81], 0, [3, 3, 3], 3, (2, 81)),
-        (&longer, 127, [0, 0, 0], 0, (11, 82)),
-        (&file[17 * 3..], 128, [3, 3, 3], 0, (5, 0)),
-        (&late, 128, [3, 2, 3], 3, (13, 3)),
+        (&longer, 159, [0, 0, 0], 0, (11, 82)),
+        (&file[17 * 3..], 160, [3, 3, 3], 0, (5, 0)),
+        (&late, 160, [3, 2, 3], 3, (13, 3)),
         (&late[..93], 0, [0, 0, 0], 0, (2, 93)),
         (&late[17 * 3..], 0, [0, 0, 0], 0, (5, 0)),
     ];
@@ -1702,24 +2054,24 @@ fn short_answers(r: &mut Random, tally: &mut Tally) {
 
     // texts: the slots of the sheet and of the answer, and what decides
     let texts: [(&str, usize, usize, (u32, u64)); 18] = [
-        ("6,5,2,6\n8,7,2,8\n", 127, 1, (13, 128)),
-        ("6,5,2,6\n8,7,2,8\n", 128, 0, (13, 1)),
-        ("6,5,2,6\n8,7,2,8\n", 0, 0, (13, 128)),
+        ("6,5,2,6\n8,7,2,8\n", 159, 1, (13, 160)),
+        ("6,5,2,6\n8,7,2,8\n", 160, 0, (13, 1)),
+        ("6,5,2,6\n8,7,2,8\n", 0, 0, (13, 160)),
         ("", 0, 0, (5, 0)),
         ("\n", 0, 0, (16, 0)),
-        ("6,5,2,6", 128, 1, (16, 0)),
-        ("6,5,2,6\r\n", 128, 1, (16, 0)),
-        ("6,5,2,6\n8,7,2,8\n8,7,2,08\n", 127, 0, (16, 2)),
-        ("6,5,2,6\n8,7,2,8\n\n", 128, 0, (16, 2)),
-        ("6,5,2,6\n8,7,9,8\n8,7,2,08\n", 127, 0, (6, 1)),
-        ("6,5,2,6\n1000001,7,9,+8\n", 128, 1, (16, 1)),
-        ("0,5,2,6,\n", 128, 1, (16, 0)),
-        ("0,5,2,6\nx\n", 128, 1, (6, 0)),
-        ("6,5,4294967298,6\n", 128, 1, (6, 0)),
-        ("18446744073709551622,5,2,6\n", 128, 1, (6, 0)),
+        ("6,5,2,6", 160, 1, (16, 0)),
+        ("6,5,2,6\r\n", 160, 1, (16, 0)),
+        ("6,5,2,6\n8,7,2,8\n8,7,2,08\n", 159, 0, (16, 2)),
+        ("6,5,2,6\n8,7,2,8\n\n", 160, 0, (16, 2)),
+        ("6,5,2,6\n8,7,9,8\n8,7,2,08\n", 159, 0, (6, 1)),
+        ("6,5,2,6\n1000001,7,9,+8\n", 160, 1, (16, 1)),
+        ("0,5,2,6,\n", 160, 1, (16, 0)),
+        ("0,5,2,6\nx\n", 160, 1, (6, 0)),
+        ("6,5,4294967298,6\n", 160, 1, (6, 0)),
+        ("18446744073709551622,5,2,6\n", 160, 1, (6, 0)),
         ("6,5,2,1000001\n", 0, 0, (6, 0)),
         ("6,5,2,6\n8,7,2,8", 0, 1, (16, 1)),
-        ("6,5,2,6\n8,0,0,8\n", 128, 0, (6, 1)),
+        ("6,5,2,6\n8,0,0,8\n", 160, 0, (6, 1)),
     ];
     for (text, s, a, (number, place)) in texts {
         let (mut answer, mut sheet) = (words(r, a), numbers(r, s));
@@ -1729,7 +2081,7 @@ fn short_answers(r: &mut Random, tally: &mut Tally) {
     }
     let full = "6,5,2,6\n".repeat(32);
     for (last, number) in [("6,5,2,6\n", 4), ("0,0,0,0\n", 4), ("6,5,2,6", 16), ("6,5,2\n", 16), ("\n", 16), ("6,5,2,06\n", 16)] {
-        let (mut answer, mut sheet) = (words(r, 1), numbers(r, 128));
+        let (mut answer, mut sheet) = (words(r, 1), numbers(r, 160));
         let got = library::load(format!("{full}{last}").as_bytes(), &mut sheet.now, &mut answer.now);
         let same = answer.holds(None) && sheet.holds(None);
         tally.note(8, refused(number, 32), got, same, || format!("32 lines and {:?}", last));
@@ -1754,6 +2106,7 @@ fn main() {
     timed("reference: forms and late ticks", || check_reference_jump(r, 500));
     timed("reference: texts there and back", || check_reference_texts(r, 20_000));
     timed("reference: a charge and costs with it", || check_reference_charge(r, 10_000));
+    timed("reference: marks and late jobs", || check_reference_marks(r, 10_000));
     timed("printed sheet", || printed(r, tally));
     timed("answers that are too short", || short_answers(r, tally));
     timed("small sheets and lists", || small(r, tally, 120_000));
@@ -1766,6 +2119,12 @@ fn main() {
     timed("charges: files", || charge_files(r, tally));
     timed("charges: in the costs", || charge_law(r, tally, 20_000, &[0, 1, 2, 5, 12, 40]));
     timed("the same with 1,024 releases", || charge_law(r, tally, 40, &[1024]));
+    timed("marks: choices by hand", || marked_by_hand(r, tally));
+    timed("marks: every pattern on small sheets", || marked_choices(r, tally, 20_000));
+    timed("marks: every task high", || mark_law(r, tally, 20_000, &[0, 1, 2, 5, 12, 40]));
+    timed("the same with 1,024 releases", || mark_law(r, tally, 40, &[1024]));
+    timed("marks: files", || mark_files(r, tally));
+    timed("marks: files of high tasks and these", || marked_files(r, tally, 3_000));
     timed("ticks at 1,000,000,000", || late_ticks(r, tally, 3));
     timed("ticks past it, up to the limit", || long_ticks(r, tally, 20_000, &[0, 1, 2, 5, 12]));
     timed("the same with 1,024 releases", || long_ticks(r, tally, 60, &[1023, 1024, 1024, 1025]));
@@ -1791,8 +2150,9 @@ fn main() {
     timed("arrival counts at their steps", || counts_at_steps(r, tally, 1_000));
     timed("evaluations counted by hand", || numbers_by_hand(r, tally));
     timed("long walks", || long_walks(r, tally));
-    for ((name, n), charged) in NAMES.iter().zip(tally.calls).zip(tally.charged) {
-        println!("{:<14} {:8} calls, {} answered with a charge", name, n, charged);
+    for (call, name) in NAMES.iter().enumerate() {
+        let (charged, marked) = (tally.charged[call], tally.marked[call]);
+        println!("{:<14} {:8} calls, {} answered with a charge, {} with a low task", name, tally.calls[call], charged, marked);
     }
     let each: Vec<String> = (1..18).map(|n| format!("{}: {}", n, tally.refusals[n])).collect();
     println!("refusals by number  {}", each.join("  "));
@@ -1802,16 +2162,22 @@ fn main() {
     println!("evaluations  most {}; {}; choices added up {}", tally.most_evaluations, lists.join("  "), tally.added_up);
     println!("jumping runs  most stops {}; fewer than two stops for each release {}", tally.most_stops, tally.shared_stops);
     println!("charges with which a call was answered: {}", tally.charges.len());
+    let ends: Vec<String> = ENDS.iter().zip(tally.ends).map(|(name, n)| format!("{name} {n}")).collect();
+    println!("choices with low tasks  {}; last bytes of kind 6 refused {}", ends.join("  "), tally.wrong_marks.len());
     println!("largest ready tick {}, finish {}; too many ticks to be ticked through {}", tally.last_ready, tally.last_finish, tally.not_ticked);
     println!("outside comparison: {} calls, {} differences", tally.calls.iter().sum::<u64>(), tally.differences);
     let stops = tally.most_stops == 2 * MAX_RELEASES as u64 && tally.shared_stops > 0;
     let ticks = (tally.last_ready, tally.last_finish) == (1_000_001_023_000_000, 1_000_001_024_000_001);
-    // a load has no charge
+    // a load has no charge and no low task
     let charges = tally.charges.len() == 255 && (0..10).all(|call| (tally.charged[call] > 0) != (call == 8));
+    let marks = tally.wrong_marks.len() == 255 && (0..10).all(|call| (tally.marked[call] > 0) != (call == 8));
+    let ends = tally.ends.iter().all(|&n| n >= OFTEN);
     let lists = !tally.lists.contains(&0) && tally.most_evaluations > 1_000_000 && tally.added_up > 0;
-    let missing = (1..18).any(|n| tally.refusals[n] == 0) || tally.verdicts.contains(&0) || !lists || !stops || !ticks || !charges;
+    let numbers = !(1..18).any(|n| tally.refusals[n] == 0) && !tally.verdicts.contains(&0);
+    let missing = !(numbers && lists && stops && ticks && charges && marks && ends);
     if missing {
-        println!("some refusal, verdict, kind of list, number of evaluations or stops, largest tick or charge never came up");
+        println!("some refusal, verdict, kind of list, number of evaluations or stops, largest tick, charge, mark or choice never came up");
+        println!("or, of the choices with low tasks, not often enough");
     }
     std::process::exit(if tally.differences == 0 && !missing { 0 } else { 1 });
 }

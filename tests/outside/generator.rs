@@ -1,6 +1,6 @@
 //! Seeded cases: sheets, kept jitters, lists of releases, files and texts, sound and damaged.
 
-use crate::reference::{add_release, encode, finish_ticks_by_job, text_of, Release, Sheet, Task};
+use crate::reference::{add_release, add_task, encode, finish_ticks_by_job, text_of, Release, Sheet, Task};
 use crate::reference::{MAX_SHORT_TICK, MAX_TICK, MAX_TIME};
 
 /// SplitMix64.
@@ -51,6 +51,13 @@ pub const MIDDLE_TICKS: [u64; 6] = [MAX_SHORT_TICK, MAX_SHORT_TICK + 1, 1 << 32,
 /// Charges at the limits.
 pub const EDGE_CHARGES: [u8; 5] = [0, 1, 2, 254, 255];
 
+/// The numbers of a task as the archive takes them, P, J, E, D and its mark, and those of a sheet that it writes.
+pub const TASK_NUMBERS: usize = 5;
+pub const SHEET_NUMBERS: usize = 32 * TASK_NUMBERS;
+
+/// Numbers that mark a task as low: any but 0, some of which have no bit in their low byte or half.
+pub const LOW_MARKS: [u32; 8] = [1, 2, 255, 256, 1 << 16, 1 << 31, u32::MAX - 1, u32::MAX];
+
 fn small_task(r: &mut Random) -> Task {
     let p = r.within(1, 24);
     let d = if r.once_in(3) { r.within(1, 24) } else { r.within(1, 80) };
@@ -61,7 +68,7 @@ fn small_task(r: &mut Random) -> Task {
         2 => r.within(0, 3 * p),
         _ => r.within(0, 60),
     };
-    Task { p, j, e, d }
+    Task::high(p, j, e, d)
 }
 
 /// One to five tasks with small numbers.
@@ -94,10 +101,24 @@ pub fn loaded_sheet(r: &mut Random, n: u32, top: u32) -> Sheet {
             let e = ((p as u64 * per_mille / (n as u64 * 1_000)) as u32).max(1);
             let d = r.within(e.max(p / 2), (p as u64 * (i as u64 + 2)).min(1_000_000) as u32);
             let j = if r.once_in(2) { r.within(0, p / 2) } else { r.within(0, (3 * p).min(1_000_000)) };
-            Task { p, j, e, d }
+            Task::high(p, j, e, d)
         })
         .collect();
     Sheet::of(&tasks)
+}
+
+/// The sheet with marks: every task high, every task low, or each of them either.
+pub fn with_marks(r: &mut Random, sheet: Sheet) -> Sheet {
+    let style = r.within(0, 5);
+    let lows: Vec<bool> = (0..sheet.tasks.len())
+        .map(|_| match style {
+            0 => false,
+            1 => true,
+            2 => r.once_in(5),
+            _ => r.once_in(2),
+        })
+        .collect();
+    sheet.marked(&lows)
 }
 
 /// The largest charge that every task of a sound sheet holds.
@@ -166,7 +187,7 @@ pub fn boundary_sheet(r: &mut Random) -> Sheet {
                 1 => t.j = r.of(&BOUNDARY),
                 2 => t.e = r.of(&BOUNDARY),
                 3 => t.d = r.of(&BOUNDARY),
-                4 => t = Task { p: 1_000_000, j: r.of(&[0, 1, 1_000_000]), e: r.of(&[1, 999_999, 1_000_000]), d: 1_000_000 },
+                4 => t = Task::high(1_000_000, r.of(&[0, 1, 1_000_000]), r.of(&[1, 999_999, 1_000_000]), 1_000_000),
                 5 => t.e = t.p.min(t.d),
                 6 => t.e = t.p.min(t.d) + 1,
                 _ => {}
@@ -177,16 +198,28 @@ pub fn boundary_sheet(r: &mut Random) -> Sheet {
     Sheet::of(&tasks)
 }
 
-/// The numbers of a sheet as the archive takes them.
+/// The numbers of a sheet as the archive writes them: a mark is 0 for high and 1 for low.
 pub fn numbers_of(sheet: &Sheet) -> Vec<u32> {
-    sheet.tasks.iter().flat_map(|t| [t.p, t.j, t.e, t.d]).collect()
+    sheet.tasks.iter().flat_map(|t| [t.p, t.j, t.e, t.d, t.low as u32]).collect()
+}
+
+/// The same as the archive takes them: the mark of a low task is any number but 0.
+pub fn given_numbers_of(r: &mut Random, sheet: &Sheet) -> Vec<u32> {
+    let mut numbers = numbers_of(sheet);
+    for row in numbers.chunks_mut(TASK_NUMBERS).filter(|row| row[4] != 0) {
+        row[4] = if r.once_in(2) { r.of(&LOW_MARKS) } else { 1 };
+    }
+    numbers
 }
 
 /// The sheet that a slice of numbers, a count and a charge give: numbers past the slice's end count as 0.
 pub fn sheet_of(numbers: &[u32], count: u32, charge: u8) -> Sheet {
     let at = |i: usize| numbers.get(i).copied().unwrap_or(0);
     let tasks = (0..count.min(32) as usize)
-        .map(|i| Task { p: at(4 * i), j: at(4 * i + 1), e: at(4 * i + 2), d: at(4 * i + 3) })
+        .map(|i| {
+            let [p, j, e, d, mark] = [0, 1, 2, 3, 4].map(|k| at(TASK_NUMBERS * i + k));
+            Task::high(p, j, e, d).marked(mark != 0)
+        })
         .collect();
     Sheet { count: count as usize, tasks, charge }
 }
@@ -276,6 +309,7 @@ pub fn damage_list(r: &mut Random, sheet: &Sheet, list: &mut [Release]) {
 /// A sound file, with ticks from 0 on.
 pub fn file_for(r: &mut Random, charge: u8, tasks: usize, releases: usize) -> Vec<u8> {
     let sheet = roomy_sheet_for(r, tasks, charge);
+    let sheet = with_marks(r, sheet);
     let list = list_for(r, &sheet, releases, 9);
     encode(&sheet, &list)
 }
@@ -283,9 +317,15 @@ pub fn file_for(r: &mut Random, charge: u8, tasks: usize, releases: usize) -> Ve
 /// A sound file with ticks around this one, or up to it where it is the limit.
 pub fn late_file_for(r: &mut Random, charge: u8, tasks: usize, releases: usize, tick: u64) -> Vec<u8> {
     let sheet = roomy_sheet_for(r, tasks, charge);
-    let list = list_for(r, &sheet, releases, 9);
+    let sheet = with_marks(r, sheet);
+    late_file_of(r, &sheet, releases, tick)
+}
+
+/// The same of this sheet.
+pub fn late_file_of(r: &mut Random, sheet: &Sheet, releases: usize, tick: u64) -> Vec<u8> {
+    let list = list_for(r, sheet, releases, 9);
     let by = way_to(r, &list, tick);
-    encode(&sheet, &moved(&list, by))
+    encode(sheet, &moved(&list, by))
 }
 
 /// Records in any order, with numbers at and beyond the limits.
@@ -306,9 +346,10 @@ pub fn random_file(r: &mut Random) -> Vec<u8> {
                 if r.once_in(8) {
                     t.p = r.of(&BOUNDARY);
                 }
-                file.push(1);
-                for x in [t.p, t.j, t.e, t.d] {
-                    file.extend_from_slice(&x.to_le_bytes());
+                t.low = r.once_in(2);
+                add_task(&mut file, t);
+                if t.low && r.once_in(12) {
+                    *file.last_mut().unwrap() = r.within(1, 255) as u8;
                 }
             }
             4..=7 => {
@@ -321,7 +362,7 @@ pub fn random_file(r: &mut Random) -> Vec<u8> {
             }
             8 if r.once_in(3) => file.extend_from_slice(&[5, r.within(0, 3) as u8]),
             8 => file.push(3),
-            _ => file.push(r.within(0, 6) as u8),
+            _ => file.push(r.within(0, 7) as u8),
         }
     }
     if r.once_in(2) {
@@ -341,7 +382,7 @@ pub fn form_charge(r: &mut Random) -> u8 {
 /// nothing is held back in 1,024 releases, since 1,023 periods are below that jitter. With 0 kept, jobs of a task that are released
 /// together are ready P ticks apart.
 fn open_sheet(n: u32, e: u32, charge: u8) -> Sheet {
-    Sheet::of(&vec![Task { p: e + charge as u32, j: MAX_TIME, e, d: MAX_TIME }; n as usize]).charged(charge)
+    Sheet::of(&vec![Task::high(e + charge as u32, MAX_TIME, e, MAX_TIME); n as usize]).charged(charge)
 }
 
 /// Bursts: many jobs at one tick, then a gap.
@@ -459,11 +500,11 @@ pub const ODD_BYTES: [u8; 20] = [
 
 /// Tasks at the limits.
 const EDGE_TASKS: [Task; 5] = [
-    Task { p: 1, j: 0, e: 1, d: 1 },
-    Task { p: 1_000_000, j: 1_000_000, e: 1_000_000, d: 1_000_000 },
-    Task { p: 1_000_000, j: 0, e: 1, d: 1 },
-    Task { p: 999_999, j: 999_999, e: 999_999, d: 1_000_000 },
-    Task { p: 10, j: 1_000_000, e: 10, d: 999_999 },
+    Task::high(1, 0, 1, 1),
+    Task::high(1_000_000, 1_000_000, 1_000_000, 1_000_000),
+    Task::high(1_000_000, 0, 1, 1),
+    Task::high(999_999, 999_999, 999_999, 1_000_000),
+    Task::high(10, 1_000_000, 10, 999_999),
 ];
 
 /// Tasks within the limits, some at them.

@@ -1,6 +1,7 @@
 /*
  * The constants of include/nolkrada.h: the limits of documents 01 and 02, the sizes of files and texts, the largest charge, the
- * largest finish and the most stops of a run, each refusal by its name, and verdicts with their evaluations, got from the archive.
+ * largest finish and the most stops of a run, each refusal by its name, verdicts with their evaluations, and choices with marks, got
+ * from the archive.
  */
 #include <stdio.h>
 #include <string.h>
@@ -11,7 +12,8 @@
 
 SAME(NOLKRADA_MAX_TASKS, 32);
 SAME(NOLKRADA_MAX_RELEASES, 1024);
-SAME(NOLKRADA_SHEET_NUMBERS, 4 * NOLKRADA_MAX_TASKS);
+/* P, J, E, D and the mark of each task. */
+SAME(NOLKRADA_SHEET_NUMBERS, 5 * NOLKRADA_MAX_TASKS);
 /* A ready tick plus 1 and a finish of each release. */
 SAME(NOLKRADA_MAX_STOPS, 2 * NOLKRADA_MAX_RELEASES);
 /* Both have 64 bits; one of kind 2 has four bytes in a file. */
@@ -22,9 +24,10 @@ SAME(sizeof NOLKRADA_MAX_SHORT_TICK, 8);
 SAME(NOLKRADA_MAX_FINISH, NOLKRADA_MAX_TICK + NOLKRADA_PICKUP + UINT64_C(1000000) * NOLKRADA_MAX_RELEASES);
 /* A charge has one byte. */
 SAME(NOLKRADA_MAX_CHARGE, UINT8_MAX);
-SAME(NOLKRADA_MAX_FILE, 2 + 17 * NOLKRADA_MAX_TASKS + 14 * NOLKRADA_MAX_RELEASES + 1);
-/* One more record after the last that is allowed, a task: the longest. */
-SAME(NOLKRADA_READ_BYTES, 2 + 17 * NOLKRADA_MAX_TASKS + 14 * NOLKRADA_MAX_RELEASES + 17);
+/* Low tasks, of kind 6, have the longest records. */
+SAME(NOLKRADA_MAX_FILE, 2 + 18 * NOLKRADA_MAX_TASKS + 14 * NOLKRADA_MAX_RELEASES + 1);
+/* One more record after the last that is allowed, a low task: the longest. */
+SAME(NOLKRADA_READ_BYTES, 2 + 18 * NOLKRADA_MAX_TASKS + 14 * NOLKRADA_MAX_RELEASES + 18);
 /* Four numbers of up to 7 digits, three commas and a line feed in a line. */
 SAME(NOLKRADA_MAX_TEXT, NOLKRADA_MAX_TASKS * (4 * 7 + 3 + 1));
 
@@ -33,8 +36,10 @@ SAME(NOLKRADA_MAX_TEXT, NOLKRADA_MAX_TASKS * (4 * 7 + 3 + 1));
 static const char version[] =
     TEXT(NOLKRADA_VERSION_MAJOR) "." TEXT(NOLKRADA_VERSION_MINOR) "." TEXT(NOLKRADA_VERSION_PATCH);
 
-static const uint32_t printed[] = {6, 5, 2, 6, 8, 7, 2, 8, 10, 0, 2, 10};
-static const uint32_t unfit[] = {2, 1, 1, 2, 2, 0, 2, 2};
+static const uint32_t printed[] = {6, 5, 2, 6, 0, 8, 7, 2, 8, 0, 10, 0, 2, 10, 0};
+static const uint32_t unfit[] = {2, 1, 1, 2, 0, 2, 0, 2, 2, 0};
+/* How many numbers the first has. */
+#define PRINTED (sizeof printed / sizeof printed[0])
 
 static uint32_t sheet[NOLKRADA_SHEET_NUMBERS], task[NOLKRADA_MAX_RELEASES], cost[NOLKRADA_MAX_RELEASES];
 static uint64_t tick[NOLKRADA_MAX_RELEASES], answer[4];
@@ -64,12 +69,13 @@ static uint64_t write_bytes(uint8_t *file, size_t length) {
                           NOLKRADA_MAX_RELEASES, tick, NOLKRADA_MAX_RELEASES, cost, NOLKRADA_MAX_RELEASES, file, length, answer, 1);
 }
 
-/* The largest file, with the largest charge, then one more byte, release or task. */
+/* The largest file, of low tasks and with the largest charge, then one more byte, release or task. */
 static void sizes(void) {
     static uint8_t file[NOLKRADA_READ_BYTES];
     const size_t end = NOLKRADA_MAX_FILE - 1;
     charge = NOLKRADA_MAX_CHARGE;
-    for (uint32_t i = 0; i < NOLKRADA_SHEET_NUMBERS; i++) sheet[i] = i % 4 == 2 ? 1 : 1 + NOLKRADA_MAX_CHARGE;
+    /* The mark of a low task may be any number but 0. */
+    for (uint32_t i = 0; i < NOLKRADA_SHEET_NUMBERS; i++) sheet[i] = i % 5 == 2 ? 1 : 1 + NOLKRADA_MAX_CHARGE;
     for (uint32_t n = 0; n < NOLKRADA_MAX_RELEASES; n++) task[n] = 0, tick[n] = NOLKRADA_MAX_SHORT_TICK + 1 + n, cost[n] = 1;
     expect("write of the largest file, a byte too few", write_bytes(file, end), NOLKRADA_REFUSED_SHORT_ARRAY, NOLKRADA_MAX_FILE);
     expect("write of the largest file", write_bytes(file, NOLKRADA_MAX_FILE), 0, 0);
@@ -78,26 +84,31 @@ static void sizes(void) {
     if (file[0] != 5 || file[1] != NOLKRADA_MAX_CHARGE) wrong = 1;
     if (answer[0] != NOLKRADA_MAX_TASKS || answer[1] != NOLKRADA_MAX_RELEASES || answer[2] != NOLKRADA_MAX_CHARGE) wrong = 1;
     if (tick[NOLKRADA_MAX_RELEASES - 1] != NOLKRADA_MAX_SHORT_TICK + NOLKRADA_MAX_RELEASES) wrong = 1;
+    /* A read tells a low mark as 1. */
+    for (uint32_t i = 0; i < NOLKRADA_SHEET_NUMBERS; i++)
+        wrong |= sheet[i] != (i % 5 == 2 || i % 5 == 4 ? 1 : 1 + NOLKRADA_MAX_CHARGE);
     /* The byte that a buffer of the largest file misses. */
     expect("one more byte", read_bytes(file, NOLKRADA_MAX_FILE + 1), NOLKRADA_REFUSED_BYTE_AFTER_END, NOLKRADA_MAX_FILE);
     memcpy(file + end, file + end - 14, 14);
     expect("one more release", read_bytes(file, end + 14), NOLKRADA_REFUSED_TOO_MANY_RELEASES, end);
     memcpy(file + end, file, 2);
     expect("one more charge", read_bytes(file, end + 2), NOLKRADA_REFUSED_TASK_AFTER_RELEASE, end);
-    memcpy(file + end, file + 2, 17);
+    memcpy(file + end, file + 2, 18);
+    if (file[2] != 6 || file[19] != 0) wrong = 1;
     expect("one more task", read_bytes(file, NOLKRADA_READ_BYTES), NOLKRADA_REFUSED_TASK_AFTER_RELEASE, end);
     expect("one more task, cut", read_bytes(file, NOLKRADA_READ_BYTES - 1), NOLKRADA_REFUSED_CUT, end);
 }
 
-/* The largest file with short ticks and without a charge, the largest tick at the end: two bytes less, and four less for each
- * release. Then one long tick at the end, and in the first release a tick that is one too large for kind 2, and one too small for
- * kind 4. */
+/* The largest file of high tasks with short ticks and without a charge, the largest tick at the end: two bytes less, one less for
+ * each task, and four less for each release. Then one long tick at the end, and in the first release a tick that is one too large for
+ * kind 2, and one too small for kind 4. */
 static void short_sizes(void) {
     static const uint8_t large[] = {2, 0, 0x01, 0xca, 0x9a, 0x3b, 1, 0, 0, 0};
     static const uint8_t small[] = {4, 0, 0x00, 0xca, 0x9a, 0x3b, 0, 0, 0, 0, 1, 0, 0, 0};
     static uint8_t file[NOLKRADA_MAX_FILE];
-    const size_t all = NOLKRADA_MAX_FILE - 2 - 4 * NOLKRADA_MAX_RELEASES, first = 17 * NOLKRADA_MAX_TASKS;
+    const size_t first = 17 * NOLKRADA_MAX_TASKS, all = NOLKRADA_MAX_FILE - 2 - NOLKRADA_MAX_TASKS - 4 * NOLKRADA_MAX_RELEASES;
     charge = 0;
+    for (uint32_t i = 0; i < NOLKRADA_MAX_TASKS; i++) sheet[5 * i + 4] = 0;
     for (uint32_t n = 0; n < NOLKRADA_MAX_RELEASES; n++) tick[n] = NOLKRADA_MAX_SHORT_TICK + 1 - NOLKRADA_MAX_RELEASES + n;
     expect("write of short ticks", write_bytes(file, all), 0, 0);
     if (answer[0] != all || file[first] != 2) wrong = 1;
@@ -122,27 +133,28 @@ static void text_sizes(void) {
     for (size_t at = 0; at + one <= sizeof text; at += one) memcpy(text + at, line, one);
     expect("load of the longest text", load_bytes(text, NOLKRADA_MAX_TEXT), 0, 0);
     if (answer[0] != NOLKRADA_MAX_TASKS) wrong = 1;
-    for (size_t i = 0; i < NOLKRADA_SHEET_NUMBERS; i++) wrong |= sheet[i] != 1000000;
+    for (size_t i = 0; i < NOLKRADA_SHEET_NUMBERS; i++) wrong |= sheet[i] != (i % 5 == 4 ? 0 : 1000000);
     expect("one more line", load_bytes(text, NOLKRADA_MAX_TEXT + one), NOLKRADA_REFUSED_TOO_MANY_TASKS, 32);
     expect("one more byte", load_bytes(text, NOLKRADA_MAX_TEXT + 1), NOLKRADA_REFUSED_LINE, 32);
     expect("one byte less", load_bytes(text, NOLKRADA_MAX_TEXT - 1), NOLKRADA_REFUSED_LINE, 31);
     expect("one line", load("6,5,2,6\n"), 0, 0);
-    if (answer[0] != 1 || memcmp(sheet, printed, 4 * sizeof sheet[0]) != 0) wrong = 1;
-    for (size_t i = 4; i < NOLKRADA_SHEET_NUMBERS; i++) wrong |= sheet[i] != 0;
+    if (answer[0] != 1 || memcmp(sheet, printed, 5 * sizeof sheet[0]) != 0) wrong = 1;
+    for (size_t i = 5; i < NOLKRADA_SHEET_NUMBERS; i++) wrong |= sheet[i] != 0;
 }
 
 static void refusals(void) {
     static const uint8_t kind[] = {9}, cut[] = {1, 6}, alone[] = {3};
     static const uint32_t zero[3] = {0, 0, 0}, one[3] = {1, 1, 1}, five[3] = {5, 5, 5};
     static const uint64_t at_0[3] = {0, 0, 0}, falling[2] = {1, 0}, over[1] = {NOLKRADA_MAX_TICK + 1};
-    const size_t n = sizeof printed / sizeof printed[0];
+    const size_t n = PRINTED;
     uint32_t kept[3], worst[3];
     expect("kind", read_bytes(kind, 1), NOLKRADA_REFUSED_KIND, 0);
     expect("cut", read_bytes(cut, 2), NOLKRADA_REFUSED_CUT, 0);
     expect("end alone", read_bytes(alone, 1), NOLKRADA_REFUSED_NO_TASK, 0);
-    expect("too many tasks", nolkrada_choice(printed, n, 33, 0, kept, 3, worst, 3), NOLKRADA_REFUSED_TOO_MANY_TASKS, 32);
-    expect("no task", nolkrada_choice(printed, n, 0, 0, kept, 3, worst, 3), NOLKRADA_REFUSED_NO_TASK, 0);
-    expect("range", nolkrada_choice(printed, n, 4, 0, kept, 3, worst, 3), NOLKRADA_REFUSED_RANGE, 3);
+    expect("too many tasks", nolkrada_choice(printed, n, 33, 0, kept, 3, worst, 3, answer, 1), NOLKRADA_REFUSED_TOO_MANY_TASKS,
+           32);
+    expect("no task", nolkrada_choice(printed, n, 0, 0, kept, 3, worst, 3, answer, 1), NOLKRADA_REFUSED_NO_TASK, 0);
+    expect("range", nolkrada_choice(printed, n, 4, 0, kept, 3, worst, 3, answer, 1), NOLKRADA_REFUSED_RANGE, 3);
     expect("task of a release", nolkrada_trace_check(printed, n, 3, 0, 1, five, 3, at_0, 3, one, 3, answer, 3),
            NOLKRADA_REFUSED_RELEASE_TASK, 0);
     expect("tick of a release", nolkrada_trace_check(printed, n, 3, 0, 2, one, 3, falling, 2, one, 3, answer, 3),
@@ -154,15 +166,17 @@ static void refusals(void) {
     expect("too many releases", nolkrada_trace_check(printed, n, 3, 0, 1025, one, 3, at_0, 3, one, 3, answer, 3),
            NOLKRADA_REFUSED_TOO_MANY_RELEASES, 1024);
     expect("kept", nolkrada_verdict(printed, n, 3, 0, 0, five, 3, answer, 4), NOLKRADA_REFUSED_KEPT, 2);
-    expect("short array", nolkrada_choice(printed, n, 3, 0, kept, 2, worst, 3), NOLKRADA_REFUSED_SHORT_ARRAY, 3);
+    expect("short array", nolkrada_choice(printed, n, 3, 0, kept, 2, worst, 3, answer, 1), NOLKRADA_REFUSED_SHORT_ARRAY, 3);
     expect("no such task", nolkrada_verdict(printed, n, 3, 0, 3, zero, 3, answer, 4), NOLKRADA_REFUSED_NO_SUCH_TASK, 3);
-    expect("unfit", nolkrada_choice(unfit, 8, 2, 0, kept, 3, worst, 3), NOLKRADA_REFUSED_UNFIT, 1);
+    expect("unfit", nolkrada_choice(unfit, 10, 2, 0, kept, 3, worst, 3, answer, 1), NOLKRADA_REFUSED_UNFIT, 1);
+    expect("no slot for which choice it is", nolkrada_choice(unfit, 10, 2, 0, kept, 3, worst, 3, answer, 0),
+           NOLKRADA_REFUSED_SHORT_ARRAY, 1);
     expect("line", load("6,5,2,6\n8,7,2,8\r\n"), NOLKRADA_REFUSED_LINE, 1);
     expect("line before range", load("0,5,2,6 \n"), NOLKRADA_REFUSED_LINE, 0);
     expect("range in a line", load("6,5,2,6\n8,7,2,8\n8,7,20000000000000000000000002,8\n"), NOLKRADA_REFUSED_RANGE, 2);
     expect("no line", load(""), NOLKRADA_REFUSED_NO_TASK, 0);
-    expect("short sheet", nolkrada_load((const uint8_t *)"6,5,2,6\n", 8, sheet, 127, answer, 3), NOLKRADA_REFUSED_SHORT_ARRAY, 128);
-    expect("short answer", nolkrada_load((const uint8_t *)"6,5,2,6\n", 8, sheet, 128, answer, 0), NOLKRADA_REFUSED_SHORT_ARRAY, 1);
+    expect("short sheet", nolkrada_load((const uint8_t *)"6,5,2,6\n", 8, sheet, 159, answer, 3), NOLKRADA_REFUSED_SHORT_ARRAY, 160);
+    expect("short answer", nolkrada_load((const uint8_t *)"6,5,2,6\n", 8, sheet, 160, answer, 0), NOLKRADA_REFUSED_SHORT_ARRAY, 1);
 }
 
 /* The four words of a verdict. */
@@ -175,31 +189,90 @@ static void expect_words(const char *name, uint64_t kind, uint64_t q, uint64_t b
 /* The verdicts of the printed sheet's second task and, with full jitters, of its second and third, and of a task under a full load;
  * with the t that they try: 4; 4; 4, 6 and 6, 8, 10; 6, 10, 14, 16; 2 and each up to 10000001. Then too few words. */
 static void verdicts(void) {
-    static const uint32_t busy[] = {1, 0, 1, 1, 1, 0, 1, 1}, kept[3] = {1, 4, 0}, less[3] = {1, 3, 0}, whole[3] = {5, 7, 0};
-    expect("fits", nolkrada_verdict(printed, 12, 3, 0, 1, kept, 3, answer, 4), 0, 0);
+    static const uint32_t busy[] = {1, 0, 1, 1, 0, 1, 0, 1, 1, 0}, kept[3] = {1, 4, 0}, less[3] = {1, 3, 0}, whole[3] = {5, 7, 0};
+    expect("fits", nolkrada_verdict(printed, PRINTED, 3, 0, 1, kept, 3, answer, 4), 0, 0);
     expect_words("fits", NOLKRADA_FITS, 0, 8, 1);
-    expect("late", nolkrada_verdict(printed, 12, 3, 0, 1, less, 3, answer, 4), 0, 0);
+    expect("late", nolkrada_verdict(printed, PRINTED, 3, 0, 1, less, 3, answer, 4), 0, 0);
     expect_words("late", NOLKRADA_LATE, 0, 9, 1);
-    expect("late at q 1", nolkrada_verdict(printed, 12, 3, 0, 1, whole, 3, answer, 4), 0, 0);
+    expect("late at q 1", nolkrada_verdict(printed, PRINTED, 3, 0, 1, whole, 3, answer, 4), 0, 0);
     expect_words("late at q 1", NOLKRADA_LATE, 1, 10, 5);
-    expect("late, task 2", nolkrada_verdict(printed, 12, 3, 0, 2, whole, 3, answer, 4), 0, 0);
+    expect("late, task 2", nolkrada_verdict(printed, PRINTED, 3, 0, 2, whole, 3, answer, 4), 0, 0);
     expect_words("late, task 2", NOLKRADA_LATE, 0, 17, 4);
-    expect("horizon", nolkrada_verdict(busy, 8, 2, 0, 1, (const uint32_t[]){0, 0}, 2, answer, 4), 0, 0);
+    expect("horizon", nolkrada_verdict(busy, 10, 2, 0, 1, (const uint32_t[]){0, 0}, 2, answer, 4), 0, 0);
     expect_words("horizon", NOLKRADA_HORIZON, 0, 0, 10000000);
     for (size_t n = 0; n < 4; n++)
-        expect("too few words", nolkrada_verdict(printed, 12, 3, 0, 1, kept, 3, answer, n), NOLKRADA_REFUSED_SHORT_ARRAY, 4);
+        expect("too few words", nolkrada_verdict(printed, PRINTED, 3, 0, 1, kept, 3, answer, n), NOLKRADA_REFUSED_SHORT_ARRAY, 4);
 }
 
 /* A plan for a choice: the evaluations of the verdicts at the chosen kept jitters, 1 + 1 + 2 with a deadline of 11 for the last task. */
 static void plan(void) {
-    static const uint32_t folder[] = {6, 5, 2, 6, 8, 7, 2, 8, 10, 0, 2, 11};
+    static const uint32_t folder[] = {6, 5, 2, 6, 0, 8, 7, 2, 8, 0, 10, 0, 2, 11, 0};
     static const uint64_t numbers[3] = {1, 1, 2};
     uint32_t kept[3], worst[3];
-    expect("choice", nolkrada_choice(folder, 12, 3, 0, kept, 3, worst, 3), 0, 0);
+    expect("choice", nolkrada_choice(folder, 15, 3, 0, kept, 3, worst, 3, answer, 1), 0, 0);
+    if (answer[0] != NOLKRADA_ORDINARY) wrong = 1;
     for (uint32_t i = 0; i < 3; i++) {
-        expect("verdict of a chosen task", nolkrada_verdict(folder, 12, 3, 0, i, kept, 3, answer, 4), 0, 0);
+        expect("verdict of a chosen task", nolkrada_verdict(folder, 15, 3, 0, i, kept, 3, answer, 4), 0, 0);
         expect_words("verdict of a chosen task", NOLKRADA_FITS, 0, worst[i], numbers[i]);
     }
+}
+
+/* A choice on three tasks with these deadlines and marks, the other numbers of the printed sheet: its code, and where it answers which
+ * one it is, the kept jitters and the worst values. */
+static void expect_choice(const char *name, const uint32_t *deadlines, const uint32_t *marks, uint32_t number, uint32_t place,
+                          uint64_t which, const uint32_t *keep, const uint32_t *worse) {
+    uint32_t row[PRINTED], kept[3], worst[3];
+    memcpy(row, printed, sizeof row);
+    for (int i = 0; i < 3; i++) row[5 * i + 3] = deadlines[i], row[5 * i + 4] = marks[i];
+    expect(name, nolkrada_choice(row, PRINTED, 3, 0, kept, 3, worst, 3, answer, 1), number, place);
+    if (number != 0 || (answer[0] == which && memcmp(kept, keep, sizeof kept) == 0 && memcmp(worst, worse, sizeof worst) == 0)) return;
+    printf("%s: not the columns of its choice\n", name);
+    wrong = 1;
+}
+
+/* Choices with marks: any number but 0 is low, a number past the end is 0, and of the choice of the high tasks alone a low task is kept
+ * at 0 with a worst value of 0. Marks change no verdict. Then the records of a file. */
+static void marks(void) {
+    static const uint32_t fit[3] = {6, 8, 11}, last[3] = {6, 8, 10}, first[3] = {2, 8, 10};
+    static const uint32_t high[3] = {0, 0, 0}, low_1[3] = {0, UINT32_MAX, 0}, low_2[3] = {0, 0, 256}, low_0[3] = {1, 0, 0};
+    static const uint32_t all[3] = {1, 2, 3}, keep[3] = {2, 4, 0}, none[3] = {0, 0, 0};
+    static const uint32_t zero[1], two[1] = {2};
+    static const uint64_t at_0[1];
+    uint8_t file[18 + 17 + 10 + 1];
+    uint32_t row[PRINTED], kept[3], worst[3];
+    uint64_t other[4];
+    expect_choice("ordinary", fit, high, 0, 0, NOLKRADA_ORDINARY, keep, (const uint32_t[]){6, 8, 11});
+    expect_choice("ordinary, all low", fit, all, 0, 0, NOLKRADA_ORDINARY, keep, (const uint32_t[]){6, 8, 11});
+    expect_choice("task 2 low", last, low_2, 0, 0, NOLKRADA_HIGH_ONLY, keep, (const uint32_t[]){6, 8, 0});
+    expect_choice("task 1 low", last, low_1, 0, 0, NOLKRADA_HIGH_ONLY, (const uint32_t[]){2, 0, 0}, (const uint32_t[]){6, 0, 9});
+    expect_choice("all low", last, all, 0, 0, NOLKRADA_HIGH_ONLY, none, none);
+    expect_choice("all high", last, high, NOLKRADA_REFUSED_UNFIT, 2, 0, none, none);
+    expect_choice("task 0 low", last, low_0, NOLKRADA_REFUSED_UNFIT, 2, 0, none, none);
+    expect_choice("no K fits task 0", first, low_2, NOLKRADA_REFUSED_UNFIT, 0, 0, none, none);
+    expect_choice("no K fits task 0, which is low", first, low_0, NOLKRADA_REFUSED_UNFIT, 2, 0, none, none);
+    /* The low mark of task 2 is past the end: the task is high. */
+    memcpy(row, printed, sizeof row);
+    row[14] = 1;
+    expect("mark past the end", nolkrada_choice(row, PRINTED - 1, 3, 0, kept, 3, worst, 3, answer, 1), NOLKRADA_REFUSED_UNFIT, 2);
+    row[4] = 7;
+    for (uint32_t i = 0; i < 2; i++) {
+        expect("verdict of a high task", nolkrada_verdict(printed, 10, 2, 0, i, keep, 2, answer, 4), 0, 0);
+        expect("verdict with a mark", nolkrada_verdict(row, 10, 2, 0, i, keep, 2, other, 4), 0, 0);
+        if (memcmp(answer, other, sizeof other) != 0) wrong = 1;
+    }
+    expect("write of a low task, a byte too few",
+           nolkrada_write(row, 10, 2, 0, 1, zero, 1, at_0, 1, two, 1, file, sizeof file - 1, answer, 1), NOLKRADA_REFUSED_SHORT_ARRAY,
+           sizeof file);
+    expect("write of a low task", nolkrada_write(row, 10, 2, 0, 1, zero, 1, at_0, 1, two, 1, file, sizeof file, answer, 1), 0, 0);
+    if (answer[0] != sizeof file || file[0] != 6 || file[17] != 0 || file[18] != 1) wrong = 1;
+    expect("read of a low task", read_bytes(file, sizeof file), 0, 0);
+    row[4] = 1;
+    if (answer[0] != 2 || answer[1] != 1 || memcmp(sheet, row, 10 * sizeof row[0]) != 0) wrong = 1;
+    expect("low task that is cut", read_bytes(file, 17), NOLKRADA_REFUSED_CUT, 0);
+    file[17] = 1;
+    expect("another last byte", read_bytes(file, sizeof file), NOLKRADA_REFUSED_RANGE, 0);
+    file[17] = 0, file[0] = 7;
+    expect("kind 7", read_bytes(file, sizeof file), NOLKRADA_REFUSED_KIND, 0);
 }
 
 /* The charge: in every call that takes a sheet 17 where a task holds no more than 4, and answers with 4; a release with a cost over E
@@ -209,7 +282,7 @@ static void charges(void) {
     static const uint32_t zero[1], two[1] = {2}, three[1] = {3}, loose[3] = {5, 7, 0};
     static const uint64_t at_0[1];
     const unsigned wide = 256 + 4;
-    const size_t n = sizeof printed / sizeof printed[0];
+    const size_t n = PRINTED;
     uint32_t kept[3], worst[3];
     uint64_t ready[1], finish[1];
     uint8_t file[2 + 17 * 3 + 10 + 1];
@@ -218,7 +291,8 @@ static void charges(void) {
         const uint32_t number = s == 5 ? NOLKRADA_REFUSED_CHARGE : 0;
         expect("charge, arrival count", nolkrada_arrival_count(printed, n, 3, c, 0, loose, 3, 8, answer, 1), number, 0);
         expect("charge, verdict", nolkrada_verdict(printed, n, 3, c, 0, loose, 3, answer, 4), number, 0);
-        expect("charge, choice", nolkrada_choice(printed, n, 3, c, kept, 3, worst, 3), s == 5 ? number : NOLKRADA_REFUSED_UNFIT, 0);
+        expect("charge, choice", nolkrada_choice(printed, n, 3, c, kept, 3, worst, 3, answer, 1),
+               s == 5 ? number : NOLKRADA_REFUSED_UNFIT, 0);
         expect("charge, trace check", nolkrada_trace_check(printed, n, 3, c, 1, zero, 1, at_0, 1, two, 1, answer, 2), number, 0);
         expect("charge, ready", nolkrada_ready(printed, n, 3, c, loose, 3, 1, zero, 1, at_0, 1, two, 1, ready, 1), number, 0);
         expect("charge, run", nolkrada_run(printed, n, 3, c, loose, 3, 1, zero, 1, at_0, 1, two, 1, ready, 1, finish, 1), number, 0);
@@ -255,7 +329,7 @@ static void runs(void) {
     static const uint32_t zero[1], two[1] = {2}, kept[3] = {2, 4, 0};
     static const uint64_t three[1] = {3};
     uint64_t ready[1], finish[1];
-    expect("run", nolkrada_run(printed, 12, 3, 0, kept, 3, 1, zero, 1, three, 1, two, 1, ready, 1, finish, 1), 0, 0);
+    expect("run", nolkrada_run(printed, PRINTED, 3, 0, kept, 3, 1, zero, 1, three, 1, two, 1, ready, 1, finish, 1), 0, 0);
     if (ready[0] != 3 || finish[0] != 3 + NOLKRADA_PICKUP + 2) wrong = 1;
 }
 
@@ -263,36 +337,36 @@ static void runs(void) {
  * many as the header says of the longest list with idle ticks between the jobs; and the largest finish, of 1,024 jobs of the largest
  * cost at the last tick allowed, and of the largest charge and the rest of that cost. Refused without a slot for the stops. */
 static void jumps(void) {
-    static const uint32_t zero[2], two[2] = {2, 2}, kept[3] = {2, 4, 0}, alone[4] = {1, 0, 1, 1};
-    static const uint32_t longest[4] = {1000000, 0, 1000000, 1000000}, charged[4] = {1000000, 0, 999745, 1000000};
+    static const uint32_t zero[2], two[2] = {2, 2}, kept[3] = {2, 4, 0}, alone[5] = {1, 0, 1, 1, 0};
+    static const uint32_t longest[5] = {1000000, 0, 1000000, 1000000, 0}, charged[5] = {1000000, 0, 999745, 1000000, 1};
     static const uint64_t three[1] = {3}, far[2] = {0, NOLKRADA_MAX_TICK};
     static uint64_t ready[NOLKRADA_MAX_RELEASES], finish[NOLKRADA_MAX_RELEASES];
     const size_t all = NOLKRADA_MAX_RELEASES;
-    expect("jump", nolkrada_jump(printed, 12, 3, 0, kept, 3, 1, zero, 1, three, 1, two, 1, ready, 1, finish, 1, answer, 1), 0, 0);
+    expect("jump", nolkrada_jump(printed, PRINTED, 3, 0, kept, 3, 1, zero, 1, three, 1, two, 1, ready, 1, finish, 1, answer, 1), 0, 0);
     if (ready[0] != 3 || finish[0] != 3 + NOLKRADA_PICKUP + 2 || answer[0] != 2) wrong = 1;
     expect("jump of no release",
-           nolkrada_jump(printed, 12, 3, 0, kept, 3, 0, zero, 0, three, 0, two, 0, ready, 0, finish, 0, answer, 1), 0, 0);
+           nolkrada_jump(printed, PRINTED, 3, 0, kept, 3, 0, zero, 0, three, 0, two, 0, ready, 0, finish, 0, answer, 1), 0, 0);
     if (answer[0] != 0) wrong = 1;
     expect("jump to the last tick allowed",
-           nolkrada_jump(printed, 12, 3, 0, kept, 3, 2, zero, 2, far, 2, two, 2, ready, 2, finish, 2, answer, 1), 0, 0);
+           nolkrada_jump(printed, PRINTED, 3, 0, kept, 3, 2, zero, 2, far, 2, two, 2, ready, 2, finish, 2, answer, 1), 0, 0);
     if (ready[0] != 0 || finish[0] != 3 || ready[1] != NOLKRADA_MAX_TICK || finish[1] != NOLKRADA_MAX_TICK + 3) wrong = 1;
     if (answer[0] != 4) wrong = 1;
     for (uint32_t n = 0; n < all; n++) task[n] = 0, tick[n] = 2 * n, cost[n] = 1;
     expect("most stops",
-           nolkrada_jump(alone, 4, 1, 0, zero, 1, all, task, all, tick, all, cost, all, ready, all, finish, all, answer, 1), 0, 0);
+           nolkrada_jump(alone, 5, 1, 0, zero, 1, all, task, all, tick, all, cost, all, ready, all, finish, all, answer, 1), 0, 0);
     if (answer[0] != NOLKRADA_MAX_STOPS) wrong = 1;
     for (uint32_t n = 0; n < all; n++) tick[n] = NOLKRADA_MAX_TICK, cost[n] = 1000000;
     expect("largest finish",
-           nolkrada_jump(longest, 4, 1, 0, zero, 1, all, task, all, tick, all, cost, all, ready, all, finish, all, answer, 1), 0, 0);
+           nolkrada_jump(longest, 5, 1, 0, zero, 1, all, task, all, tick, all, cost, all, ready, all, finish, all, answer, 1), 0, 0);
     if (finish[all - 1] != NOLKRADA_MAX_FINISH || finish[0] != NOLKRADA_MAX_TICK + 1000001) wrong = 1;
     for (uint32_t n = 0; n < all; n++) cost[n] = 1000000 - NOLKRADA_MAX_CHARGE;
     expect("largest finish with the largest charge",
-           nolkrada_jump(charged, 4, 1, NOLKRADA_MAX_CHARGE, zero, 1, all, task, all, tick, all, cost, all, ready, all, finish, all,
+           nolkrada_jump(charged, 5, 1, NOLKRADA_MAX_CHARGE, zero, 1, all, task, all, tick, all, cost, all, ready, all, finish, all,
                          answer, 1),
            0, 0);
     if (finish[all - 1] != NOLKRADA_MAX_FINISH || finish[0] != NOLKRADA_MAX_TICK + 1000001) wrong = 1;
     expect("no slot for the stops",
-           nolkrada_jump(printed, 12, 3, 0, kept, 3, 1, zero, 1, three, 1, two, 1, ready, 1, finish, 1, answer, 0),
+           nolkrada_jump(printed, PRINTED, 3, 0, kept, 3, 1, zero, 1, three, 1, two, 1, ready, 1, finish, 1, answer, 0),
            NOLKRADA_REFUSED_SHORT_ARRAY, 1);
 }
 
@@ -305,8 +379,8 @@ static void upper_bits(void) {
     uint64_t other[4];
     whole_register verdict = (whole_register)(void (*)(void))nolkrada_verdict;
     for (uint32_t c = 0; c < 6; c++) {
-        uint64_t code = nolkrada_verdict(printed, 12, 3, (uint8_t)c, 1, none, 3, answer, 4);
-        if (verdict(printed, 12, 3, UINT32_C(0xabcdef00) + c, 1, none, 3, other, 4) != code) wrong = 1;
+        uint64_t code = nolkrada_verdict(printed, PRINTED, 3, (uint8_t)c, 1, none, 3, answer, 4);
+        if (verdict(printed, PRINTED, 3, UINT32_C(0xabcdef00) + c, 1, none, 3, other, 4) != code) wrong = 1;
         if (code == 0 && memcmp(answer, other, sizeof other) != 0) wrong = 1;
     }
 }
@@ -319,11 +393,12 @@ int main(void) {
     refusals();
     verdicts();
     plan();
+    marks();
     charges();
     upper_bits();
     runs();
     jumps();
     puts(wrong ? "header: something is not as it says"
-               : "header: limits, sizes, refusals, verdicts, evaluations, charge, pickup, largest finish and stops as it says");
+               : "header: limits, sizes, refusals, verdicts, evaluations, marks, charge, pickup, largest finish and stops as it says");
     return wrong;
 }

@@ -11,7 +11,7 @@ extern "C" {
     ) -> u64;
     fn nolkrada_choice(
         sheet: *const u32, sheet_length: usize, count: u32, charge: u8, kept: *mut u32, kept_length: usize,
-        worst: *mut u32, worst_length: usize,
+        worst: *mut u32, worst_length: usize, answer: *mut u64, answer_length: usize,
     ) -> u64;
     fn nolkrada_trace_check(
         sheet: *const u32, sheet_length: usize, count: u32, charge: u8, n: u32, task: *const u32, task_length: usize,
@@ -70,10 +70,11 @@ pub fn verdict(sheet: &[u32], count: u32, charge: u8, task: u32, kept: &[u32], a
     }
 }
 
-pub fn choice(sheet: &[u32], count: u32, charge: u8, kept: &mut [u32], worst: &mut [u32]) -> u64 {
+pub fn choice(sheet: &[u32], count: u32, charge: u8, kept: &mut [u32], worst: &mut [u32], answer: &mut [u64]) -> u64 {
     unsafe {
         nolkrada_choice(
             sheet.as_ptr(), sheet.len(), count, charge, kept.as_mut_ptr(), kept.len(), worst.as_mut_ptr(), worst.len(),
+            answer.as_mut_ptr(), answer.len(),
         )
     }
 }

@@ -1,6 +1,6 @@
 //! An implementation of document 01 with document 02's text sheets, pickup, long ticks, charge for each switch,
-//! stops of a run and evaluations of a verdict, for comparison, written from their words alone. It shares no code and no
-//! method with the library: ready ticks and the trace check look at every pair of jobs, W(q) is found by walking over the ticks at which
+//! stops of a run, evaluations of a verdict and marks, for comparison, written from their words alone. It shares no
+//! code and no method with the library: ready ticks and the trace check look at every pair of jobs, W(q) is found by walking over the ticks at which
 //! the demand steps, the choice tries every K in rising order, the ticking run is compared with one from event to event and the run that
 //! jumps with one that allots free ticks job by job, a file is taken apart in one pass, and a text is split into whole lines and fields.
 //! Only what R-8 counts is gone through as it is counted: the lists of t, and the walk over q of a choice. No answer is taken from them.
@@ -19,16 +19,28 @@ pub const HORIZON: i64 = 10_000_000;
 /// grows by 1.
 pub const PICKUP: i64 = 1;
 
+/// A task with its mark: low, or high where it is not low.
 #[derive(Clone, Copy, Debug, PartialEq, Eq)]
 pub struct Task {
     pub p: u32,
     pub j: u32,
     pub e: u32,
     pub d: u32,
+    pub low: bool,
+}
+
+impl Task {
+    pub const fn high(p: u32, j: u32, e: u32, d: u32) -> Task {
+        Task { p, j, e, d, low: false }
+    }
+    /// The same task with this mark.
+    pub fn marked(self, low: bool) -> Task {
+        Task { low, ..self }
+    }
 }
 
 /// A sheet: `count` as given, the entries that there are, and the charge for each switch, 0 for none. An entry that is not there
-/// counts as 0, 0, 0, 0.
+/// counts as 0, 0, 0, 0, high.
 #[derive(Clone, Debug, PartialEq, Eq)]
 pub struct Sheet {
     pub count: usize,
@@ -45,8 +57,13 @@ impl Sheet {
     pub fn charged(&self, charge: u8) -> Sheet {
         Sheet { charge, ..self.clone() }
     }
+    /// The same sheet with these marks, true for low; an entry past them is high.
+    pub fn marked(&self, lows: &[bool]) -> Sheet {
+        let tasks = self.tasks.iter().enumerate().map(|(i, t)| t.marked(lows.get(i).copied().unwrap_or(false))).collect();
+        Sheet { tasks, ..self.clone() }
+    }
     pub fn task(&self, i: usize) -> Task {
-        self.tasks.get(i).copied().unwrap_or(Task { p: 0, j: 0, e: 0, d: 0 })
+        self.tasks.get(i).copied().unwrap_or(Task::high(0, 0, 0, 0))
     }
     /// The most ticks that a job of a task takes: its cost and the charge.
     fn most_work(&self, i: usize) -> i64 {
@@ -387,11 +404,26 @@ pub fn least_keep(sheet: &Sheet, kept: &[u32], i: usize, budget: &mut Budget) ->
     Ok(None)
 }
 
-/// The kept jitters of a choice that succeeds, and how often demand is worked out for it, both without a verdict: for each task one walk
-/// over q. The least K grows to what R(q) ≤ D asks for, and the walk ends where W(q) is within d_K(q + 1). None where no K fits some task.
-pub fn choice_evaluations(sheet: &Sheet, budget: &mut Budget) -> Result<Option<(Vec<u32>, u64)>, Exhausted> {
+/// The kept jitters of a choice that succeeds, whether it is that of the high tasks alone, and how often demand is worked out for it,
+/// without a verdict. Of the choice of the high tasks alone, what the ordinary one before it took does not count. None where no K fits.
+pub fn choice_evaluations(sheet: &Sheet, budget: &mut Budget) -> Result<Option<(bool, Vec<u32>, u64)>, Exhausted> {
+    for high_only in [false, true] {
+        if let Some((kept, evaluations)) = walked_choice(sheet, high_only, budget)? {
+            return Ok(Some((high_only, kept, evaluations)));
+        }
+    }
+    Ok(None)
+}
+
+/// One of the two choices, by one walk over q for each task that is judged. The least K grows to what R(q) ≤ D asks for, and the walk
+/// ends where W(q) is within d_K(q + 1).
+fn walked_choice(sheet: &Sheet, high_only: bool, budget: &mut Budget) -> Result<Option<(Vec<u32>, u64)>, Exhausted> {
     let (mut kept, mut evaluations) = (Vec::new(), 0);
     for i in 0..sheet.count {
+        if high_only && sheet.task(i).low {
+            kept.push(0);
+            continue;
+        }
         let (p, j, d) = (sheet.task(i).p as i64, sheet.task(i).j as i64, sheet.task(i).d as i64);
         let mut windows = Windows::of(sheet, &kept, i, budget);
         let (mut q, mut least) = (0, 0);
@@ -531,19 +563,16 @@ pub fn verdict(sheet: &Sheet, i: usize, kept: &[u32], budget: &mut Budget) -> Re
     Ok(Ok(judge(sheet, kept, i, budget)?))
 }
 
-/// The choice: kept jitters and worst values. The lengths of the two lent columns decide 13.
-pub fn choice(
-    sheet: &Sheet,
-    kept_slots: usize,
-    worst_slots: usize,
-    budget: &mut Budget,
-) -> Result<Result<(Vec<u32>, Vec<u32>), Refusal>, Exhausted> {
-    let checks = check_sheet(sheet)
-        .and_then(|_| check_slots(kept_slots, sheet.count))
-        .and_then(|_| check_slots(worst_slots, sheet.count));
-    if let Err(r) = checks {
-        return Ok(Err(r));
-    }
+/// What a choice answers: kept jitters and worst values, and whether it is the one of the high tasks alone.
+#[derive(Clone, Debug, PartialEq, Eq)]
+pub struct Chosen {
+    pub kept: Vec<u32>,
+    pub worst: Vec<u32>,
+    pub high_only: bool,
+}
+
+/// The ordinary choice.
+fn ordinary_choice(sheet: &Sheet, budget: &mut Budget) -> Result<Result<Chosen, Refusal>, Exhausted> {
     let (mut kept, mut worst) = (Vec::new(), Vec::new());
     for i in 0..sheet.count {
         match least_keep(sheet, &kept, i, budget)? {
@@ -554,7 +583,38 @@ pub fn choice(
             }
         }
     }
-    Ok(Ok((kept, worst)))
+    Ok(Ok(Chosen { kept, worst, high_only: false }))
+}
+
+/// The choice with every low task kept at 0 and not judged: low tasks have a worst value of 0 and are passed over.
+fn choice_of_high_tasks(sheet: &Sheet, budget: &mut Budget) -> Result<Result<Chosen, Refusal>, Exhausted> {
+    let mut chosen = Chosen { kept: vec![0; sheet.count], worst: vec![0; sheet.count], high_only: true };
+    for i in (0..sheet.count).filter(|&i| !sheet.task(i).low) {
+        match least_keep(sheet, &chosen.kept[..i], i, budget)? {
+            None => return Ok(refuse(15, i)),
+            Some((k, r)) => (chosen.kept[i], chosen.worst[i]) = (k, r),
+        }
+    }
+    Ok(Ok(chosen))
+}
+
+/// The choice: the ordinary one, and where it ends in 15 that of the high tasks alone. The lengths of the two lent columns decide 13.
+pub fn choice(
+    sheet: &Sheet,
+    kept_slots: usize,
+    worst_slots: usize,
+    budget: &mut Budget,
+) -> Result<Result<Chosen, Refusal>, Exhausted> {
+    let checks = check_sheet(sheet)
+        .and_then(|_| check_slots(kept_slots, sheet.count))
+        .and_then(|_| check_slots(worst_slots, sheet.count));
+    if let Err(r) = checks {
+        return Ok(Err(r));
+    }
+    match ordinary_choice(sheet, budget)? {
+        Err(_) => choice_of_high_tasks(sheet, budget),
+        chosen => Ok(chosen),
+    }
 }
 
 /// The trace check: none where the list is legal, else the first release that is too close.
@@ -650,6 +710,17 @@ pub fn add_release(out: &mut Vec<u8>, kind: u8, r: Release) {
     out.extend_from_slice(&r.cost.to_le_bytes());
 }
 
+/// Adds a task as a record of kind 1, or of kind 6 where it is low.
+pub fn add_task(out: &mut Vec<u8>, t: Task) {
+    out.push(if t.low { 6 } else { 1 });
+    for x in [t.p, t.j, t.e, t.d] {
+        out.extend_from_slice(&x.to_le_bytes());
+    }
+    if t.low {
+        out.push(0);
+    }
+}
+
 /// The bytes of a sheet and a list: the charge first, where there is one.
 pub fn encode(sheet: &Sheet, list: &[Release]) -> Vec<u8> {
     let mut out = Vec::new();
@@ -657,11 +728,7 @@ pub fn encode(sheet: &Sheet, list: &[Release]) -> Vec<u8> {
         out.extend_from_slice(&[5, sheet.charge]);
     }
     for i in 0..sheet.count {
-        let t = sheet.task(i);
-        out.push(1);
-        for x in [t.p, t.j, t.e, t.d] {
-            out.extend_from_slice(&x.to_le_bytes());
-        }
+        add_task(&mut out, sheet.task(i));
     }
     for &r in list {
         add_release(&mut out, if r.tick <= MAX_SHORT_TICK { 2 } else { 4 }, r);
@@ -670,27 +737,30 @@ pub fn encode(sheet: &Sheet, list: &[Release]) -> Vec<u8> {
     out
 }
 
-/// The bytes that a write needs: those of a charge, of each task, of each release by its tick, whatever it is, and of the end.
-pub fn bytes_needed(charge: u8, tasks: usize, ticks: &[u64]) -> usize {
+/// The bytes that a write of the first tasks of a sheet needs: those of a charge, of each of so many tasks by its mark, of each release by
+/// its tick, whatever it is, and of the end.
+pub fn bytes_needed(sheet: &Sheet, tasks: usize, ticks: &[u64]) -> usize {
+    let head = if sheet.charge == 0 { 0 } else { 2 };
+    let task_size = |i: usize| if sheet.task(i).low { 18 } else { 17 };
     let size = |&tick: &u64| if tick <= MAX_SHORT_TICK { 10 } else { 14 };
-    let head = if charge == 0 { 0 } else { 2 };
-    head + 17 * tasks + ticks.iter().map(size).sum::<usize>() + 1
+    head + (0..tasks).map(task_size).sum::<usize>() + ticks.iter().map(size).sum::<usize>() + 1
 }
 
 pub fn write(sheet: &Sheet, n: usize, columns: &Columns, out_slots: usize) -> Result<Vec<u8>, Refusal> {
     check_sheet(sheet)?;
     check_count(n)?;
     columns.check_slots(n)?;
-    check_slots(out_slots, bytes_needed(sheet.charge, sheet.count, &columns.tick[..n]))?;
+    check_slots(out_slots, bytes_needed(sheet, sheet.count, &columns.tick[..n]))?;
     let list = columns.list(n);
     check_releases(sheet, &list)?;
     Ok(encode(sheet, &list))
 }
 
-/// A whole record. Beside a release stand the ticks that its kind is for.
+/// A whole record. Beside a task stands whether its last byte may be there, which one of kind 1 does not have; beside a release the
+/// ticks that its kind is for.
 enum Record {
     Charge(u8),
-    Task(Task),
+    Task(Task, bool),
     Release(Release, RangeInclusive<u64>),
     End,
 }
@@ -700,9 +770,10 @@ fn number_of(bytes: &[u8]) -> u64 {
     bytes.iter().rev().fold(0, |n, &b| 256 * n + b as u64)
 }
 
+/// The high task of four numbers.
 fn task_of(body: &[u8]) -> Task {
     let number = |i: usize| number_of(&body[4 * i..4 * i + 4]) as u32;
-    Task { p: number(0), j: number(1), e: number(2), d: number(3) }
+    Task::high(number(0), number(1), number(2), number(3))
 }
 
 /// A release: one byte of task number, four of cost at the end, and a tick in all between.
@@ -722,17 +793,19 @@ fn record_at(file: &[u8], at: usize) -> Result<(Record, usize), Refusal> {
         3 => 0,
         4 => 13,
         5 => 1,
+        6 => 17,
         _ => return refuse(1, at),
     };
     let Some(body) = rest.get(..length) else {
         return refuse(2, at);
     };
     let record = match kind {
-        1 => Record::Task(task_of(body)),
+        1 => Record::Task(task_of(body), true),
         2 => Record::Release(release_of(body), 0..=MAX_SHORT_TICK),
         3 => Record::End,
         4 => Record::Release(release_of(body), MAX_SHORT_TICK + 1..=MAX_TICK),
-        _ => Record::Charge(body[0]),
+        5 => Record::Charge(body[0]),
+        _ => Record::Task(task_of(body).marked(true), body[16] == 0),
     };
     Ok((record, 1 + length))
 }
@@ -755,14 +828,14 @@ pub fn decode(file: &[u8]) -> Result<(Sheet, Vec<Release>), Refusal> {
                 }
                 sheet.charge = charge;
             }
-            Record::Task(t) => {
+            Record::Task(t, mark) => {
                 if !list.is_empty() {
                     return refuse(3, at);
                 }
                 if sheet.count == MAX_TASKS {
                     return refuse(4, at);
                 }
-                if !in_range(t) {
+                if !mark || !in_range(t) {
                     return refuse(6, at);
                 }
                 if !holds_charge(t, sheet.charge) {
@@ -821,7 +894,7 @@ fn numeral(field: &[u8]) -> Option<u32> {
 fn line_task(line: &[u8]) -> Option<Task> {
     let fields: Vec<u32> = line.split(|&b| b == b',').map(numeral).collect::<Option<_>>()?;
     match fields[..] {
-        [p, j, e, d] => Some(Task { p, j, e, d }),
+        [p, j, e, d] => Some(Task::high(p, j, e, d)),
         _ => None,
     }
 }
@@ -866,7 +939,7 @@ pub fn load(text: &[u8]) -> Result<Sheet, Refusal> {
     Ok(Sheet::of(&tasks))
 }
 
-/// The text of some tasks.
+/// The text of some tasks, which tells no marks.
 pub fn text_of(tasks: &[Task]) -> Vec<u8> {
     let lines = tasks.iter().map(|t| format!("{},{},{},{}\n", t.p, t.j, t.e, t.d));
     lines.collect::<String>().into_bytes()

@@ -34,7 +34,7 @@ static void arrival_count(void) {
     code = nolkrada_arrival_count(sheet, NUMBERS, tasks, charge, which, kept, slots, 1000000, answer, words);
 }
 static void verdict(void) { code = nolkrada_verdict(sheet, NUMBERS, tasks, charge, which, kept, slots, answer, words); }
-static void choice(void) { code = nolkrada_choice(sheet, NUMBERS, tasks, charge, kept, slots, worst, slots); }
+static void choice(void) { code = nolkrada_choice(sheet, NUMBERS, tasks, charge, kept, slots, worst, slots, answer, words); }
 static void trace_check(void) {
     code = nolkrada_trace_check(sheet, NUMBERS, tasks, charge, releases, task, slots, tick, slots, cost, slots, answer, words);
 }
@@ -67,11 +67,11 @@ static void list(void) {
     bytes = answer[0];
 }
 
-/* 32 tasks, 1,024 releases and their file; the longest text, and one line more behind it. */
+/* 32 high tasks, 1,024 releases and their file; the longest text, and one line more behind it. */
 static void full(void) {
     for (uint32_t i = 0; i < NOLKRADA_MAX_TASKS; i++) {
-        const uint32_t numbers[4] = {3000 + 100 * i, 1500, 60, 1000000};
-        memcpy(sheet + 4 * i, numbers, sizeof numbers);
+        const uint32_t numbers[5] = {3000 + 100 * i, 1500, 60, 1000000, 0};
+        memcpy(sheet + 5 * i, numbers, sizeof numbers);
         kept[i] = 750;
     }
     for (uint32_t n = 0; n < NOLKRADA_MAX_RELEASES; n++) {
@@ -95,7 +95,9 @@ static void no_slots(void) { slots = 0; }
 static void many_tasks(void) { tasks = NOLKRADA_MAX_TASKS + 1; }
 static void many_releases(void) { releases = NOLKRADA_MAX_RELEASES + 1; }
 static void no_such_task(void) { which = NOLKRADA_MAX_TASKS; }
-static void last_range(void) { sheet[NUMBERS - 1] = 0; }
+/* The deadline of the last task. */
+#define LAST_DEADLINE (NUMBERS - 2)
+static void last_range(void) { sheet[LAST_DEADLINE] = 0; }
 static void no_charge(void) {
     charge = 0;
     list();
@@ -106,14 +108,49 @@ static void most_charge(void) {
 }
 /* The deadline of the last task, and in the file of the first, one below its cost and the charge. */
 static void over_charge(void) {
-    sheet[NUMBERS - 1] = 64;
+    sheet[LAST_DEADLINE] = 64;
     file[15] = 64, file[16] = 0, file[17] = 0, file[18] = 0;
 }
 static void second_charge(void) { file[2] = 5; }
 static void zero_charge(void) { file[1] = 0; }
 static void last_cost(void) { cost[NOLKRADA_MAX_RELEASES - 1] = 0; }
 static void last_kept(void) { kept[NOLKRADA_MAX_TASKS - 1] = 1501; }
-static void tight(void) { sheet[NUMBERS - 1] = 65; }
+static void tight(void) { sheet[LAST_DEADLINE] = 65; }
+/* Every task low, and their file, the largest. */
+static void all_low(void) {
+    for (uint32_t i = 0; i < NOLKRADA_MAX_TASKS; i++) sheet[5 * i + 4] = UINT32_MAX;
+    list();
+}
+/* A choice of the high tasks alone: the last task, which is low and fits at no K, and every second one besides; and one that ends in 15
+ * at the last. */
+static void last_low(void) {
+    tight();
+    sheet[NUMBERS - 1] = 1;
+}
+static void half_low(void) {
+    tight();
+    for (uint32_t i = 1; i < NOLKRADA_MAX_TASKS; i += 2) sheet[5 * i + 4] = 1;
+    list();
+}
+static void last_high(void) {
+    tight();
+    for (uint32_t i = 0; i < NOLKRADA_MAX_TASKS - 1; i += 3) sheet[5 * i + 4] = 1;
+}
+/* The last byte of the first low task in the file. */
+static void wrong_mark(void) {
+    all_low();
+    file[2 + 17] = 1;
+}
+/* The largest file and one byte more, and one low task more, which is cut. */
+static void low_and_more(void) {
+    all_low();
+    file[bytes++] = 0;
+}
+static void low_task_cut(void) {
+    all_low();
+    memcpy(file + bytes - 1, file + 2, 17);
+    bytes += 16;
+}
 static void crowded(void) {
     for (uint32_t n = 0; n < SLOTS; n++) tick[n] = first;
 }
@@ -134,8 +171,9 @@ static void few_numbers(void) { numbers_lent = NUMBERS - 1; }
 static void no_words(void) { words = 0; }
 static void (*const cases[])(void) = {nothing, few_numbers, no_words, no_slots, many_tasks, many_releases, no_such_task, last_range,
                                       no_charge, most_charge, over_charge, second_charge, zero_charge, last_cost, last_kept, last_tick,
-                                      tight, crowded, short_ticks, cut, one_more_byte, no_text, text_cut, one_more_line, line_form,
-                                      line_zero, line_range};
+                                      tight, all_low, last_low, half_low, last_high, wrong_mark, low_and_more, low_task_cut, crowded,
+                                      short_ticks, cut, one_more_byte, no_text, text_cut, one_more_line, line_form, line_zero,
+                                      line_range};
 
 static unsigned char room[1 << 16];
 static ucontext_t outside, inside;

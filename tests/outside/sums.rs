@@ -1,11 +1,11 @@
 //! The reference implementation on the twelve sums and the two printed examples of document 01, 7 to 12 and the examples as document
 //! 02's R-2 has them, on R-2's own figures, on stops of R-5 and lists of t and evaluations of R-8 that were counted by hand, on records of
-//! written by hand, and on verdicts, choices and runs with a charge that were worked out by hand.
+//! written by hand, and on verdicts, choices and runs with a charge and choices with marks that were worked out by hand.
 
 use crate::reference::*;
 
 fn task(p: u32, j: u32, e: u32, d: u32) -> Task {
-    Task { p, j, e, d }
+    Task::high(p, j, e, d)
 }
 
 /// The sheet printed in document 01, with another deadline of task 2.
@@ -62,9 +62,9 @@ fn charge_records() -> usize {
         let sheet = Sheet::of(&[task(6, 5, 2, 6)]).charged(charge);
         assert_eq!(decode(&file), Ok((sheet.clone(), list_of(&[(0, 1, 2)]))));
         assert_eq!(encode(&sheet, &list_of(&[(0, 1, 2)])), file);
-        assert_eq!(bytes_needed(charge, 1, &[1]), file.len());
+        assert_eq!(bytes_needed(&sheet, 1, &[1]), file.len());
     }
-    assert_eq!(bytes_needed(0, 1, &[1]), bytes_of(&format!("{TASK} {RELEASE} 03")).len());
+    assert_eq!(bytes_needed(&Sheet::of(&[task(6, 5, 2, 6)]), 1, &[1]), bytes_of(&format!("{TASK} {RELEASE} 03")).len());
     // 256 = 1 + 255 ticks within P and D
     let longest = bytes_of("05 ff 01 00010000 00000000 01000000 00010000 03");
     let sheet = Sheet::of(&[task(256, 0, 1, 256)]).charged(255);
@@ -82,7 +82,7 @@ fn charge_records() -> usize {
     refused(&format!("{TASK} 05 00 03"), 3, 17);
     refused(&format!("{TASK} {RELEASE} 05 01 03"), 3, 27);
     refused(&format!("{TASK} 03 05 01"), 11, 18);
-    refused("06 01", 1, 0);
+    refused("07 01", 1, 0);
     // 2 + 5 ticks are over 6; a cost of 3 is over E, although 3 + 1 ticks are within P; E of 7 is 6 before 17
     refused(&format!("05 05 {TASK} 03"), 17, 2);
     refused(&format!("05 04 {TASK} 01 07000000 00000000 04000000 09000000 03"), 17, 19);
@@ -102,11 +102,11 @@ fn charges() -> usize {
     assert_eq!(windows(&two.charged(1), &[0, 0], 1, 1), [7]);
     assert_eq!(verdict_for(&two.charged(1), &[0, 0], 1), Verdict::Late { q: 0, r: 8 });
     // the choice: without a charge it keeps 0 of both, with 1 no K fits task 1
-    assert_eq!(choice_for(&two), Ok((vec![0, 0], vec![2, 4])));
-    assert_eq!(choice_for(&two.charged(1)), Err(Refusal { number: 15, place: 1 }));
+    assert_eq!(choice_for(&two), ordinary(&[0, 0], &[2, 4]));
+    assert_eq!(choice_for(&two.charged(1)), unfit(1));
     // with D 8 it fits again: W(0) is 7, which is within d_0(1) = 8
     let roomy = Sheet::of(&[task(4, 0, 1, 4), task(8, 0, 2, 8)]).charged(1);
-    assert_eq!(choice_for(&roomy), Ok((vec![0, 0], vec![3, 8])));
+    assert_eq!(choice_for(&roomy), ordinary(&[0, 0], &[3, 8]));
     // the charge is in the task's own jobs for each q: W is 3, 6, and with K 7 R is 4, 6 and d_7 is 1, 9
     let one = Sheet::of(&[task(8, 7, 2, 8)]).charged(1);
     assert_eq!(windows(&one, &[7], 0, 2), [3, 6]);
@@ -114,7 +114,7 @@ fn charges() -> usize {
     // the folder sheet with a charge of 1: R(0) of task 0 is 3 + 1 + 5 − K, so that it keeps 3. The demand of task 1 is then 3 + 3 = 6 at
     // t = 1 to 3 and 3 + 3 · 2 = 9 at t = 4 to 9, so that its R(0) is 9 + 1 + 7 − K, at least 10
     assert_eq!(windows(&folder_sheet().charged(1), &[3, 0, 0], 1, 1), [9]);
-    assert_eq!(choice_for(&folder_sheet().charged(1)), Err(Refusal { number: 15, place: 1 }));
+    assert_eq!(choice_for(&folder_sheet().charged(1)), unfit(1));
 
     // a run: the jobs take 3, 3 and 2 ticks, the last a tick less than its task may. Task 1 runs in tick 1, task 0 in ticks 2 to 4,
     // task 1 in ticks 5 and 6, and the last job, held to tick 9, in ticks 10 and 11
@@ -180,10 +180,114 @@ fn evaluations() -> usize {
     }
     // the folder sheet: 1 + 1 + 2, since task 2 tries 6 and 10; the printed one is refused; a choice that takes two q, below no task
     let choice = |sheet: &Sheet| choice_evaluations(sheet, &mut Budget::of(u64::MAX)).ok().unwrap();
-    assert_eq!(choice(&folder_sheet()), Some((vec![2, 4, 0], 4)));
+    assert_eq!(choice(&folder_sheet()), Some((false, vec![2, 4, 0], 4)));
     assert_eq!(choice(&s), None);
-    assert_eq!(choice(&Sheet::of(&[task(6, 7, 2, 5)])), Some((vec![5], 2)));
-    lists.len() + numbers.len() + 3
+    assert_eq!(choice(&Sheet::of(&[task(6, 7, 2, 5)])), Some((false, vec![5], 2)));
+    // the high tasks of the printed sheet alone: of tasks 0 and 1 one t each; of tasks 0 and 2, which tries 6 and 8, 1 + 2; of none
+    assert_eq!(choice(&s.marked(&[false, false, true])), Some((true, vec![2, 4, 0], 2)));
+    assert_eq!(choice(&s.marked(&[false, true, false])), Some((true, vec![2, 0, 0], 3)));
+    assert_eq!(choice(&s.marked(&[true; 3])), Some((true, vec![0; 3], 0)));
+    assert_eq!(choice(&s.marked(&[true, false, false])), None);
+    lists.len() + numbers.len() + 3 + 4
+}
+
+/// Choices with marks: the sheet, the marks, true for low, and what the choice is.
+pub fn marked_choices() -> Vec<(Sheet, Vec<bool>, Result<Chosen, Refusal>)> {
+    let (printed, folder) = (printed_sheet(), folder_sheet());
+    let (high, low) = (false, true);
+    // R(0) of task 0 is 3, over its deadline of 2 and within 3; below it R(0) of task 1 is 5
+    let pair = |d: u32, e: u32| Sheet::of(&[task(10, 0, 2, d), task(10, 0, 2, e)]);
+    // no K fits task 1: its R(0) is 12 − K. Task 2, with task 0 kept at 2 and task 1 at 0, has W(0) = 8
+    let middle = |d: u32| Sheet::of(&[task(6, 5, 2, 6), task(8, 7, 2, 4), task(10, 0, 2, d)]);
+    // with the charge W(0) of task 0 is 2, of task 1 7
+    let charged = Sheet::of(&[task(4, 0, 1, 4), task(8, 0, 2, 4)]).charged(1);
+    vec![
+        // the ordinary choice, in which a low task is judged too
+        (folder.clone(), vec![high, low, high], ordinary(&[2, 4, 0], &[6, 8, 11])),
+        (folder.clone(), vec![low; 3], ordinary(&[2, 4, 0], &[6, 8, 11])),
+        (folder, vec![high; 3], ordinary(&[2, 4, 0], &[6, 8, 11])),
+        // the ordinary one ends in 15 at task 2: with task 2 low it is left out, with task 1 low and kept at 0 task 2 fits, with task 0 low
+        // and kept at 0 it does not
+        (printed.clone(), vec![high, high, low], high_only(&[2, 4, 0], &[6, 8, 0])),
+        (printed.clone(), vec![high, low, high], high_only(&[2, 0, 0], &[6, 0, 9])),
+        (printed.clone(), vec![high, low, low], high_only(&[2, 0, 0], &[6, 0, 0])),
+        (printed.clone(), vec![low, high, high], unfit(2)),
+        (printed.clone(), vec![low, high, low], high_only(&[0, 4, 0], &[0, 8, 0])),
+        (printed.clone(), vec![low, low, high], high_only(&[0, 0, 0], &[0, 0, 7])),
+        (printed.clone(), vec![low; 3], high_only(&[0; 3], &[0; 3])),
+        (printed, vec![high; 3], unfit(2)),
+        // the ordinary one ends in 15 at task 0
+        (pair(2, 4), vec![low, high], unfit(1)),
+        (pair(2, 5), vec![low, high], high_only(&[0, 0], &[0, 5])),
+        (pair(2, 5), vec![high, low], unfit(0)),
+        (pair(2, 4), vec![low, low], high_only(&[0, 0], &[0, 0])),
+        (pair(3, 4), vec![high, low], high_only(&[0, 0], &[3, 0])),
+        (pair(3, 5), vec![low, low], ordinary(&[0, 0], &[3, 5])),
+        // at task 1, and of the high tasks at task 2
+        (middle(8), vec![high, low, high], unfit(2)),
+        (middle(9), vec![high, low, high], high_only(&[2, 0, 0], &[6, 0, 9])),
+        (middle(9), vec![high, high, low], unfit(1)),
+        // with a charge
+        (charged.clone(), vec![high, low], high_only(&[0, 0], &[3, 0])),
+        (charged, vec![low, high], unfit(1)),
+    ]
+}
+
+/// The choices with marks, and what the first program prints of two of them and the second of one.
+fn marks() -> usize {
+    let choices = marked_choices();
+    for (sheet, lows, chosen) in &choices {
+        assert_eq!(choice_for(&sheet.marked(lows)), *chosen, "{sheet:?} {lows:?}");
+    }
+    let lines = "task period jitter cost deadline keep worst\n0 6 5 2 6 2 6\n1 8 7 2 8 4 8\n";
+    let (printed, folder) = (printed_sheet().marked(&[false, false, true]), folder_sheet().marked(&[false, false, true]));
+    assert_eq!(lines_of_choice(&printed), format!("{lines}2 10 0 2 10 0 0\nhigh only\n"));
+    assert_eq!(lines_of_choice(&folder), format!("{lines}2 10 0 2 11 0 11\nfits\n"));
+    // kept at 2, 4 and 0 as on the folder sheet
+    assert_eq!(lines_of_run(&printed, &printed_releases()), lines_of_run(&folder_sheet(), &printed_releases()));
+    choices.len() + 3
+}
+
+/// The record of the low task (6,5,2,6).
+const LOW: &str = "06 06000000 05000000 02000000 06000000 00";
+
+/// Records of low tasks: read and written, and each refusal that has to do with one.
+fn mark_records() -> usize {
+    let (low, high) = (task(6, 5, 2, 6).marked(true), task(6, 5, 2, 6));
+    let files: [(&str, &[Task], u8); 5] = [
+        (LOW, &[low], 0),
+        ("06 06000000 05000000 02000000 06000000 00 01 06000000 05000000 02000000 06000000", &[low, high], 0),
+        ("01 06000000 05000000 02000000 06000000 06 06000000 05000000 02000000 06000000 00", &[high, low], 0),
+        ("05 04 06 06000000 05000000 02000000 06000000 00", &[low], 4),
+        ("06 40420f00 00000000 40420f00 40420f00 00", &[task(MAX_TIME, 0, MAX_TIME, MAX_TIME).marked(true)], 0),
+    ];
+    for (records, tasks, charge) in files {
+        let file = bytes_of(&format!("{records} {RELEASE} 03"));
+        let (sheet, list) = (Sheet::of(tasks).charged(charge), list_of(&[(0, 1, 2)]));
+        assert_eq!(decode(&file), Ok((sheet.clone(), list.clone())));
+        assert_eq!(encode(&sheet, &list), file);
+        assert_eq!(bytes_needed(&sheet, tasks.len(), &[1]), file.len());
+    }
+    // cut after the kind, in the numbers and before the last byte
+    refused("06", 2, 0);
+    refused("06 06000000 05", 2, 0);
+    refused("06 06000000 05000000 02000000 06000000", 2, 0);
+    // another last byte
+    refused("06 06000000 05000000 02000000 06000000 01 03", 6, 0);
+    refused(&format!("{TASK} 06 06000000 05000000 02000000 06000000 ff 03"), 6, 17);
+    // E over P, alone and with another last byte; the charge over the task's room, and 6 before it
+    refused("06 06000000 05000000 07000000 06000000 00 03", 6, 0);
+    refused("06 06000000 05000000 07000000 06000000 01 03", 6, 0);
+    refused(&format!("05 05 {LOW} 03"), 17, 2);
+    refused("05 05 06 06000000 05000000 02000000 06000000 01 03", 6, 2);
+    // after a release, and with another last byte; a charge after a low task
+    refused(&format!("{TASK} {RELEASE} {LOW} 03"), 3, 27);
+    refused(&format!("{LOW} {RELEASE} 06 06000000 05000000 02000000 06000000 01 03"), 3, 28);
+    refused(&format!("{LOW} 05 01 03"), 3, 18);
+    // the 33rd task, and with another last byte
+    refused(&format!("{} {LOW} 03", LOW.repeat(32)), 4, 18 * 32);
+    refused(&format!("{} 06 06000000 05000000 02000000 06000000 01 03", TASK.repeat(32)), 4, 17 * 32);
+    files.len() + 14
 }
 
 /// Sheets with kept jitters and a task: how many q its verdict takes, and the number of evaluations.
@@ -269,8 +373,21 @@ fn stops_of(list: &[(u32, u64, u32)]) -> u64 {
     stops(&ready, &finish_ticks_by_job(0, &list, &ready))
 }
 
-fn choice_for(sheet: &Sheet) -> Result<(Vec<u32>, Vec<u32>), Refusal> {
+fn choice_for(sheet: &Sheet) -> Result<Chosen, Refusal> {
     choice(sheet, 32, 32, &mut Budget::of(u64::MAX)).ok().unwrap()
+}
+
+/// An ordinary choice, one of the high tasks alone, and one that ends in 15.
+fn ordinary(kept: &[u32], worst: &[u32]) -> Result<Chosen, Refusal> {
+    Ok(Chosen { kept: kept.to_vec(), worst: worst.to_vec(), high_only: false })
+}
+
+fn high_only(kept: &[u32], worst: &[u32]) -> Result<Chosen, Refusal> {
+    Ok(Chosen { kept: kept.to_vec(), worst: worst.to_vec(), high_only: true })
+}
+
+fn unfit(place: u64) -> Result<Chosen, Refusal> {
+    Err(Refusal { number: 15, place })
 }
 
 fn refusal_line(r: Refusal) -> String {
@@ -278,22 +395,22 @@ fn refusal_line(r: Refusal) -> String {
 }
 
 fn lines_of_choice(sheet: &Sheet) -> String {
-    let (kept, worst) = match choice_for(sheet) {
+    let chosen = match choice_for(sheet) {
         Err(r) => return refusal_line(r),
-        Ok(columns) => columns,
+        Ok(chosen) => chosen,
     };
     let mut text = String::from("task period jitter cost deadline keep worst\n");
     for i in 0..sheet.count {
         let t = sheet.task(i);
-        text += &format!("{} {} {} {} {} {} {}\n", i, t.p, t.j, t.e, t.d, kept[i], worst[i]);
+        text += &format!("{} {} {} {} {} {} {}\n", i, t.p, t.j, t.e, t.d, chosen.kept[i], chosen.worst[i]);
     }
-    text + "fits\n"
+    text + if chosen.high_only { "high only\n" } else { "fits\n" }
 }
 
 fn lines_of_run(sheet: &Sheet, list: &[Release]) -> String {
     let kept = match choice_for(sheet) {
         Err(r) => return refusal_line(r),
-        Ok((kept, _)) => kept,
+        Ok(chosen) => chosen.kept,
     };
     let ready = ready_ticks(sheet, &kept, list);
     let finish = finish_ticks(sheet.charge, list, &ready);
@@ -356,7 +473,7 @@ pub fn check() -> usize {
         "job task release ready finish response\n0 0 0 0 3 3\n1 2 0 0 5 5\n2 0 1 4 7 6\n"
     );
     // tasks 0 and 1 of the printed sheet alone
-    assert_eq!(choice_for(&Sheet::of(&s.tasks[..2])), Ok((vec![2, 4], vec![6, 8])));
+    assert_eq!(choice_for(&Sheet::of(&s.tasks[..2])), ordinary(&[2, 4], &[6, 8]));
     // the stop of the walk has no pickup: W(0) = d_0(1) = 1, and W(0) = 2 over d_7(1) = 1
     assert_eq!(verdict_for(&Sheet::of(&[task(1, 0, 1, 2)]), &[0], 0), Verdict::Fits { r: 2, q: 0 });
     assert_eq!(verdict_for(&Sheet::of(&[task(8, 7, 2, 8)]), &[7], 0), Verdict::Fits { r: 4, q: 1 });
@@ -375,6 +492,7 @@ pub fn check() -> usize {
     assert_eq!(stops_of(&[(1, 0, 1), (0, 0, 1)]), 3);
     // two releases alone, at tick 0 and at the limit
     assert_eq!(stops_of(&[(0, 0, 1), (0, MAX_TICK, 1)]), 4);
-    // twelve sums, two examples, these with D 11, three figures more, seven of stops, the records, those of a charge, and evaluations
-    12 + 2 + 2 + 3 + 7 + records() + charge_records() + charges() + evaluations()
+    // twelve sums, two examples, these with D 11, three figures more, seven of stops, the records, those of a charge, evaluations, and those
+    // of marks
+    12 + 2 + 2 + 3 + 7 + records() + charge_records() + charges() + evaluations() + marks() + mark_records()
 }

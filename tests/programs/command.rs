@@ -286,7 +286,7 @@ fn inputs(tree: &Tree) {
     let folder = "examples/folder.sheet";
     for (option, end) in [(None, "choose"), (Some("--replay"), "replay")] {
         let words = |last: Option<&'static str>| -> Vec<&str> { option.into_iter().chain(last).collect() };
-        for name in ["folder", "printed", "press", "overload", "months", "charge"] {
+        for name in ["folder", "printed", "press", "overload", "months", "charge", "statistics"] {
             let (file, text) = (format!("examples/{name}.sheet"), stored(&format!("{name}.{end}")));
             let code = if text.starts_with("refused ") { 1 } else { 0 };
             let absolute = fs::canonicalize(&file).unwrap();
@@ -575,10 +575,13 @@ fn failures() {
     tree.call(&["examples/folder.sheet"]).is(3, "", "sources that change").says("the sources changed");
     tree.plan("silent=yes");
     tree.call(&["examples/folder.sheet"]).is(3, "", "no program").says("cannot copy");
-    tree.write("odd", "#!/bin/sh\necho task one\n");
-    tree.plan("program=odd");
-    tree.call(&["examples/folder.sheet"]).is(3, "", "an odd program").says("no whole answer");
-    tree.call(&["examples/folder.csv"]).is(3, "", "an odd program").says("choose_csv printed no whole answer");
+    for text in ["echo task one", "echo task one; echo high", "echo high only", "echo task one; echo high only; echo more"] {
+        tree.write("odd", &format!("#!/bin/sh\n{text}\n"));
+        tree.write("crates/model/specs/Gap.antt", &format!("{text}\n"));
+        tree.plan("program=odd");
+        tree.call(&["examples/folder.sheet"]).is(3, "", "an odd program").says("no whole answer");
+        tree.call(&["examples/folder.csv"]).is(3, "", "an odd program").says("choose_csv printed no whole answer");
+    }
     tree.write("odd", "#!/bin/sh\necho task one\nkill -9 $$\n");
     tree.write("crates/model/specs/Gap.antt", "gap\n");
     tree.call(&["examples/folder.sheet"]).is(3, "", "a program that is killed").says("ended with status 137");

@@ -9,12 +9,14 @@ mod reference;
 
 use generator::{damaged_texts, digits_at_limits, other_line_ends, texts_at_line_limit, texts_with_digits};
 use generator::{any_charge, file_for, late_file_for, legal_list_for, loaded_sheet, moved, random_file, random_text, small_sheet, way_to};
+use generator::with_marks;
 use generator::{Random, EDGE_CHARGES, EDGE_TICKS, MIDDLE_TICKS};
 use reference::{add_release, choice, decode, encode, finish_ticks, load, ready_ticks, text_of, Budget, Refusal, Release, Sheet, Task};
 use reference::{MAX_SHORT_TICK, MAX_TICK};
 use std::io::{Read, Write};
 use std::path::Path;
 use std::process::{Child, Command, Stdio};
+use std::sync::atomic::{AtomicUsize, Ordering};
 
 const CHOOSE: &str = "target/built/choose";
 const REPLAY: &str = "target/built/replay";
@@ -23,6 +25,9 @@ const CHOOSE_CSV: &str = "target/built/choose_csv";
 fn refused(r: Refusal) -> String {
     format!("refused {} at {}\n", r.number, r.place)
 }
+
+/// The last line of the first and third program: the choice is of all tasks, or of the high ones alone.
+const LAST_LINES: [&str; 2] = ["fits\n", "high only\n"];
 
 /// What the first program prints for a file, and the third for a text; none where the reference would search too long.
 fn choose_text(given: Result<Sheet, Refusal>) -> Option<String> {
@@ -33,14 +38,15 @@ fn choose_text(given: Result<Sheet, Refusal>) -> Option<String> {
     let mut out = String::from("task period jitter cost deadline keep worst\n");
     match choice(&sheet, 32, 32, &mut Budget::of(20_000_000)).ok()? {
         Err(r) => return Some(refused(r)),
-        Ok((kept, worst)) => {
+        Ok(chosen) => {
             for i in 0..sheet.count {
                 let t = sheet.task(i);
-                out += &format!("{} {} {} {} {} {} {}\n", i, t.p, t.j, t.e, t.d, kept[i], worst[i]);
+                out += &format!("{} {} {} {} {} {} {}\n", i, t.p, t.j, t.e, t.d, chosen.kept[i], chosen.worst[i]);
             }
+            out += LAST_LINES[chosen.high_only as usize];
         }
     }
-    Some(out + "fits\n")
+    Some(out)
 }
 
 /// What the second program prints.
@@ -51,7 +57,7 @@ fn replay_text(file: &[u8]) -> Option<String> {
     };
     let kept = match choice(&sheet, 32, 32, &mut Budget::of(20_000_000)).ok()? {
         Err(r) => return Some(refused(r)),
-        Ok((kept, _)) => kept,
+        Ok(chosen) => chosen.kept,
     };
     let ready = ready_ticks(&sheet, &kept, &list);
     let finish = finish_ticks(sheet.charge, &list, &ready);
@@ -81,12 +87,16 @@ fn run(program: &str, input: &[u8], piece: usize) -> String {
     out
 }
 
+/// How many choices of the first program were of the high tasks alone.
+static HIGH_ONLY: AtomicUsize = AtomicUsize::new(0);
+
 fn same(name: &str, file: &[u8], piece: usize) -> usize {
     let mut n = 0;
     let sheet = decode(file).map(|(sheet, _)| sheet);
     for (program, text) in [(CHOOSE, choose_text(sheet)), (REPLAY, replay_text(file))] {
         if let Some(text) = text {
             assert_eq!(run(program, file, piece), text, "{program} on {name}");
+            HIGH_ONLY.fetch_add(text.ends_with(LAST_LINES[1]) as usize, Ordering::Relaxed);
             n += 1;
         }
     }
@@ -144,7 +154,7 @@ fn stored(folder: &str) -> usize {
 }
 
 fn sheet(tasks: &[[u32; 4]]) -> Sheet {
-    Sheet::of(&tasks.iter().map(|t| Task { p: t[0], j: t[1], e: t[2], d: t[3] }).collect::<Vec<_>>())
+    Sheet::of(&tasks.iter().map(|t| Task::high(t[0], t[1], t[2], t[3])).collect::<Vec<_>>())
 }
 
 fn rel(task: u32, tick: u64, cost: u32) -> Release {
@@ -153,15 +163,17 @@ fn rel(task: u32, tick: u64, cost: u32) -> Release {
 
 /// 32 tasks and 1,024 releases.
 fn full() -> (Sheet, Vec<Release>) {
-    let tasks: Vec<Task> = (0..32).map(|i| Task { p: 100 + i, j: 3 * i, e: 1, d: 1000 }).collect();
+    let tasks: Vec<Task> = (0..32).map(|i| Task::high(100 + i, 3 * i, 1, 1000)).collect();
     (Sheet::of(&tasks), (0..1024).map(|n| rel(n % 32, n as u64 / 3, 1)).collect())
 }
 
-/// The same with the last release at the last tick allowed and this charge, without the end: where there is a charge, the largest file.
-fn longest(charge: u8) -> Vec<u8> {
+/// The same with the last release at the last tick allowed, this charge and all tasks high or low, without the end: where there is a charge
+/// and the tasks are low, the largest file.
+fn longest(charge: u8, low: bool) -> Vec<u8> {
     let (sheet, list) = full();
-    let mut file = encode(&sheet.charged(charge), &moved(&list, MAX_TICK - list[1023].tick));
-    assert_eq!((file.len(), file.pop()), (if charge > 0 { 14_883 } else { 14_881 }, Some(3)));
+    let mut file = encode(&sheet.marked(&[low; 32]).charged(charge), &moved(&list, MAX_TICK - list[1023].tick));
+    let size = 14_881 + if charge > 0 { 2 } else { 0 } + if low { 32 } else { 0 };
+    assert_eq!((file.len(), file.pop()), (size, Some(3)));
     file
 }
 
@@ -206,7 +218,8 @@ fn worked_long() -> Vec<(String, Vec<u8>)> {
         bytes
     };
     let one = &encode(&tasks, &[])[..17];
-    let tails: [(&str, &[u8]); 9] = [
+    let low = &encode(&tasks.marked(&[true]), &[])[..18];
+    let tails: [(&str, &[u8]); 13] = [
         ("the end", &[3]),
         ("no end", &[]),
         ("two ends", &[3, 3]),
@@ -216,11 +229,15 @@ fn worked_long() -> Vec<(String, Vec<u8>)> {
         ("a task", one),
         ("a task that is cut", &one[..16]),
         ("a task and 5,000 bytes", &[one, &[1; 5_000]].concat()),
+        ("a low task", low),
+        ("a low task with another last byte", &[&low[..17], &[1]].concat()),
+        ("a low task that is cut", &low[..17]),
+        ("a low task and 5,000 bytes", &[low, &[1; 5_000]].concat()),
     ];
     let mut cases: Vec<(String, Vec<u8>)> = Vec::new();
-    for charge in [0, 1, 99] {
+    for (charge, low) in [0, 1, 99].into_iter().flat_map(|charge| [(charge, false), (charge, true)]) {
         cases.extend(tails.iter().map(|(name, tail)| {
-            (format!("charge {charge}, 1,024 long releases, {name}"), [&longest(charge), *tail].concat())
+            (format!("charge {charge}, low {low}, 1,024 long releases, {name}"), [&longest(charge, low), *tail].concat())
         }));
     }
     let ticks = [0, MAX_SHORT_TICK, MAX_SHORT_TICK + 1, 1 << 32, MAX_TICK];
@@ -250,7 +267,7 @@ fn worked_charges() -> Vec<(String, Vec<u8>)> {
         cases.push((format!("charge, the first {end} bytes"), file[..end].to_vec()));
     }
     let (task, release, rest) = (&file[2..19], &file[53..63], &file[2..]);
-    let odd: [(&str, &[&[u8]]); 14] = [
+    let odd: [(&str, &[&[u8]]); 15] = [
         ("0", &[&[5, 0], rest]),
         ("a second one", &[&[5, 7, 5, 7], rest]),
         ("a second one of 0", &[&[5, 7, 5, 0], rest]),
@@ -262,11 +279,62 @@ fn worked_charges() -> Vec<(String, Vec<u8>)> {
         ("after the end", &[task, &[3, 5, 7]]),
         ("before the end", &[&[5, 7, 3]]),
         ("before a release", &[&[5, 7], release, &[3]]),
-        ("before another kind", &[&[5, 7, 6]]),
+        ("before another kind", &[&[5, 7, 7]]),
+        ("before a low task cut", &[&[5, 7, 6]]),
         ("before the task cut", &[&[5, 7], &task[..16]]),
         ("and a byte after the end", &[&[5, 7], rest, &[5]]),
     ];
     cases.extend(odd.iter().map(|(name, parts)| (format!("charge, {name}"), parts.concat())));
+    cases
+}
+
+/// Marks: every pattern of them on sheets that fit, that do not, and that fit without some tasks, with a charge and without; a low task cut
+/// at every byte, with each last byte, where none may stand, out of range, and too tight for the charge.
+fn worked_marks() -> Vec<(String, Vec<u8>)> {
+    let sheets = [
+        ("the folder's", sheet(&[[6, 5, 2, 6], [8, 7, 2, 8], [10, 0, 2, 11]])),
+        ("the printed", sheet(&[[6, 5, 2, 6], [8, 7, 2, 8], [10, 0, 2, 10]])),
+        ("no K fits task 0 of", sheet(&[[6, 5, 2, 2], [8, 7, 2, 8], [10, 0, 2, 9]])),
+        ("no K fits task 1 of", sheet(&[[6, 5, 2, 6], [8, 7, 2, 4], [10, 0, 2, 9]])),
+    ];
+    let list = [rel(0, 0, 2), rel(2, 0, 2), rel(1, 1, 1), rel(0, 1, 2)];
+    let mut cases = Vec::new();
+    for (name, s) in &sheets {
+        for (pattern, charge) in (0..8).flat_map(|pattern| [(pattern, 0), (pattern, 1)]) {
+            let lows = [0, 1, 2].map(|i| pattern >> i & 1 == 1);
+            cases.push((format!("{name} sheet, low {lows:?}, charge {charge}"), encode(&s.marked(&lows).charged(charge), &list)));
+        }
+    }
+    let low = &encode(&sheets[1].1.marked(&[true]), &[])[..18];
+    let (task, release) = (&encode(&sheets[0].1, &[])[..17], &encode(&sheets[0].1, &list)[51..61]);
+    for end in 0..18 {
+        cases.push((format!("low task, the first {end} bytes"), low[..end].to_vec()));
+    }
+    for mark in [0, 1, 2, 127, 128, 255] {
+        let other = [&low[..17], &[mark]].concat();
+        for (name, parts) in [
+            ("alone", &[&other, &[3][..]] as &[&[u8]]),
+            ("after a task", &[task, &other, &[3]]),
+            ("after a release", &[task, release, &other, &[3]]),
+            ("as the 33rd task", &[&task.repeat(32), &other, &[3]]),
+            ("with a charge over its room", &[&[5, 5], &other, &[3]]),
+            ("with a charge", &[&[5, 4], &other, release, &[3]]),
+        ] {
+            cases.push((format!("low task with last byte {mark}, {name}"), parts.concat()));
+        }
+    }
+    let range = [&low[..9], &[7], &low[10..]].concat();
+    for (name, parts) in [
+        ("out of range", &[&range, &[3][..]] as &[&[u8]]),
+        ("out of range with another last byte", &[&range[..17], &[1, 3]]),
+        ("without its last byte, then the end", &[&low[..17], &[3]]),
+        ("and no end", &[low]),
+        ("and a charge after it", &[low, &[5, 1, 3]]),
+        ("and a byte after the end", &[low, &[3, 6]]),
+        ("after the end", &[&[3], low]),
+    ] {
+        cases.push((format!("low task, {name}"), parts.concat()));
+    }
     cases
 }
 
@@ -325,19 +393,25 @@ fn unread(program: &str, input: &[u8]) {
 
 fn odd_ends() {
     let task = encode(&sheet(&[[6, 5, 2, 6]]), &[]);
+    let low_task = encode(&sheet(&[[6, 5, 2, 6]]).marked(&[true]), &[]);
     let mut last = Vec::new();
     add_release(&mut last, 4, rel(0, MAX_TICK, 1));
     for program in [CHOOSE, REPLAY] {
         endless(program, b"", &task[..17], "refused 4 at 544\n");
-        endless(program, &longest(0), &task[..17], "refused 3 at 14880\n");
-        endless(program, &longest(0), &last, "refused 10 at 14880\n");
-        endless(program, &longest(0), b"\x03", "refused 11 at 14881\n");
-        endless(program, &longest(1), &task[..17], "refused 3 at 14882\n");
-        endless(program, &longest(1), &last, "refused 10 at 14882\n");
-        endless(program, &longest(1), b"\x03", "refused 11 at 14883\n");
-        endless(program, &longest(1), b"\x05", "refused 3 at 14882\n");
+        for (charge, low, end) in [(0, false, 14_880), (1, false, 14_882), (0, true, 14_912), (1, true, 14_914)] {
+            let first = longest(charge, low);
+            endless(program, &first, &task[..17], &format!("refused 3 at {end}\n"));
+            endless(program, &first, &low_task[..18], &format!("refused 3 at {end}\n"));
+            endless(program, &first, &last, &format!("refused 10 at {end}\n"));
+            endless(program, &first, b"\x03", &format!("refused 11 at {}\n", end + 1));
+            endless(program, &first, b"\x05", &format!("refused 3 at {end}\n"));
+            endless(program, &first, b"\x06", &format!("refused 3 at {end}\n"));
+        }
         endless(program, b"", b"\x05", "refused 3 at 2\n");
         endless(program, b"\x05\x01", &task[..17], "refused 4 at 546\n");
+        endless(program, b"", &low_task[..18], "refused 4 at 576\n");
+        endless(program, b"\x05\x01", &low_task[..18], "refused 4 at 578\n");
+        endless(program, b"", b"\x06", "refused 6 at 0\n");
         unread(program, &task);
     }
     endless(CHOOSE_CSV, b"", b"6,5,2,6\n", "refused 4 at 32\n");
@@ -353,7 +427,7 @@ fn main() {
         n += same(name, &file, 4096);
         n += same(name, &file, 7);
     }
-    for (name, file) in worked_long().into_iter().chain(worked_charges()) {
+    for (name, file) in worked_long().into_iter().chain(worked_charges()).chain(worked_marks()) {
         n += same(&name, &file, 4096);
     }
     odd_ends();
@@ -361,6 +435,7 @@ fn main() {
     for _ in 0..400 {
         let s = if r.once_in(3) { loaded_sheet(&mut r, 6, 200) } else { small_sheet(&mut r) };
         let s = any_charge(&mut r, s);
+        let s = with_marks(&mut r, s);
         let list = legal_list_for(&mut r, &s, 20);
         let tick = r.of(&MIDDLE_TICKS);
         let by = if r.once_in(2) { way_to(&mut r, &list, tick) } else { 0 };
@@ -375,5 +450,7 @@ fn main() {
         n += same("a cut file", &cut, 4096);
     }
     n += texts(&mut r);
-    println!("programs: {n} runs as the reference says");
+    let high_only = HIGH_ONLY.load(Ordering::Relaxed);
+    println!("programs: {n} runs as the reference says, of which {high_only} chose for the high tasks alone");
+    assert!(high_only >= 40);
 }

@@ -2,7 +2,7 @@
 
 use crate::case::*;
 use crate::lists::{full_kept, full_sheet};
-use crate::reference::{arrival_count, choice, verdict, Budget, Sheet, Verdict};
+use crate::reference::{arrival_count, choice, verdict, Budget, Chosen, Sheet, Verdict};
 
 const MILLION: u32 = 1_000_000;
 
@@ -68,7 +68,10 @@ fn choosing(sheet: &Sheet) -> ChoiceCall {
 fn choice_answer(c: &ChoiceCall) -> String {
     match choice(&c.sheet, c.kept.len(), c.worst.len(), &mut Budget::of(u64::MAX)).ok().unwrap() {
         Err(r) => refused(r) + &column(&c.kept) + &column(&c.worst),
-        Ok((kept, worst)) => format!(" fine{}{}", column(&written(&kept, &c.kept)), column(&written(&worst, &c.worst))),
+        Ok(Chosen { kept, worst, high_only }) => {
+            let which = if high_only { "high only" } else { "fits" };
+            format!(" {which}{}{}", column(&written(&kept, &c.kept)), column(&written(&worst, &c.worst)))
+        }
     }
 }
 
@@ -207,23 +210,23 @@ fn worked_choices(v: &mut Vectors) {
         v.worked(&format!("choice, {label}"), &choice_blocks(&c), &choice_answer(&c), line);
     };
     add("printed sheet", &printed_sheet(), " refused 15 at 2, - - - - -, - - - - -");
-    add("printed sheet, D 11", &folder_sheet(), " fine, 2 4 0 - -, 6 8 11 - -");
+    add("printed sheet, D 11", &folder_sheet(), " fits, 2 4 0 - -, 6 8 11 - -");
     add("printed sheet, D 9", &with_deadline(2, 9), " refused 15 at 2, - - - - -, - - - - -");
-    add("printed sheet, tasks 0 and 1", &sheet(&[(6, 5, 2, 6), (8, 7, 2, 8)]), " fine, 2 4 - -, 6 8 - -");
+    add("printed sheet, tasks 0 and 1", &sheet(&[(6, 5, 2, 6), (8, 7, 2, 8)]), " fits, 2 4 - -, 6 8 - -");
     add("sum 11, one task", &sheet(&[(1, 0, 1, 1)]), " refused 15 at 0, - - -, - - -");
     add("sum 11, two tasks", &sheet(&[(1, 0, 1, 1), (1, 0, 1, 1)]), " refused 15 at 0, - - - -, - - - -");
-    add("sum 11, one task, D 2", &sheet(&[(1, 0, 1, 2)]), " fine, 0 - -, 2 - -");
+    add("sum 11, one task, D 2", &sheet(&[(1, 0, 1, 2)]), " fits, 0 - -, 2 - -");
     add("sum 11, two tasks, D 2", &sheet(&[(1, 0, 1, 2), (1, 0, 1, 2)]), " refused 15 at 1, - - - -, - - - -");
     // R(0) is 3 + 1 + 4 − K.
-    add("pickup, K 2", &sheet(&[(10, 4, 3, 6)]), " fine, 2 - -, 6 - -");
-    add("pickup, K 0 and R is D", &sheet(&[(10, 4, 3, 8)]), " fine, 0 - -, 8 - -");
-    add("pickup, K is J", &sheet(&[(10, 4, 3, 4)]), " fine, 4 - -, 4 - -");
+    add("pickup, K 2", &sheet(&[(10, 4, 3, 6)]), " fits, 2 - -, 6 - -");
+    add("pickup, K 0 and R is D", &sheet(&[(10, 4, 3, 8)]), " fits, 0 - -, 8 - -");
+    add("pickup, K is J", &sheet(&[(10, 4, 3, 4)]), " fits, 4 - -, 4 - -");
     add("pickup, R over D at every K", &sheet(&[(10, 4, 3, 3)]), " refused 15 at 0, - - -, - - -");
     // W is 2, 4. R(0) is 2 + 1 + 7 − K; with K 7 R(1) is 4 + 1 − 1. W(0) is d_6(1).
-    add("pickup, W(0) is d(1)", &sheet(&[(8, 7, 2, 4)]), " fine, 6 - -, 4 - -");
+    add("pickup, W(0) is d(1)", &sheet(&[(8, 7, 2, 4)]), " fits, 6 - -, 4 - -");
     add("pickup, R(1) over D", &sheet(&[(8, 7, 2, 3)]), " refused 15 at 0, - - -, - - -");
     // W is 2, 4. R(0) is 2 + 1 + 7 − K. With K 5 and more W(0) is over d_K(1), and R(1) is 4 + 1.
-    add("pickup, R(1) is D", &sheet(&[(6, 7, 2, 5)]), " fine, 5 - -, 5 - -");
+    add("pickup, R(1) is D", &sheet(&[(6, 7, 2, 5)]), " fits, 5 - -, 5 - -");
     add("pickup, R(1) is D + 1", &sheet(&[(6, 7, 2, 4)]), " refused 15 at 0, - - -, - - -");
 }
 
@@ -522,18 +525,18 @@ fn charged_choices(v: &mut Vectors) {
         v.worked(&format!("choice, charge, {label}"), &choice_blocks(&c), &choice_answer(&c), line);
     };
     let two = |d: u32| sheet(&[(4, 0, 1, 4), (8, 0, 2, d)]);
-    add("none", &two(4), " fine, 0 0 - -, 2 4 - -");
+    add("none", &two(4), " fits, 0 0 - -, 2 4 - -");
     add("1", &two(4).charged(1), " refused 15 at 1, - - - -, - - - -");
-    add("1, D 8", &two(8).charged(1), " fine, 0 0 - -, 3 8 - -");
+    add("1, D 8", &two(8).charged(1), " fits, 0 0 - -, 3 8 - -");
     // R(0) is E + S + 1 + 4 − K.
-    add("K is one more", &sheet(&[(10, 4, 3, 6)]).charged(1), " fine, 3 - -, 6 - -");
-    add("K is J", &sheet(&[(10, 4, 3, 6)]).charged(2), " fine, 4 - -, 6 - -");
+    add("K is one more", &sheet(&[(10, 4, 3, 6)]).charged(1), " fits, 3 - -, 6 - -");
+    add("K is J", &sheet(&[(10, 4, 3, 6)]).charged(2), " fits, 4 - -, 6 - -");
     add("over J", &sheet(&[(10, 4, 3, 6)]).charged(3), " refused 15 at 0, - - -, - - -");
     add("over D", &sheet(&[(10, 4, 3, 6)]).charged(4), " refused 17 at 0, - - -, - - -");
     add("printed sheet, D 11", &folder_sheet().charged(1), " refused 15 at 1, - - - - -, - - - - -");
     add("printed sheet, D 11, 4", &folder_sheet().charged(4), " refused 15 at 0, - - - - -, - - - - -");
     add("printed sheet, D 11, 5", &folder_sheet().charged(5), " refused 17 at 0, - - - - -, - - - - -");
-    add("255", &sheet(&[(900, 0, 1, 257)]).charged(255), " fine, 0 - -, 257 - -");
+    add("255", &sheet(&[(900, 0, 1, 257)]).charged(255), " fits, 0 - -, 257 - -");
 }
 
 /// Sheets of the cases without a charge, with one that is taken off each cost: the same verdicts and choices.
@@ -632,6 +635,123 @@ fn choosing_at_most(sheet: &Sheet) -> ChoiceCall {
     ChoiceCall { sheet: sheet.clone(), kept: held((sheet.count + 2).min(5)), worst: held((sheet.count + 2).min(5)) }
 }
 
+/// Choices with marks, worked out by hand.
+fn marked_choices(v: &mut Vectors) {
+    let mut add = |label: &str, sheet: &Sheet, lows: &[bool], line: &str| {
+        let c = choosing(&sheet.marked(lows));
+        v.worked(&format!("choice, marks {}, {label}", letters(lows)), &choice_blocks(&c), &choice_answer(&c), line);
+    };
+    let (h, l) = (false, true);
+    // The ordinary choice judges every task.
+    for lows in [[h, l, h], [l, h, h], [h, h, l], [l, l, l]] {
+        add("printed sheet, D 11", &folder_sheet(), &lows, " fits, 2 4 0 - -, 6 8 11 - -");
+    }
+    // The ordinary choice ends in 15 at task 2. With task 1 kept at 0 its W(0) is 8, with task 0 kept at 0 it is 10 still, with both 6.
+    let printed = printed_sheet();
+    add("printed sheet", &printed, &[h, h, h], " refused 15 at 2, - - - - -, - - - - -");
+    add("printed sheet", &printed, &[h, h, l], " high only, 2 4 0 - -, 6 8 0 - -");
+    add("printed sheet", &printed, &[h, l, h], " high only, 2 0 0 - -, 6 0 9 - -");
+    add("printed sheet", &printed, &[h, l, l], " high only, 2 0 0 - -, 6 0 0 - -");
+    add("printed sheet", &printed, &[l, h, h], " refused 15 at 2, - - - - -, - - - - -");
+    add("printed sheet", &printed, &[l, h, l], " high only, 0 4 0 - -, 0 8 0 - -");
+    add("printed sheet", &printed, &[l, l, h], " high only, 0 0 0 - -, 0 0 7 - -");
+    add("printed sheet", &printed, &[l, l, l], " high only, 0 0 0 - -, 0 0 0 - -");
+    // At task 0: R(0) is 3. Of task 1 it is 5.
+    let pair = |d: u32, e: u32| sheet(&[(10, 0, 2, d), (10, 0, 2, e)]);
+    add("no K fits task 0", &pair(2, 5), &[l, h], " high only, 0 0 - -, 0 5 - -");
+    add("no K fits task 0", &pair(2, 5), &[h, l], " refused 15 at 0, - - - -, - - - -");
+    add("no K fits task 0", &pair(2, 5), &[l, l], " high only, 0 0 - -, 0 0 - -");
+    add("no K fits tasks 0 and 1", &pair(2, 4), &[l, h], " refused 15 at 1, - - - -, - - - -");
+    add("no K fits tasks 0 and 1", &pair(2, 4), &[h, h], " refused 15 at 0, - - - -, - - - -");
+    add("no K fits task 1", &pair(3, 4), &[h, l], " high only, 0 0 - -, 3 0 - -");
+    add("no K fits task 1", &pair(3, 4), &[l, h], " refused 15 at 1, - - - -, - - - -");
+    // At task 1, whose R(0) is 12 − K; of the high tasks at task 2, whose R(0) is 9.
+    let middle = |d: u32| sheet(&[(6, 5, 2, 6), (8, 7, 2, 4), (10, 0, 2, d)]);
+    add("no K fits task 1, D 9", &middle(9), &[h, l, h], " high only, 2 0 0 - -, 6 0 9 - -");
+    add("no K fits task 1, D 8", &middle(8), &[h, l, h], " refused 15 at 2, - - - - -, - - - - -");
+    add("no K fits task 1, D 8", &middle(8), &[h, h, l], " refused 15 at 1, - - - - -, - - - - -");
+    add("no K fits task 1, D 8", &middle(8), &[h, l, l], " high only, 2 0 0 - -, 6 0 0 - -");
+    // With a charge of 1 W(0) of task 0 is 2, of task 1 7.
+    let two = sheet(&[(4, 0, 1, 4), (8, 0, 2, 4)]).charged(1);
+    add("charge 1", &two, &[h, l], " high only, 0 0 - -, 3 0 - -");
+    add("charge 1", &two, &[l, h], " refused 15 at 1, - - - -, - - - -");
+    add("one task", &sheet(&[(1, 0, 1, 1)]), &[l], " high only, 0 - -, 0 - -");
+    add("one task, D 2", &sheet(&[(1, 0, 1, 2)]), &[l], " fits, 0 - -, 2 - -");
+    // A walk up to the horizon that is not made again: task 0 keeps 1, and task 1 fits at no K.
+    let c = choosing(&sheet(&[(2, 1, 1, 2), (2, 999_990, 1, MILLION)]).marked(&[h, l]));
+    v.case("choice, marks hl, no K fits up to the horizon", &choice_blocks(&c), " high only, 1 0 - -, 2 0 - -");
+    // Any number but 0 marks a task as low.
+    for number in [2, 255, 256, 65_536, 1 << 31, u32::MAX] {
+        let c = choosing(&printed.marked(&[h, l, h]));
+        let blocks = [head_with(2, &[], &c.sheet, number), numbers(&c.kept), numbers(&c.worst)];
+        v.worked(&format!("choice, mark {number}"), &blocks, &choice_answer(&c), " high only, 2 0 0 - -, 6 0 9 - -");
+    }
+}
+
+/// Small sheets with every pattern of marks.
+fn marked_small(v: &mut Vectors) {
+    let mut m = Mixer::from(13);
+    for n in 0..40 {
+        let all: Vec<_> = (0..m.within(2, 4))
+            .map(|_| {
+                let p = m.within(4, 30);
+                let e = m.within(1, 1 + p / 4);
+                (p, m.within(0, 2 * p), e, m.within(e + 1, 2 * p + 4))
+            })
+            .collect();
+        let s = sheet(&all).charged(m.within(0, 1) as u8);
+        for lows in patterns(s.count) {
+            add_choice(v, &format!("small sheet {n}, marks {}", letters(&lows)), &choosing(&s.marked(&lows)));
+        }
+    }
+}
+
+/// 32 tasks of which some are low.
+fn marked_full(v: &mut Vectors) {
+    for (per_mille, jitter, deadlines) in [(300, 90, 80), (500, 60, 70), (300, 160, 110), (900, 50, 400), (1010, 0, 700)] {
+        let s = loaded(per_mille, jitter, deadlines);
+        let label = format!("32 tasks, load {per_mille}, jitter {jitter}, deadlines {deadlines}");
+        let choices: [(&str, fn(usize) -> bool); 6] = [
+            ("the last low", |i| i == 31),
+            ("every second low", |i| i % 2 == 1),
+            ("the lower half low", |i| i >= 16),
+            ("the upper half low", |i| i < 16),
+            ("all but the last low", |i| i < 31),
+            ("all low", |_| true),
+        ];
+        for (name, low) in choices {
+            let lows: Vec<bool> = (0..32).map(low).collect();
+            add_choice(v, &format!("{label}, {name}"), &choosing(&s.marked(&lows)));
+        }
+    }
+}
+
+/// Marks change no arrival count, no verdict and no refusal of the choice before 15.
+fn marked_tasks(v: &mut Vectors) {
+    for (n, (label, c)) in task_refusals().into_iter().enumerate() {
+        let lows: Vec<bool> = (0..c.sheet.tasks.len()).map(|i| (n + i) % 2 == 0).collect();
+        let marked = TaskCall { sheet: c.sheet.marked(&lows), ..c.clone() };
+        let label = format!("marks {}, {label}", letters(&lows));
+        v.worked(&format!("arrivals, {label}"), &arrival_blocks(&marked), &arrival_answer(&marked), &arrival_answer(&c));
+        v.worked(&format!("verdict, {label}"), &verdict_blocks(&marked), &verdict_answer(&marked), &verdict_answer(&c));
+    }
+    for (label, s) in &edges() {
+        let whole: Vec<u32> = s.tasks.iter().map(|t| t.j).collect();
+        let lows = vec![true; s.count];
+        for i in 0..s.count as u32 {
+            let (c, marked) = (about(s, i, &whole, 0), about(&s.marked(&lows), i, &whole, 0));
+            let label = format!("verdict, marks {}, {label}, task {i}", letters(&lows));
+            v.worked(&label, &verdict_blocks(&marked), &verdict_answer(&marked), &verdict_answer(&c));
+        }
+    }
+    for (label, c) in choice_refusals() {
+        for lows in [[true, false, false, false], [false, false, true, true]] {
+            let marked = ChoiceCall { sheet: c.sheet.marked(&lows), ..c.clone() };
+            add_choice(v, &format!("marks {}, {label}", letters(&lows[..c.sheet.tasks.len()])), &marked);
+        }
+    }
+}
+
 pub fn vectors() -> Vectors {
     let mut v = Vectors::new();
     worked_tasks(&mut v);
@@ -664,5 +784,9 @@ pub fn vectors() -> Vectors {
     charged_checks(&mut v);
     steps(&mut v);
     counted_tasks(&mut v);
+    marked_choices(&mut v);
+    marked_small(&mut v);
+    marked_full(&mut v);
+    marked_tasks(&mut v);
     v
 }

@@ -62,14 +62,20 @@ pub fn numbers<N: Number>(all: &[N]) -> Vec<u8> {
     all.iter().flat_map(|n| n.bytes()).collect()
 }
 
-/// The first block of numbers: which call, up to three numbers that it is given, the sheet's count, its charge and its entries.
+/// The first block of numbers: which call, up to three numbers that it is given, the sheet's count, its charge and its entries, five numbers
+/// each, of which the last is the mark.
 pub fn head(call: u32, given: &[u32], sheet: &Sheet) -> Vec<u8> {
+    head_with(call, given, sheet, 1)
+}
+
+/// The same with this number for the mark of a low task; that of a high one is 0.
+pub fn head_with(call: u32, given: &[u32], sheet: &Sheet, low: u32) -> Vec<u8> {
     let mut all = vec![0; 8];
     all[0] = call;
     all[1..1 + given.len()].copy_from_slice(given);
     all[4] = sheet.count as u32;
     all[5] = sheet.charge as u32;
-    all.extend(sheet.tasks.iter().flat_map(|t| [t.p, t.j, t.e, t.d]));
+    all.extend(sheet.tasks.iter().flat_map(|t| [t.p, t.j, t.e, t.d, if t.low { low } else { 0 }]));
     numbers(&all)
 }
 
@@ -93,9 +99,10 @@ pub fn refused(r: Refusal) -> String {
 }
 
 pub fn task(p: u32, j: u32, e: u32, d: u32) -> Task {
-    Task { p, j, e, d }
+    Task::high(p, j, e, d)
 }
 
+/// A sheet of high tasks.
 pub fn sheet(tasks: &[(u32, u32, u32, u32)]) -> Sheet {
     Sheet::of(&tasks.iter().map(|&(p, j, e, d)| task(p, j, e, d)).collect::<Vec<_>>())
 }
@@ -112,6 +119,16 @@ pub fn charge_in_costs(s: &Sheet) -> Sheet {
 /// The sheet with this charge, taken off each cost: where the charge is in the costs again it is the sheet as it was.
 pub fn part_charged(s: &Sheet, charge: u8) -> Sheet {
     Sheet::of(&s.tasks.iter().map(|t| Task { e: t.e - charge as u32, ..*t }).collect::<Vec<_>>()).charged(charge)
+}
+
+/// Every pattern of marks of so many tasks.
+pub fn patterns(tasks: usize) -> Vec<Vec<bool>> {
+    (0..1u32 << tasks).map(|pattern| (0..tasks).map(|i| pattern >> i & 1 == 1).collect()).collect()
+}
+
+/// Marks as they stand in a label: a letter for each task, h or l.
+pub fn letters(lows: &[bool]) -> String {
+    lows.iter().map(|&low| if low { 'l' } else { 'h' }).collect()
 }
 
 /// The same releases, each as much later.

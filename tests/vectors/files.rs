@@ -25,8 +25,10 @@ fn reading(file: &[u8], n: usize) -> ReadCall {
     ReadCall { file: file.to_vec(), task: held(n), tick: held(n), cost: held(n) }
 }
 
+/// The tasks of a sheet, a low one with that word.
 pub fn entries(s: &Sheet) -> String {
-    s.tasks.iter().fold(format!(" sheet {}", s.count), |text, t| text + &format!(", {} {} {} {}", t.p, t.j, t.e, t.d))
+    let mark = |t: &Task| if t.low { " low" } else { "" };
+    s.tasks.iter().fold(format!(" sheet {}", s.count), |text, t| text + &format!(", {} {} {} {}{}", t.p, t.j, t.e, t.d, mark(t)))
 }
 
 /// The sheet of a read: after a refusal it has no tasks and the charge 0.
@@ -74,7 +76,7 @@ fn write_blocks(c: &ListCall, slots: usize) -> Vec<Vec<u8>> {
 }
 
 fn needed(c: &ListCall) -> usize {
-    bytes_needed(c.sheet.charge, c.sheet.count, &c.tick[..c.count])
+    bytes_needed(&c.sheet, c.sheet.count, &c.tick[..c.count])
 }
 
 /// A file that is read and written again: the same bytes.
@@ -106,9 +108,17 @@ fn add_again(v: &mut Vectors, label: &str, file: &[u8]) {
 
 // ---- Records as bytes ----
 
+/// A task: of kind 6 where it is low.
 fn of_task(t: Task) -> Vec<u8> {
     let mut all = encode(&Sheet::of(&[t]), &[]);
     all.pop();
+    all
+}
+
+/// A low task with this last byte, which is to be 0.
+fn of_low(t: Task, mark: u8) -> Vec<u8> {
+    let mut all = of_task(t.marked(true));
+    all[17] = mark;
     all
 }
 
@@ -340,8 +350,8 @@ fn limits(v: &mut Vectors) {
     add_read(v, "1024 releases, a byte after the end", &reading(&then(&[end(), vec![2]]), 1));
 }
 
-/// The same with ticks up to the last one allowed, all of them long; and with ticks around 1,000,000,000. Without a charge 14,897 bytes
-/// decide a read.
+/// The same with ticks up to the last one allowed, all of them long; and with ticks around 1,000,000,000. Of high tasks and without a charge
+/// 14,898 bytes decide a read, 14,897 where the record after the releases is a high task.
 fn long_limits(v: &mut Vectors) {
     let all = late_list();
     let full = encode(&full_sheet(), &all);
@@ -474,7 +484,7 @@ fn worked_charges(v: &mut Vectors) {
     add("after a release", &file(&[t.clone(), short(0, 0, 1), of_charge(1), end()]), " refused 3 at 27");
     add("after the end", &file(&[t.clone(), end(), of_charge(1)]), " refused 11 at 18");
     add("5 before (6,5,2,6)", &file(&[of_charge(5), t.clone(), end()]), " refused 17 at 2");
-    add("kind 6", &[6, 1], " refused 1 at 0");
+    add("kind 7", &[7, 1], " refused 1 at 0");
 }
 
 /// A file with a charge cut before each of its bytes.
@@ -537,7 +547,7 @@ fn charge_records() -> Vec<(String, Vec<u8>)> {
     all
 }
 
-/// 32 tasks and 1,024 releases with a charge of 1: the largest file has 14,883 bytes, and 14,899 decide a read.
+/// 32 high tasks and 1,024 releases with a charge of 1: the largest file of them has 14,883 bytes.
 fn charge_limits(v: &mut Vectors) {
     let s = full_sheet().charged(1);
     let one = of_task(task(6, 5, 2, 6));
@@ -582,6 +592,163 @@ fn charge_bytes(v: &mut Vectors) {
     add_write(v, "charge 0, the first byte is a task's", &c, n);
 }
 
+/// The printed sheet and releases with task 1 low, written out by hand, and refusals of a low task.
+fn worked_marks(v: &mut Vectors) {
+    let hex = "0106000000050000000200000006000000060800000007000000020000000800000000\
+               010a00000000000000020000000a000000\
+               02000000000002000000020200000000020000000200010000000200000003";
+    let marked = printed_sheet().marked(&[false, true, false]);
+    let whole = encode(&marked, &printed_list());
+    let r = reading(&whole, 4);
+    let line = " read 3 sheet 3, 6 5 2 6, 8 7 2 8 low, 10 0 2 10 charge 0, 0 2 0 -, 0 0 1 -, 2 2 2 -";
+    v.worked("read, marks hlh, printed example", &read_blocks(&r), &read_answer(&r), line);
+    let w = ListCall::of(&marked, &[], &printed_list());
+    v.worked("write, marks hlh, printed example", &write_blocks(&w, 84), &write_answer(&w, 84), &format!(" written 83, {hex}ee"));
+    v.worked("again, marks hlh, printed example", &again_blocks(&whole), &again_answer(&whole), &format!(" written 83, {hex}"));
+    let mut add = |label: &str, bytes: &[u8], line: &str| {
+        let r = reading(bytes, 1);
+        v.worked(&format!("read, low task, {label}"), &read_blocks(&r), &read_answer(&r), &format!("{line} sheet 0 charge 0, -, -, -"));
+    };
+    let t = || of_task(task(6, 5, 2, 6));
+    let low = |mark: u8| of_low(task(6, 5, 2, 6), mark);
+    add("kind 6 alone", &[6], " refused 2 at 0");
+    add("without its last byte", &low(0)[..17], " refused 2 at 0");
+    add("nothing after it", &low(0), " refused 2 at 18");
+    add("last byte 1", &file(&[low(1), end()]), " refused 6 at 0");
+    add("last byte 1 and nothing after it", &low(1), " refused 6 at 0");
+    add("last byte 255 after a task", &file(&[t(), low(255), end()]), " refused 6 at 17");
+    add("the next kind in place of its last byte", &file(&[low(0)[..17].to_vec(), end()]), " refused 6 at 0");
+    add("after a release", &file(&[t(), short(0, 0, 1), low(0), end()]), " refused 3 at 27");
+    add("after a release, last byte 1", &file(&[low(0), short(0, 0, 1), low(1), end()]), " refused 3 at 28");
+    add("after the end", &file(&[low(0), end(), low(0)]), " refused 11 at 19");
+    add("then a charge", &file(&[low(0), of_charge(1), end()]), " refused 3 at 18");
+    add("33 of them", &file(&[low(0).repeat(33), end()]), " refused 4 at 576");
+    add("the 33rd, last byte 1", &file(&[t().repeat(32), low(1), end()]), " refused 4 at 544");
+    add("out of range", &file(&[of_low(task(6, 5, 7, 6), 0), end()]), " refused 6 at 0");
+    add("charge 5", &file(&[of_charge(5), low(0), end()]), " refused 17 at 2");
+    add("charge 5, last byte 1", &file(&[of_charge(5), low(1), end()]), " refused 6 at 2");
+    add("kind 7 after it", &file(&[low(0), vec![7], end()]), " refused 1 at 18");
+}
+
+/// Files with low tasks cut before each of their bytes.
+fn cut_marks(v: &mut Vectors) {
+    let (low, high) = (of_low(task(6, 5, 2, 6), 0), of_task(task(8, 7, 2, 8)));
+    for (label, tasks) in [("lh", [low.clone(), high.clone()]), ("hl", [high, low])] {
+        let whole = file(&[of_charge(4), tasks.concat(), short(0, 1_000_000_000, 2), long(1, MAX_TICK, 1), end()]);
+        for n in 0..=whole.len() {
+            add_read(v, &format!("marks {label}, the first {n} bytes"), &reading(&whole[..n], 3));
+        }
+    }
+}
+
+/// Files with low tasks: where they stand, each last byte, 6 and 17, and which of several faults decides.
+fn mark_records() -> Vec<(String, Vec<u8>)> {
+    let t = || of_task(task(6, 5, 2, 6));
+    let low = |mark: u8| of_low(task(6, 5, 2, 6), mark);
+    let tight = |mark: u8| of_low(task(9, 0, 6, 9), mark);
+    let bad = |mark: u8| of_low(task(0, 7, 2, 8), mark);
+    let r = || short(0, 9, 2);
+    let mut all = Vec::new();
+    let mut add = |label: &str, records: &[Vec<u8>]| all.push((format!("low task, {label}"), file(records)));
+    for mark in 0..=255 {
+        add(&format!("last byte {mark}"), &[low(mark), r(), end()]);
+    }
+    for mark in [0, 1, 128] {
+        add(&format!("last byte {mark}, after two tasks"), &[t(), t(), low(mark), r(), end()]);
+        add(&format!("last byte {mark}, before a task"), &[low(mark), t(), r(), end()]);
+        add(&format!("last byte {mark}, after a low task"), &[low(0), low(mark), r(), end()]);
+        add(&format!("last byte {mark}, after a charge"), &[of_charge(4), low(mark), r(), end()]);
+        add(&format!("last byte {mark}, out of range"), &[t(), bad(mark), end()]);
+        add(&format!("last byte {mark}, out of range, cut"), &[t(), bad(mark)[..17].to_vec()]);
+        add(&format!("last byte {mark}, 17"), &[of_charge(4), t(), tight(mark), end()]);
+        add(&format!("last byte {mark}, 17, cut"), &[of_charge(4), t(), tight(mark)[..17].to_vec()]);
+        add(&format!("last byte {mark}, after a release"), &[t(), r(), low(mark), end()]);
+        add(&format!("last byte {mark}, after a long release"), &[t(), long(0, MAX_TICK, 1), low(mark), end()]);
+        add(&format!("last byte {mark}, out of range after a release"), &[t(), r(), bad(mark), end()]);
+        add(&format!("last byte {mark}, 17 after a release"), &[of_charge(4), low(0), r(), tight(mark), end()]);
+        add(&format!("last byte {mark}, in an earlier record than 1"), &[low(mark), vec![9]]);
+        add(&format!("last byte {mark}, in an earlier record than 9"), &[low(mark), short(0, 0, 0), end()]);
+        add(&format!("last byte {mark}, in an earlier record than 11"), &[low(mark), end(), end()]);
+        add(&format!("last byte {mark}, in an earlier record than 17"), &[of_charge(4), low(mark), tight(0), end()]);
+        add(&format!("last byte {mark}, as the 32nd task"), &[t().repeat(31), low(mark), r(), end()]);
+        add(&format!("last byte {mark}, as the 33rd task"), &[t().repeat(32), low(mark), end()]);
+        add(&format!("last byte {mark}, out of range, as the 33rd task"), &[low(0).repeat(32), bad(mark), end()]);
+        add(&format!("last byte {mark}, as the 33rd task, cut"), &[low(0).repeat(32), low(mark)[..17].to_vec()]);
+        add(&format!("last byte {mark}, as the 33rd task after a release"), &[low(0).repeat(32), r(), low(mark), end()]);
+    }
+    add("without one the task holds", &[tight(0), short(0, 9, 6), end()]);
+    add("E + S is P and D", &[of_charge(3), tight(0), short(0, 9, 6), end()]);
+    add("every byte 255", &[vec![6], vec![255; 17], end()]);
+    add("every byte 255 but the last", &[vec![6], vec![255; 16], vec![0], end()]);
+    add("largest numbers", &[of_low(task(1_000_000, 1_000_000, 1_000_000, 1_000_000), 0), end()]);
+    add("least numbers", &[of_low(task(1, 0, 1, 1), 0), short(0, 0, 1), end()]);
+    add("a byte more than kind 1", &[t(), vec![0], end()]);
+    add("kind 1 with a last byte of kind 6", &[vec![1], low(0)[1..].to_vec(), end()]);
+    add("a release of it of no cost", &[low(0), short(0, 0, 0), end()]);
+    add("a release of a task after it", &[low(0), short(1, 0, 1), end()]);
+    add("releases of high and low tasks", &[low(0), t(), low(0), short(2, 0, 1), short(1, 3, 2), long(0, MAX_TICK, 2), end()]);
+    all
+}
+
+/// 32 low tasks and 1,024 long releases with a charge of 1: the largest file has 14,915 bytes, and 14,932 decide a read.
+fn mark_limits(v: &mut Vectors) {
+    let s = full_sheet().charged(1).marked(&[true; 32]);
+    let low = |mark: u8| of_low(task(6, 5, 2, 6), mark);
+    let full = encode(&s, &late_list());
+    assert_eq!(full.len(), 14_915);
+    let many = full[..14_914].to_vec();
+    let then = |tail: &[Vec<u8>]| [many.clone(), tail.concat()].concat();
+    assert_eq!(then(&[low(0)]).len(), 14_932);
+    add_read(v, "32 low tasks", &reading(&encode(&s, &[]), 1));
+    add_read(v, "32 low tasks, 1024 long releases", &reading(&full, 1026));
+    add_read(v, "32 low tasks, 1024 long releases, 1023 slots", &reading(&full, 1023));
+    add_read(v, "32 low tasks, 1025 long releases", &reading(&then(&[long(0, MAX_TICK, 1), end()]), 1));
+    add_read(v, "32 low tasks, 1024 long releases, no end", &reading(&many, 1));
+    add_read(v, "32 low tasks, 1024 long releases, a byte after the end", &reading(&then(&[end(), vec![6]]), 1));
+    for mark in [0, 1] {
+        add_read(v, &format!("low task after 1024 long releases, last byte {mark}"), &reading(&then(&[low(mark)]), 1));
+        add_read(v, &format!("low task after 1024 long releases, last byte {mark}, more"), &reading(&then(&[low(mark), vec![6; 40]]), 1));
+    }
+    add_read(v, "low task after 1024 long releases, cut", &reading(&then(&[low(0)[..17].to_vec()]), 1));
+    add_read(v, "task after 32 low tasks and 1024 long releases", &reading(&then(&[of_task(task(6, 5, 2, 6))]), 1));
+    add_again(v, "32 low tasks, 1024 long releases", &full);
+    let every_second: Vec<bool> = (0..32).map(|i| i % 2 == 0).collect();
+    let half = full_sheet().marked(&every_second);
+    add_read(v, "16 low tasks, 1024 releases of both kinds", &reading(&encode(&half, &middle_list()), 1026));
+    add_again(v, "16 low tasks, 1024 releases of both kinds", &encode(&half, &middle_list()));
+    let late = ListCall::of(&s, &[], &late_list());
+    assert_eq!(needed(&late), 14_915);
+    add_write(v, "32 low tasks and 1024 long releases", &late, 14_916);
+    add_write(v, "32 low tasks and 1024 long releases, one byte too few", &late, 14_914);
+    add_write(v, "32 low tasks and 1024 long releases, too few bytes", &late, 3);
+}
+
+/// The bytes that a write needs with low tasks: one more for each.
+fn mark_bytes(v: &mut Vectors) {
+    let c = sound();
+    let n = needed(&c);
+    for lows in patterns(3) {
+        let more = n + lows.iter().filter(|&&low| low).count();
+        let marked = ListCall { sheet: c.sheet.marked(&lows), ..c.clone() };
+        assert_eq!(needed(&marked), more);
+        for slots in [0, n - 1, more - 1, more, more + 2] {
+            add_write(v, &format!("marks {}, {slots} bytes", letters(&lows)), &marked, slots);
+        }
+        let mut wrong = marked.clone();
+        wrong.cost[0] = 3;
+        add_write(v, &format!("marks {}, bytes short before 9", letters(&lows)), &wrong, more - 1);
+        add_write(v, &format!("marks {}, 9", letters(&lows)), &wrong, more);
+        let charged = ListCall { sheet: marked.sheet.charged(4), ..marked };
+        add_write(v, &format!("marks {}, charge 4", letters(&lows)), &charged, more + 2);
+        add_write(v, &format!("marks {}, charge 4, one byte too few", letters(&lows)), &charged, more + 1);
+    }
+    // A mark past the count is not counted.
+    let mut past = c.clone();
+    past.sheet.tasks.push(task(6, 5, 2, 6).marked(true));
+    add_write(v, "a low entry past the count", &past, n);
+    add_write(v, "a low entry past the count, one byte too few", &past, n - 1);
+}
+
 pub fn vectors() -> Vectors {
     let mut v = Vectors::new();
     worked(&mut v);
@@ -604,7 +771,7 @@ pub fn vectors() -> Vectors {
     for (label, c) in &refusals() {
         // Two bytes more than the sheet and the first four ticks need, and no fewer than the sound call has.
         let ticks = &c.tick[..c.tick.len().min(4)];
-        add_write(&mut v, label, c, bytes_needed(c.sheet.charge, 3, ticks).max(needed(&sound())) + 2);
+        add_write(&mut v, label, c, bytes_needed(&c.sheet, 3, ticks).max(needed(&sound())) + 2);
     }
     write_bytes(&mut v);
     worked_charges(&mut v);
@@ -616,8 +783,16 @@ pub fn vectors() -> Vectors {
     charge_limits(&mut v);
     for (label, c) in &charges() {
         let ticks = &c.tick[..c.tick.len().min(4)];
-        add_write(&mut v, label, c, bytes_needed(c.sheet.charge, 3, ticks).max(needed(&sound())) + 2);
+        add_write(&mut v, label, c, bytes_needed(&c.sheet, 3, ticks).max(needed(&sound())) + 2);
     }
     charge_bytes(&mut v);
+    worked_marks(&mut v);
+    cut_marks(&mut v);
+    for (label, f) in &mark_records() {
+        add_read(&mut v, label, &reading(f, 3));
+        add_again(&mut v, label, f);
+    }
+    mark_limits(&mut v);
+    mark_bytes(&mut v);
     v
 }

@@ -285,6 +285,21 @@ pub fn kept_charges() -> Vec<(String, ListCall)> {
     all
 }
 
+/// Calls with low tasks, each beside the same with high tasks alone, which has the same answer: the sound one with every pattern of marks,
+/// and the refusals.
+pub fn marks() -> Vec<(String, ListCall, ListCall)> {
+    let marked = |c: &ListCall, lows: &[bool]| ListCall { sheet: c.sheet.marked(lows), ..c.clone() };
+    let c = sound();
+    let mut all: Vec<_> = patterns(3).iter().map(|lows| (format!("marks {}, sound", letters(lows)), marked(&c, lows), c.clone())).collect();
+    for (n, (label, c)) in refusals().into_iter().chain(charges()).enumerate() {
+        let lows: Vec<bool> = (0..c.sheet.tasks.len()).map(|i| (n + i) % 2 == 0).collect();
+        all.push((format!("marks {}, {label}", letters(&lows)), marked(&c, &lows), c));
+    }
+    let full = ListCall::of(&full_sheet(), &full_kept(), &full_list());
+    all.push(("32 low tasks, 1024 releases".to_string(), marked(&full, &[true; 32]), full));
+    all
+}
+
 /// The refusals of a call with kept jitters and a list besides: 12 and 13, and which decides.
 pub fn kept_refusals() -> Vec<(String, ListCall)> {
     let mut all = Vec::new();

@@ -475,5 +475,9 @@ pub fn vectors() -> Vectors {
     for (label, c) in &kept_charges() {
         v.case(label, &blocks(c), &answer(c));
     }
+    // Marks change no run and no refusal.
+    for (label, c, high) in &marks() {
+        v.worked(label, &blocks(c), &answer(c), &answer(high));
+    }
     v
 }

@@ -164,6 +164,14 @@ fn charged(v: &mut Vectors) {
     }
 }
 
+/// Marks change no ready tick, no answer of the check and no refusal.
+fn marked(v: &mut Vectors) {
+    for (label, c, high) in &marks() {
+        v.worked(&format!("ready, {label}"), &ready_blocks(c), &ready_answer(c), &ready_answer(high));
+        v.worked(&format!("trace, {label}"), &trace_blocks(c), &trace_answer(c), &trace_answer(high));
+    }
+}
+
 pub fn vectors() -> Vectors {
     let mut v = Vectors::new();
     worked(&mut v);
@@ -177,5 +185,6 @@ pub fn vectors() -> Vectors {
         add_ready(&mut v, label, c);
     }
     charged(&mut v);
+    marked(&mut v);
     v
 }

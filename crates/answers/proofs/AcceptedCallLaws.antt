@@ -9,12 +9,12 @@ use lib.IntN.{ℤ}
 use Rattle.model.specs.Tasks.{Tasks}
 use Rattle.model.specs.Refusal.{refuse}
 use Rattle.model.specs.Checks.{checkTasks, checkKept, refusalOf}
-use Rattle.model.specs.Choice.{column, unfit, chosen, choice}
+use Rattle.model.specs.Choice.{column, unfit, chosen, scope, choice}
 use Rattle.model.specs.Calls.{lends, choiceInputs, runInputs}
 use Rattle.model.proofs.CheckLaws.{kept-passes, count-few, slots-next, slots-none, unfit-of, Chosen, chosen-of}
 use Rattle.model.proofs.OrderLaws.{no-single, no-unfit, accepted-of, accepts}
 use Rattle.response.proofs.ChoiceLaws.{choice-length, choice-keeps, choice-unfit}
-use Rattle.choice.proofs.ChoiceCallLaws.{choice-decides}
+use Rattle.choice.proofs.ChoiceCallLaws.{room-enough, choice-decides}
 use Rattle.answers.specs.Listed.{Listed, Kept}
 
 -- a refused choice is 15 at a task that fits at no K
@@ -28,8 +28,8 @@ module _ (s : Tasks) (kept worst : List ℕ) where
       : none ≡ checkTasks s → s .count ≤ length kept → s .count ≤ length worst
       → (n p : ℕ) → refuse n p ≡ refusalOf (choiceInputs s kept worst) → Unfit s n p
   choice-refused ok hk hw n p e =
-      let u = unfit-of (choice s) n p (e ∙ sym (choice-decides s kept worst ok hk hw)) in
-      record { number = u .0; is = u .1; small = choice-unfit s p (u .1) .0 }
+      let u = unfit-of (choice s) n p (e ∙ sym (choice-decides s kept worst (room-enough s (length kept) (length worst) ok hk hw))) in
+      record { number = u .0; is = u .1; small = choice-unfit (scope s) s p (u .1) .0 }
 
   -- an answered choice
   pub choice-fine : none ≡ refusalOf (choiceInputs s kept worst) → Chosen (choice s)
@@ -39,7 +39,7 @@ module _ (s : Tasks) (kept worst : List ℕ) where
 pub keeps-pass : (s : Tasks) (ks : List ℕ) (ws : List ℤ) (rest : List ℕ) → choice s ≡ chosen ks ws → none ≡ checkKept s (some (column (ks ++ rest)))
 keeps-pass s ks ws rest h =
     kept-passes s (column (ks ++ rest))
-    (λ i l. rw (List·getD-append ks rest 0 i (omega (arith, choice-length s ks ws h))) (choice-keeps s ks ws h i l))
+    (λ i l. rw (List·getD-append ks rest 0 i (omega (arith, choice-length (scope s) s ks ws h))) (choice-keeps (scope s) s ks ws h i l))
 
 -- a run of an accepted file's releases with the kept jitters of its choice refuses nothing
 pub run-accepted

@@ -8,6 +8,7 @@ use lib.ListN.{length, List·getD-append}
 use Rattle.model.proofs.CheckLaws.{slots-next, slots-none}
 use Rattle.model.specs.Limits.{maxReleases}
 use Rattle.model.specs.Tasks.{Tasks}
+use Rattle.model.specs.Choice.{Scope}
 use Rattle.model.specs.Refusal.{Answer, refused, answered}
 use Rattle.model.specs.Checks.{checkSlots}
 use Rattle.model.specs.Calls.{lends}
@@ -15,7 +16,7 @@ use Rattle.fileformat.specs.File.{File, decode}
 use Rattle.fileformat.specs.FileCalls.{readCall}
 use Rattle.fileformat.proofs.RoundTrips.{decode-valid}
 use Rattle.text.specs.Text.{lines}
-use Rattle.report.specs.Report.{choiceLine, choiceFields, choiceText, runLine, runText, choiceHeader, fitsLine, runHeader}
+use Rattle.report.specs.Report.{choiceLine, choiceFields, choiceText, runLine, runText, choiceHeader, lastLine, runHeader}
 
 -- three columns with room
 slots-pass : (n : ℕ) (a b c : List ℕ) → n ≤ length a → n ≤ length b → n ≤ length c → checkSlots (lends n a ∷ lends n b ∷ lends n c ∷ []) ≡ none
@@ -40,11 +41,11 @@ lines-same f g (suc n) h = ap₂ _++_ (lines-same f g n (λ i l. h i (omega arit
 
 -- slots past the answer are not printed
 pub choice-text-same
-    : (s : Tasks) (ks ws rk rw′ : List ℕ) → s .count ≤ length ks → s .count ≤ length ws
-    → choiceText s (ks ++ rk) (ws ++ rw′) ≡ choiceText s ks ws
+    : (c : Scope) (s : Tasks) (ks ws rk rw′ : List ℕ) → s .count ≤ length ks → s .count ≤ length ws
+    → choiceText c s (ks ++ rk) (ws ++ rw′) ≡ choiceText c s ks ws
 unfolding choiceText choiceLine
-choice-text-same s ks ws rk rw′ hk hw =
-    ap (λ (t : List ℕ). choiceHeader ++ (t ++ fitsLine))
+choice-text-same c s ks ws rk rw′ hk hw =
+    ap (λ (t : List ℕ). choiceHeader ++ (t ++ lastLine c))
     (lines-same (choiceLine s (ks ++ rk) (ws ++ rw′)) (choiceLine s ks ws) (s .count)
     (λ i l. ap₂ (choiceFields i (s .period i) (s .jitter i) (s .cost i) (s .deadline i))
     (List·getD-append ks rk 0 i (omega arith)) (List·getD-append ws rw′ 0 i (omega arith))))

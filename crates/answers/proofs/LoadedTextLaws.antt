@@ -6,7 +6,6 @@ use mathlib.Core.Option.{none}
 use mathlib.Core.List.{List, _++_}
 use Rattle.model.specs.Limits.{maxTasks}
 use Rattle.model.specs.Checks.{checkTasks}
-use Rattle.model.specs.Choice.{choice}
 use Rattle.taskset.specs.declared.Checked.the-variants.{Fine, Refused}
 use Rattle.taskset.specs.TaskSet.{viewOf}
 use Rattle.fileformat.specs.File.{sheetOf}
@@ -21,7 +20,7 @@ use Rattle.loader.specs.Loader.{fresh, fed, decided, LoadSays}
 use Rattle.loader.proofs.LoadLaws.{said-refused, said-tasks, said-sheet, decided-stays}
 use Rattle.report.specs.Report.{refusalText}
 use Rattle.report.specs.PutLine.{PutLine}
-use Rattle.answers.specs.Answers.{chosenText, chooseCsvText, PrintedFed}
+use Rattle.answers.specs.Answers.{sheetText, chooseCsvText, PrintedFed}
 
 -- once decided, a longer text prints the same
 csv-whole : (s : Loader) (text more : List ℕ) → s ≡ fed fresh text → decided s ≡ true → chooseCsvText (text ++ more) ≡ chooseCsvText text
@@ -49,6 +48,6 @@ module _ (text : List ℕ) (r : Loaded) (h : LoadSays (load text) r) where
     pub csv-valid : none ≡ checkTasks (viewOf (r .tasks))
     csv-valid = sym (ap checkTasks fine-view ∙ loaded-valid text _ (said-tasks _ r h e))
 
-    pub csv-chosen : chosenText (viewOf (r .tasks)) (choice (viewOf (r .tasks))) ≡ chooseCsvText text
+    pub csv-chosen : sheetText (viewOf (r .tasks)) ≡ chooseCsvText text
     unfolding chooseCsvText
     csv-chosen = rw (fine-view, chooseCsvText, said-tasks _ r h e)

@@ -30,7 +30,7 @@ use Rattle.reader.specs.declared.ReadOutcome.the-variants.{Read, Refused as Hal
 use Rattle.reader.specs.Reader.{outcomeIn}
 use Rattle.model.proofs.TableLaws.{length-table}
 use Rattle.report.specs.Report.{runText, refusalText}
-use Rattle.answers.specs.Answers.{tasksOf, ticksOf, costsOf, chosenText, chooseText, listText, replayText}
+use Rattle.answers.specs.Answers.{tasksOf, ticksOf, costsOf, sheetText, chooseText, listText, replayText}
 use Rattle.answers.proofs.AnswerColumnLaws.{read-roomy, run-text-same}
 use Rattle.answers.proofs.AcceptedCallLaws.{run-accepted}
 use Rattle.answers.specs.Listed.{Listed, Kept, keptText}
@@ -80,7 +80,7 @@ module _ (s : Tasks) (kept : List ℕ) (n : ℕ) (task tick cost ready finish : 
 module _ (f a b c : List ℕ) (ha : maxReleases ≤ length a) (hb : maxReleases ≤ length b) (hc : maxReleases ≤ length c) where
   -- a file that was refused
   pub record Halts (n p : ℕ) : Type 0 where
-    pub small : p ≤ 14883
+    pub small : p ≤ 14915
     pub choose : refusalText n p ≡ chooseText f
     pub replay : refusalText n p ≡ replayText f
 
@@ -104,7 +104,7 @@ module _ (f a b c : List ℕ) (ha : maxReleases ≤ length a) (hb : maxReleases 
   -- a file that was accepted: the task set t and the columns p, q, r hold what it holds
   pub record Holds (n : ℕ) (t : TaskSet) (p q r : List ℕ) : Type 0 where
     pub sheet : none ≡ checkTasks (viewOf t)
-    pub choose : chosenText (viewOf t) (choice (viewOf t)) ≡ chooseText f
+    pub choose : sheetText (viewOf t) ≡ chooseText f
     pub listed : Listed (viewOf t) n p q r
     pub replay : listText (viewOf t) n p q r (choice (viewOf t)) ≡ replayText f
 

@@ -9,15 +9,17 @@ use lib.Seq.{getD-drop}
 use lib.IntN.{natAbs}
 use Rattle.model.specs.Tasks.{Tasks}
 use Rattle.model.specs.Checks.{checkTasks, refusalOf}
-use Rattle.model.specs.Choice.{column, choice}
-use Rattle.model.specs.Calls.{columnAfter, choiceInputs, keptColumn, worstColumn}
+use Rattle.model.specs.Refusal.{answered}
+use Rattle.model.specs.Choice.{column, Scope, scope, choice}
+use Rattle.model.specs.Calls.{columnAfter, choiceInputs, choiceCall, keptColumn, worstColumn}
 use Rattle.model.proofs.CheckLaws.{Chosen}
-use Rattle.taskset.specs.declared.Checked.{Checked}
-use Rattle.taskset.specs.declared.Checked.the-variants.{Fine, Refused}
-use Rattle.taskset.specs.TaskSet.{refusalIn}
+use Rattle.model.proofs.OrderLaws.{answered-of, refused-of}
+use Rattle.choice.specs.declared.ChoiceAnswer.{ChoiceAnswer}
+use Rattle.choice.specs.declared.ChoiceAnswer.the-variants.{Refused}
+use Rattle.choice.specs.Choices.{scopeTold}
 use Rattle.response.proofs.ChoiceLaws.{choice-length, chosen-to}
 use Rattle.report.specs.Report.{choiceText, refusalText}
-use Rattle.answers.specs.Answers.{chosenText, listText}
+use Rattle.answers.specs.Answers.{chosenText, sheetText, listText}
 use Rattle.answers.proofs.AnswerColumnLaws.{choice-text-same}
 use Rattle.answers.proofs.AcceptedCallLaws.{Unfit, choice-refused, choice-fine, keeps-pass}
 use Rattle.answers.specs.Listed.{Kept, keptText}
@@ -47,39 +49,46 @@ module _ (s : Tasks) (kept worst : List ℕ) (ok : none ≡ checkTasks s) (hk : 
   -- a refused choice
   pub record Refusing (n p : ℕ) : Type 0 where
     pub small : p < s .count
-    pub text : refusalText n p ≡ chosenText s (choice s)
+    pub text : refusalText n p ≡ sheetText s
     pub list-text : (m : ℕ) (a b c : List ℕ) → refusalText n p ≡ listText s m a b c (choice s)
 
-  pub refusing : (r : Checked) (n p : ℕ) → r ≡ Refused n p → refusalIn r ≡ refusalOf (choiceInputs s kept worst) → Refusing n p
-  unfolding chosenText listText
+  pub refusing : (r : ChoiceAnswer) (n p : ℕ) → r ≡ Refused n p → scopeTold r ≡ choiceCall s kept worst → Refusing n p
+  unfolding chosenText listText scopeTold choiceCall
   refusing r n p e h =
-      let u : Unfit s n p = choice-refused s kept worst ok hk hw n p (sym (ap refusalIn e) ∙ h) in
+      let q = refused-of (choiceInputs s kept worst) (scope s) (record { number = n; place = p }) (sym (sym (ap scopeTold e) ∙ h)) in
+      let u : Unfit s n p = choice-refused s kept worst ok hk hw n p q in
       record {
         small = u .small;
-        text = rw (u .number, u .is);
+        text = rw (u .number) (ap (chosenText (scope s) s) (sym (u .is)));
         list-text = λ m a b c. rw (u .number, u .is);
       }
 
-  module _ (r : Checked) (k w : List ℕ) (e : r ≡ Fine) (h : refusalIn r ≡ refusalOf (choiceInputs s kept worst)) where
+  module _ (r : ChoiceAnswer) (c : Scope) (k w : List ℕ) (e : scopeTold r ≡ answered c) (h : scopeTold r ≡ choiceCall s kept worst) where
+    made : (none ≡ refusalOf (choiceInputs s kept worst)) × (scope s ≡ c)
+    unfolding choiceCall
+    made = answered-of (choiceInputs s kept worst) (scope s) c (sym h ∙ e)
+
     fine : none ≡ refusalOf (choiceInputs s kept worst)
-    fine = sym (ap refusalIn e) ∙ h
+    fine = made .0
 
     -- a choice that was made
     pub chosen-said
         : k ≡ columnAfter (refusalOf (choiceInputs s kept worst)) (keptColumn (choice s)) kept
-        → w ≡ columnAfter (refusalOf (choiceInputs s kept worst)) (worstColumn (choice s)) worst → choiceText s k w ≡ chosenText s (choice s)
+        → w ≡ columnAfter (refusalOf (choiceInputs s kept worst)) (worstColumn (choice s)) worst → choiceText c s k w ≡ sheetText s
     unfolding chosenText columnAfter keptColumn worstColumn
     chosen-said ek ew = go (choice-fine s kept worst fine)
       where
-        go : Chosen (choice s) → choiceText s k w ≡ chosenText s (choice s)
-        go c =
-            let ks : List ℕ = c .keeps in
-            let ws : List ℕ = map natAbs (c .worsts) in
-            let ak : k ≡ ks ++ drop (length ks) kept = rw (← fine, c .is) at ek in
-            let aw : w ≡ ws ++ drop (length ws) worst = rw (← fine, c .is) at ew in
-            rw (ak, aw, c .is)
-            (choice-text-same s ks ws (drop (length ks) kept) (drop (length ws) worst) (omega (arith, choice-length s ks (c .worsts) (c .is)))
-            (omega (arith, length-map (c .worsts) natAbs, chosen-to s (s .count) ks (c .worsts) (c .is) .long-worst)))
+        go : Chosen (choice s) → choiceText c s k w ≡ sheetText s
+        go d =
+            let ks : List ℕ = d .keeps in
+            let ws : List ℕ = map natAbs (d .worsts) in
+            let ak : k ≡ ks ++ drop (length ks) kept = rw (← fine, d .is) at ek in
+            let aw : w ≡ ws ++ drop (length ws) worst = rw (← fine, d .is) at ew in
+            let same : choiceText c s k w ≡ choiceText c s ks ws =
+            rw (ak, aw)
+            (choice-text-same c s ks ws (drop (length ks) kept) (drop (length ws) worst) (omega (arith, choice-length (scope s) s ks (d .worsts) (d .is)))
+            (omega (arith, length-map (d .worsts) natAbs, chosen-to (scope s) s (s .count) ks (d .worsts) (d .is) .long-worst))) in
+            same ∙ ap (λ x. choiceText x s ks ws) (sym (made .1)) ∙ ap (chosenText (scope s) s) (sym (d .is))
 
     -- its kept jitters pass their check, and the text of a run with them
     pub record Keeping : Type 0 where
@@ -93,15 +102,15 @@ module _ (s : Tasks) (kept worst : List ℕ) (ok : none ≡ checkTasks s) (hk : 
     keeping z ek = go (choice-fine s kept worst fine)
       where
         go : Chosen (choice s) → Keeping
-        go c =
-            let ks : List ℕ = c .keeps in
-            let ak : k ≡ ks ++ drop (length ks) kept = rw (← fine, c .is) at ek in
-            let zs : Zeros (drop (length ks) kept) = rw (c .is) at z in
+        go d =
+            let ks : List ℕ = d .keeps in
+            let ak : k ≡ ks ++ drop (length ks) kept = rw (← fine, d .is) at ek in
+            let zs : Zeros (drop (length ks) kept) = rw (d .is) at z in
             let same : column k ≡ column ks = ap column ak ∙ same-column ks (drop (length ks) kept) zs in
             record {
               kept-ok = record {
-                long = omega (arith, ap length ak, length-append ks (drop (length ks) kept), choice-length s ks (c .worsts) (c .is));
-                within = rw same (rw (same-column ks (drop (length ks) kept) zs) at (keeps-pass s ks (c .worsts) (drop (length ks) kept) (c .is)));
+                long = omega (arith, ap length ak, length-append ks (drop (length ks) kept), choice-length (scope s) s ks (d .worsts) (d .is));
+                within = rw same (rw (same-column ks (drop (length ks) kept) zs) at (keeps-pass s ks (d .worsts) (drop (length ks) kept) (d .is)));
               };
-              list-text = λ m a b d. rw (same, c .is);
+              list-text = λ m x y v. rw (same, d .is);
             }

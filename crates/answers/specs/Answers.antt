@@ -10,7 +10,7 @@ use Rattle.model.specs.Refusal.{refused, answered}
 use Rattle.model.specs.Ready.{readyList}
 use Rattle.model.specs.Run.{finishList}
 use Rattle.model.specs.Calls.{releasesOf}
-use Rattle.model.specs.Choice.{Choice, unfit, chosen, column, choice}
+use Rattle.model.specs.Choice.{Choice, unfit, chosen, column, Scope, scope, choice}
 use Rattle.fileformat.specs.File.{sheetOf, sheetIn, decode}
 use Rattle.textformat.specs.TextSheet.{load}
 use Rattle.loader.specs.declared.Loader.{Loader}
@@ -28,17 +28,21 @@ ticksOf l = map (λ r. r .tick) l
 abbrev pub costsOf : List Release → List ℕ
 costsOf l = map (λ r. r .cost) l
 
--- the text of a choice
-unfoldable pub chosenText : Tasks → Choice → List ℕ
-chosenText s (unfit i) = refusalText 15 i
-chosenText s (chosen ks ws) = choiceText s ks (map natAbs ws)
+-- the text of a choice, given which of the two it is
+unfoldable pub chosenText : Scope → Tasks → Choice → List ℕ
+chosenText c s (unfit i) = refusalText 15 i
+chosenText c s (chosen ks ws) = choiceText c s ks (map natAbs ws)
+
+-- the text of a sheet's choice
+abbrev pub sheetText : Tasks → List ℕ
+sheetText s = chosenText (scope s) s (choice s)
 
 -- "the first reads a file, ignores its releases once read, and prints the choice"
 unfoldable pub chooseText : List ℕ → List ℕ
 chooseText f =
     elim (decode f) [
       | refused r ↦ refusalText (r .number) (r .place)
-      | answered x ↦ chosenText (sheetIn x) (choice (sheetIn x))
+      | answered x ↦ sheetText (sheetIn x)
     ]
 
 -- the third program prints the choice for a text sheet, or a refusal with the line's number
@@ -46,10 +50,10 @@ unfoldable pub chooseCsvText : List ℕ → List ℕ
 chooseCsvText text =
     elim (load text) [
       | refused r ↦ refusalText (r .number) (r .place)
-      | answered ts ↦ chosenText (sheetOf ts) (choice (sheetOf ts))
+      | answered ts ↦ sheetText (sheetOf ts)
     ]
 
--- the text of a run of n releases in columns, with the chosen kept jitters
+-- the text of a run of n releases in columns, with the kept jitters of whichever choice was made
 unfoldable pub listText : Tasks → ℕ → List ℕ → List ℕ → List ℕ → Choice → List ℕ
 listText s n task tick cost (unfit i) = refusalText 15 i
 listText s n task tick cost (chosen ks ws) =

@@ -21,7 +21,7 @@ jobLine s k l p = runFields p (releaseAt l p .task) (releaseAt l p .tick) (ready
 unfoldable pub jobsText : Tasks → (ℕ → ℕ) → List Release → List ℕ
 jobsText s k l = runHeader ++ lines (jobLine s k l) (length l)
 
--- "the second runs the releases with the chosen K"; without a choice, 15
+-- "the second runs the releases with the chosen K", of whichever choice was made; without a choice, 15
 unfoldable pub withChosen : Tasks → List Release → Choice → List ℕ
 withChosen s l (unfit i) = refusalText 15 i
 withChosen s l (chosen ks ws) = jobsText s (column ks) l

@@ -1,4 +1,5 @@
 // What each program prints for the bytes of a file or of a text sheet, written into a lent buffer.
+use choice::ChoiceAnswer;
 use jumps::JumpAnswer;
 use loader::Loader;
 use reader::ReadOutcome;
@@ -13,20 +14,21 @@ ghost use Rattle.model.specs.Choice.{choice};
 ghost use Rattle.taskset.specs.TaskSet.{viewOf};
 ghost use Rattle.loader.specs.Pieces.{Fed};
 ghost use Rattle.report.specs.PutLine.{PutLine};
-ghost use Rattle.answers.specs.Answers.{chosenText, chooseText, listText, replayText, Printed, PrintedFed};
+ghost use Rattle.answers.specs.Answers.{sheetText, chooseText, listText, replayText, Printed, PrintedFed};
 ghost use Rattle.answers.specs.Listed.{Listed, Kept, keptText};
 
 // The text of the choice of a task set.
 fn put_chosen(s: TaskSet, out: &mut [u8]) -> usize
     requires { ⌜ (none ≡ checkTasks (viewOf s)) × (2560 ≤ length (now out)) ⌝ }
-    ensures { λ r. ⌜ PutLine 2560 (now (out .entry)) 0 (chosenText (viewOf s) (choice (viewOf s))) (now (out .exit)) r ⌝ }
+    ensures { λ r. ⌜ PutLine 2560 (now (out .entry)) 0 (sheetText (viewOf s)) (now (out .exit)) r ⌝ }
 {
     let mut kept: [u32; 32] = [0; 32];
     let mut worst: [u32; 32] = [0; 32];
     let c = choice::choose(s, &mut kept, &mut worst);
     match c {
-        Checked::Refused { number, place } => report::put_refusal(out, number, place as u32),
-        Checked::Fine => report::put_choice(out, s, &kept, &worst),
+        ChoiceAnswer::Refused { number, place } => report::put_refusal(out, number, place as u32),
+        ChoiceAnswer::Ordinary => report::put_choice(out, s, &kept, &worst, false),
+        ChoiceAnswer::HighOnly => report::put_choice(out, s, &kept, &worst, true),
     }
 }
 
@@ -54,7 +56,7 @@ fn put_ran(
     }
 }
 
-// The text of the run of n releases with the chosen kept jitters.
+// The text of the run of n releases with the kept jitters of whichever choice was made.
 fn put_replayed(
     s: TaskSet,
     n: usize,
@@ -72,13 +74,14 @@ fn put_replayed(
     let mut worst: [u32; 32] = [0; 32];
     let c = choice::choose(s, &mut kept, &mut worst);
     match c {
-        Checked::Refused { number, place } => report::put_refusal(out, number, place as u32),
-        Checked::Fine => put_ran(s, &kept, n, task, tick, cost, out),
+        ChoiceAnswer::Refused { number, place } => report::put_refusal(out, number, place as u32),
+        ChoiceAnswer::Ordinary => put_ran(s, &kept, n, task, tick, cost, out),
+        ChoiceAnswer::HighOnly => put_ran(s, &kept, n, task, tick, cost, out),
     }
 }
 
 // What the first program prints after a read of n bytes into its buffer: the choice, or a refusal.
-pub fn choose_text(file: &[u8; 14899], n: usize, out: &mut [u8]) -> usize
+pub fn choose_text(file: &[u8; 14932], n: usize, out: &mut [u8]) -> usize
     requires { ⌜ (n ≤ length (now file)) × (2560 ≤ length (now out)) ⌝ }
     ensures { λ r. ⌜ Printed chooseText 2560 (now (file .entry)) n (now (out .entry)) (now (out .exit)) r ⌝ }
 {
@@ -96,7 +99,7 @@ pub fn choose_text(file: &[u8; 14899], n: usize, out: &mut [u8]) -> usize
 }
 
 // What the second program prints after a read of n bytes into its buffer: the run with the chosen kept jitters, or a refusal.
-pub fn replay_text(file: &[u8; 14899], n: usize, out: &mut [u8]) -> usize
+pub fn replay_text(file: &[u8; 14932], n: usize, out: &mut [u8]) -> usize
     requires { ⌜ (n ≤ length (now file)) × (108608 ≤ length (now out)) ⌝ }
     ensures { λ r. ⌜ Printed replayText 108608 (now (file .entry)) n (now (out .entry)) (now (out .exit)) r ⌝ }
 {

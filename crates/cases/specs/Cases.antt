@@ -1,7 +1,9 @@
 -- Blocks of a case as numbers and as a task set.
 use Prim.Native.Nat.{ℕ, _+_, _*_, _/_, _%_, _<_, min}
 use mathlib.Core.Path.{_≡_}
+use mathlib.Core.Bool.{not}
 use mathlib.Core.List.{List}
+use lib.Dec.{eqb}
 use lib.ListN.{length, getD, drop}
 use Rattle.taskset.specs.declared.Task.{Task}
 use Rattle.taskset.specs.declared.TaskSet.{TaskSet}
@@ -15,13 +17,14 @@ numberAt s at = getD s at 0 + 256 * getD s (at + 1) 0 + 65536 * getD s (at + 2) 
 abbrev pub tickAt : List ℕ → ℕ → ℕ
 tickAt s at = numberAt s at + 4294967296 * numberAt s (at + 4)
 
--- the entry of a task in a block of numbers
+-- the entry of a task in a block of numbers: P, J, E, D and the mark, 0 for high and any other number for low
 abbrev pub entryOf : List ℕ → ℕ → Task
 entryOf head i = record {
-  period = getD head (8 + 4 * i) 0;
-  jitter = getD head (8 + 4 * i + 1) 0;
-  cost = getD head (8 + 4 * i + 2) 0;
-  deadline = getD head (8 + 4 * i + 3) 0;
+  period = getD head (8 + 5 * i) 0;
+  jitter = getD head (8 + 5 * i + 1) 0;
+  cost = getD head (8 + 5 * i + 2) 0;
+  deadline = getD head (8 + 5 * i + 3) 0;
+  low = not (eqb (getD head (8 + 5 * i + 4) 0) 0);
 }
 
 -- the first n slots of a list hold f 0, .., f (n - 1)

@@ -124,22 +124,23 @@ pub fn index(n: u32) -> usize
     n as usize
 }
 
-// The entry of a task in a block of numbers.
-fn entry(head: &[u32; 136], i: usize) -> Task
+// The entry of a task in a block of numbers: P, J, E, D and the mark, 0 for high and any other number for low.
+fn entry(head: &[u32; 168], i: usize) -> Task
     requires { ⌜ i < 32 ⌝ }
     ensures { λ r. ⌜ r ≡ entryOf (now (head .entry)) i ⌝ }
 {
-    let at = 8 + 4 * i;
+    let at = 8 + 5 * i;
     Task {
         period: head[at],
         jitter: head[at + 1],
         cost: head[at + 2],
         deadline: head[at + 3],
+        low: head[at + 4] != 0,
     }
 }
 
 // The task set in a block of numbers: the count at 4, the charge in the low byte of the number at 5, the entries from 8 on.
-pub fn task_set(head: &[u32; 136]) -> TaskSet
+pub fn task_set(head: &[u32; 168]) -> TaskSet
     ensures { λ r. ⌜ SetIn (now (head .entry)) r ⌝ }
 {
     let none = Task {
@@ -147,6 +148,7 @@ pub fn task_set(head: &[u32; 136]) -> TaskSet
         jitter: 0,
         cost: 0,
         deadline: 0,
+        low: false,
     };
     let mut tasks = [none; 32];
     let mut i = 0;
@@ -217,22 +219,25 @@ pub fn print_half() {
     io::write_all(STDOUT_FILENO, b";");
 }
 
-// Prints the numbers of a task after a comma.
+// Prints the numbers of a task after a comma, and the word `low` for a low one.
 fn print_task(t: Task) {
     io::write_all(STDOUT_FILENO, b",");
     print_number(t.period as u64);
     print_number(t.jitter as u64);
     print_number(t.cost as u64);
     print_number(t.deadline as u64);
+    if t.low {
+        print_words(b"low");
+    }
 }
 
-// Prints an entry of a task set; past the count only one that is not 0.
+// Prints an entry of a task set; past the count only one that is not 0 and high.
 fn print_entry(t: Task, inside: bool) {
     if inside {
         print_task(t);
         return;
     }
-    if t.period == 0 && t.jitter == 0 && t.cost == 0 && t.deadline == 0 {
+    if t.period == 0 && t.jitter == 0 && t.cost == 0 && t.deadline == 0 && !t.low {
         return;
     }
     print_words(b"past the count");

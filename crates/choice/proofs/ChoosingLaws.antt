@@ -2,6 +2,7 @@
 use Prim.Native.Nat.{ℕ, suc, _+_, _*_, _≤_, _<_}
 use mathlib.Core.Path.{_≡_, refl, sym, ap, _∙_}
 use mathlib.Core.Logic.{dite}
+use mathlib.Core.Bool.{Bool, _&&_}
 use mathlib.Core.List.{List, [], _∷_, map, map-append}
 use native.Mathlib.Omega.{arith}
 use native.Mathlib.Decide.{decLt}
@@ -13,39 +14,36 @@ use lib.IntN.{pos}
 use Rattle.model.specs.Series.{sum}
 use Rattle.model.specs.Limits.{maxTasks, maxTime}
 use Rattle.model.specs.Tasks.{InRange, Valid, load}
-use Rattle.model.specs.Evaluations.{evaluations}
-use Rattle.model.specs.Choice.{column, andKeep, chosen, choiceOf, choice}
+use Rattle.model.specs.Choice.{column, andKeep, unfit, chosen, scopeIn, choiceOf}
 use Rattle.model.proofs.SeriesLaws.{sum-eq}
-use Rattle.model.proofs.SameVerdict.{evaluations-kept}
 use Rattle.model.proofs.ChargeLaws.{absorbed-valid}
 use Rattle.taskset.specs.declared.TaskSet.{TaskSet}
 use Rattle.taskset.specs.TaskSet.{viewOf}
-use Rattle.response.proofs.ChoiceLaws.{least-keep}
 use Rattle.demand.specs.Columns.{Small, Copied}
 use Rattle.choice.specs.declared.Least.the-variants.{Keep, Unfit}
-use Rattle.choice.specs.Choices.{Flat, Walkable, KeepIs, LeastOf, choiceIn, ChoicesAre}
-use Rattle.choice.proofs.NextChoiceLaws.{choice-start, next-keep, next-unfit, unfit-stays}
+use Rattle.choice.specs.Choices.{Flat, Walkable, KeepOf, evaluationsFor, choiceIn, ChoicesAre}
+use Rattle.choice.proofs.NextChoiceLaws.{choice-start, next-keep, next-unfit, unfit-stays, judged-unspared, for-kept, NextIs, found-keep, found-none}
 
 -- a slot set, and those past it kept
 past-next : (l : List ℕ) (i v : ℕ) → ((m : ℕ) → i ≤ m → m < maxTasks → column l m ≡ 0) → (m : ℕ) → i + 1 ≤ m → m < maxTasks → column (set l i v) m ≡ 0
 past-next l i v g m k h = getD-set-other l i m v 0 (λ e. omega arith) ∙ g m (omega arith) h
 
--- the choice of the tasks above i is made, with n evaluations
-pub record Choosing (s : TaskSet) (loads periods keep worst : List ℕ) (n i : ℕ) : Type 0 where
+-- the choice of the tasks above i is made, b saying whether it is that of the high ones alone, with n evaluations
+pub record Choosing (b : Bool) (s : TaskSet) (loads periods keep worst : List ℕ) (n i : ℕ) : Type 0 where
   pub valid : Valid (viewOf s)
   pub within : i ≤ s .count
   pub copied : Copied s (s .count) loads periods
   pub keep-long : length keep ≡ maxTasks
   pub worst-long : length worst ≡ maxTasks
   pub kept-small : (m : ℕ) → m < i → column keep m ≤ maxTime
-  pub so-far : choiceOf (viewOf s) i ≡ chosen (take i keep) (map pos (take i worst))
+  pub so-far : choiceOf (scopeIn b) (viewOf s) i ≡ chosen (take i keep) (map pos (take i worst))
   pub keep-past : (m : ℕ) → i ≤ m → m < maxTasks → column keep m ≡ 0
   pub worst-past : (m : ℕ) → i ≤ m → m < maxTasks → column worst m ≡ 0
-  pub counted : n ≡ sum (λ j. evaluations (viewOf s) (column keep) j) i
+  pub counted : n ≡ sum (λ j. evaluationsFor (scopeIn b) (viewOf s) (column keep) j) i
   pub few : n ≤ i * 100000020000001
 
-module _ (s : TaskSet) (loads periods : List ℕ) where
-  pub choosing-none : Valid (viewOf s) → Copied s (s .count) loads periods → Choosing s loads periods (replicate maxTasks 0) (replicate maxTasks 0) 0 0
+module _ (b : Bool) (s : TaskSet) (loads periods : List ℕ) where
+  pub choosing-none : Valid (viewOf s) → Copied s (s .count) loads periods → Choosing b s loads periods (replicate maxTasks 0) (replicate maxTasks 0) 0 0
   unfolding sum
   choosing-none v c = record {
     valid = v;
@@ -54,14 +52,14 @@ module _ (s : TaskSet) (loads periods : List ℕ) where
     keep-long = refl;
     worst-long = refl;
     kept-small = λ m l. absurd (omega arith);
-    so-far = choice-start (viewOf s);
+    so-far = choice-start (scopeIn b) (viewOf s);
     keep-past = λ m l h. getD-replicate maxTasks m 0 0 h;
     worst-past = λ m l h. getD-replicate maxTasks m 0 0 h;
     counted = refl;
     few = omega arith;
   }
 
-  module _ (keep worst : List ℕ) (n i : ℕ) (f : Choosing s loads periods keep worst n i) where
+  module _ (keep worst : List ℕ) (n i : ℕ) (f : Choosing b s loads periods keep worst n i) where
     module _ (l : i < s .count) where
       small : (m : ℕ) → m < i → Small (column loads m) (column periods m) (column keep m)
       small m h =
@@ -111,13 +109,13 @@ module _ (s : TaskSet) (loads periods : List ℕ) where
         deadline-is = refl;
       }
 
-      -- a task that fits at no K
-      pub choosing-unfit
-          : LeastOf loads periods keep i (viewOf s .jitter i) (viewOf s .deadline i) Unfit
-          → ChoicesAre (viewOf s) (record { keep = keep; worst = worst; fitted = i; evaluations = n })
-      choosing-unfit h = record {
-        is =
-            rw (choiceIn, lt-leb (s .count) i l) (sym (unfit-stays (viewOf s) i (suc i) (s .count) l (next-unfit (viewOf s) i _ _ (f .so-far) (h (viewOf s) flat-view))));
+      -- a task that is judged and fits at no K
+      pub choosing-unfit : (spared : Bool)
+          → spared ≡ (b && viewOf s .low i)
+          → KeepOf spared loads periods keep i (viewOf s .jitter i) (viewOf s .deadline i) Unfit
+          → ChoicesAre (scopeIn b) (viewOf s) (record { keep = keep; worst = worst; fitted = i; evaluations = n })
+      choosing-unfit spared d h = record {
+        is = rw (choiceIn, lt-leb (s .count) i l) (sym (unfit-stays (scopeIn b) (viewOf s) i (suc i) (s .count) l unfit-here));
         within = f .within;
         so-far = f .so-far;
         keep-past = f .keep-past;
@@ -126,19 +124,33 @@ module _ (s : TaskSet) (loads periods : List ℕ) where
         worst-long = f .worst-long;
         counted = f .counted;
       }
+        where
+          unfit-here : choiceOf (scopeIn b) (viewOf s) (suc i) ≡ unfit i
+          unfit-here =
+              next-unfit (scopeIn b) (viewOf s) i _ _ (f .so-far)
+              (found-none (scopeIn b) (viewOf s) loads periods keep i _ _ flat-view spared (judged-unspared b (viewOf s) i spared d) h)
+
+      -- a task with a kept jitter
+      next-is : (spared : Bool) (K w q m : ℕ)
+          → spared ≡ (b && viewOf s .low i)
+          → KeepOf spared loads periods keep i (viewOf s .jitter i) (viewOf s .deadline i) (Keep K w q m)
+          → NextIs (scopeIn b) (viewOf s) (take i keep) i K w m
+      next-is spared K w q m d h = found-keep (scopeIn b) (viewOf s) loads periods keep i _ _ flat-view spared K w q m (judged-unspared b (viewOf s) i spared d) h
 
       -- the evaluations with those of task i stay far below 64 bits
-      pub choosing-few : (K w q m : ℕ)
-          → LeastOf loads periods keep i (viewOf s .jitter i) (viewOf s .deadline i) (Keep K w q m)
+      pub choosing-few : (spared : Bool) (K w q m : ℕ)
+          → spared ≡ (b && viewOf s .low i)
+          → KeepOf spared loads periods keep i (viewOf s .jitter i) (viewOf s .deadline i) (Keep K w q m)
           → n + m ≤ (i + 1) * 100000020000001
-      choosing-few K w q m h = omega (arith, f .few, h (viewOf s) flat-view .small)
+      choosing-few spared K w q m d h = omega (arith, f .few, next-is spared K w q m d h .small)
 
-      -- a task with a least K
-      pub choosing-next : (K w q m : ℕ)
-          → LeastOf loads periods keep i (viewOf s .jitter i) (viewOf s .deadline i) (Keep K w q m)
-          → Choosing s loads periods (set keep i K) (set worst i w) (n + m) (i + 1)
+      -- one task more
+      pub choosing-next : (spared : Bool) (K w q m : ℕ)
+          → spared ≡ (b && viewOf s .low i)
+          → KeepOf spared loads periods keep i (viewOf s .jitter i) (viewOf s .deadline i) (Keep K w q m)
+          → Choosing b s loads periods (set keep i K) (set worst i w) (n + m) (i + 1)
       unfolding sum
-      choosing-next K w q m h = record {
+      choosing-next spared K w q m d h = record {
         valid = f .valid;
         within = omega arith;
         copied = f .copied;
@@ -147,15 +159,15 @@ module _ (s : TaskSet) (loads periods : List ℕ) where
         kept-small = small-next;
         so-far =
             rw (add-one, take-suc-set keep i K keep-there, take-suc-set worst i w worst-there, map-append pos (take i worst) (w ∷ []))
-            (next-keep (viewOf s) i K (pos w) _ _ (f .so-far) (is .least) (is .worst));
+            (next-keep (scopeIn b) (viewOf s) i K (pos w) _ _ (f .so-far) (is .keep) (is .worst));
         keep-past = past-next keep i K (f .keep-past);
         worst-past = past-next worst i w (f .worst-past);
         counted = rw add-one counted-next;
-        few = choosing-few K w q m h;
+        few = choosing-few spared K w q m d h;
       }
         where
-          is : KeepIs (viewOf s) (take i keep) i K w q m
-          is = h (viewOf s) flat-view
+          is : NextIs (scopeIn b) (viewOf s) (take i keep) i K w m
+          is = next-is spared K w q m d h
 
           keep-there : i < length keep
           keep-there = omega (arith, f .valid .few-tasks, f .keep-long)
@@ -170,27 +182,26 @@ module _ (s : TaskSet) (loads periods : List ℕ) where
           kept-to : (j : ℕ) → j ≤ i → andKeep (take i keep) K j ≡ column (set keep i K) j
           kept-to j g = ap (λ (l : List ℕ). column l j) (sym (take-suc-set keep i K keep-there)) ∙ getD-take (suc i) (set keep i K) j 0 (omega arith)
 
-          counted-next : n + m ≡ sum (λ j. evaluations (viewOf s) (column (set keep i K)) j) (suc i)
+          counted-next : n + m ≡ sum (λ j. evaluationsFor (scopeIn b) (viewOf s) (column (set keep i K)) j) (suc i)
           counted-next = omega (
             arith,
             f .counted,
-            sum-eq (λ j. evaluations (viewOf s) (column keep) j) (λ j. evaluations (viewOf s) (column (set keep i K)) j) i
-                (λ j g. evaluations-kept (viewOf s) (column keep) (column (set keep i K)) j (λ x b. kept-before x (omega arith))),
+            sum-eq (λ j. evaluationsFor (scopeIn b) (viewOf s) (column keep) j) (λ j. evaluationsFor (scopeIn b) (viewOf s) (column (set keep i K)) j) i
+                (λ j g. for-kept (scopeIn b) (viewOf s) (column keep) (column (set keep i K)) j (λ x y. kept-before x (omega arith))),
             is .counted,
-            evaluations-kept (viewOf s) (andKeep (take i keep) K) (column (set keep i K)) i kept-to,
+            for-kept (scopeIn b) (viewOf s) (andKeep (take i keep) K) (column (set keep i K)) i kept-to,
           )
 
           small-next : (m : ℕ) → m < i + 1 → column (set keep i K) m ≤ maxTime
           small-next m g =
               dite (decLt m i)
-              (λ b. rw (getD-set-other keep i m K 0 (λ e. omega arith)) (f .kept-small m b))
-              (λ b.
+              (λ y. rw (getD-set-other keep i m K 0 (λ e. omega arith)) (f .kept-small m y))
+              (λ y.
               let e : m ≡ i = omega arith in
-              rw (e, getD-set-same keep i K 0 keep-there)
-              (omega (arith, least-keep (viewOf s) _ i K (is .least) .in-jitter, f .valid .in-range i l .jitter-high)))
+              rw (e, getD-set-same keep i K 0 keep-there) (omega (arith, is .in-jitter, f .valid .in-range i l .jitter-high)))
 
-    -- every task fits
-    pub choosing-all : s .count ≤ i → ChoicesAre (viewOf s) (record { keep = keep; worst = worst; fitted = s .count; evaluations = n })
+    -- every task has a kept jitter
+    pub choosing-all : s .count ≤ i → ChoicesAre (scopeIn b) (viewOf s) (record { keep = keep; worst = worst; fitted = s .count; evaluations = n })
     choosing-all h =
         let e : i ≡ s .count = omega arith in
         record {

@@ -6,6 +6,7 @@ pub mod WorstPeakLaws
 pub mod ChoiceWalkLaws
 pub mod NextChoiceLaws
 pub mod ChoosingLaws
+pub mod DecideLaws
 pub mod CopyLaws
 pub mod LeastLaws
 pub mod WindowOfLaws

@@ -1,9 +1,9 @@
 -- What the functions of this crate take and answer.
-use Prim.Native.Nat.{ℕ, suc, _+_, _-_, _*_, _≤_, _<_, max, min}
+use Prim.Native.Nat.{ℕ, zero, suc, _+_, _-_, _*_, _≤_, _<_, max, min}
 use mathlib.Core.Path.{_≡_}
-use mathlib.Core.Bool.{true, false}
+use mathlib.Core.Bool.{Bool, true, false, _||_}
 use mathlib.Core.Option.{some, none}
-use mathlib.Core.List.{List, map}
+use mathlib.Core.List.{List, [], _∷_, map}
 use lib.Dec.{leb, ltb}
 use lib.ListN.{length, take}
 use lib.IntN.{pos}
@@ -15,7 +15,9 @@ use Rattle.model.specs.Gap.{gap}
 use Rattle.model.specs.Demand.{window}
 use Rattle.model.specs.Verdict.{verdict}
 use Rattle.model.specs.Evaluations.{tried, taken, evaluations}
-use Rattle.model.specs.Choice.{column, andKeep, leastKeep, worstOf, Choice, unfit, chosen, choiceOf, choice}
+use Rattle.model.specs.Choice.{column, andKeep, leastKeep, worstOf, Choice, unfit, chosen, Scope, ordinary, high-only, scopeIn, judges, choiceOf, scope}
+use Rattle.model.specs.Refusal.{Answer, refused, answered}
+use Rattle.model.specs.Checks.{Inputs}
 use Rattle.demand.specs.Columns.{flatTasks, Searchable, IsOnce}
 use Rattle.choice.specs.declared.Window.{Window}
 use Rattle.choice.specs.declared.Window.the-variants.{Within, Over}
@@ -24,6 +26,9 @@ use Rattle.choice.specs.declared.Least.the-variants.{Keep, Unfit}
 use Rattle.choice.specs.declared.Step.{Step}
 use Rattle.choice.specs.declared.Step.the-variants.{Stops, Fails, Next}
 use Rattle.choice.specs.declared.Choices.{Choices}
+use Rattle.choice.specs.declared.Decision.{Decision}
+use Rattle.choice.specs.declared.ChoiceAnswer.{ChoiceAnswer}
+use Rattle.choice.specs.declared.ChoiceAnswer.the-variants.{Ordinary, HighOnly, Refused}
 
 -- loads and periods as a task set; the search for W(q) looks at nothing else
 abbrev pub flat : List ℕ → List ℕ → Tasks
@@ -104,18 +109,55 @@ pub record Walkable (loads periods keeps : List ℕ) (i J D : ℕ) : Type 0 wher
 abbrev pub LeastOf : List ℕ → List ℕ → List ℕ → ℕ → ℕ → ℕ → Least → Type 0
 LeastOf loads periods keeps i J D r = (s : Tasks) → Flat s loads periods i J D → LeastIs s (take i keeps) i r
 
+-- and of a task that may be spared, that is, not judged: then 0, with the worst value 0 and no evaluation
+abbrev pub KeepOf : Bool → List ℕ → List ℕ → List ℕ → ℕ → ℕ → ℕ → Least → Type 0
+KeepOf true loads periods keeps i J D r = r ≡ Keep 0 0 0 0
+KeepOf false loads periods keeps i J D r = LeastOf loads periods keeps i J D r
+
+-- the evaluations of a task in a choice: those of its verdict, and none where it is not judged
+unfoldable pub evaluationsFor : Scope → Tasks → (ℕ → ℕ) → ℕ → ℕ
+evaluationsFor c s k i = elim (judges c s i) [ true ↦ evaluations s k i | false ↦ 0 ]
+
 -- the choice that the columns of n tasks hold
 abbrev pub choiceIn : ℕ → Choices → Choice
 choiceIn n r = elim (leb n (r .fitted)) [ true ↦ chosen (take n (r .keep)) (map pos (take n (r .worst))) | false ↦ unfit (r .fitted) ]
 
--- the choice of a task set: the columns hold that of the tasks that fit, down to the first that does not, and 0 past them
-pub record ChoicesAre (s : Tasks) (r : Choices) : Type 0 where
-  pub is : choiceIn (s .count) r ≡ choice s
+-- a choice of a task set: the columns hold that of the tasks that have a kept jitter, down to the first that has none, and 0 past them
+pub record ChoicesAre (c : Scope) (s : Tasks) (r : Choices) : Type 0 where
+  pub is : choiceIn (s .count) r ≡ choiceOf c s (s .count)
   pub within : r .fitted ≤ s .count
-  pub so-far : choiceOf s (r .fitted) ≡ chosen (take (r .fitted) (r .keep)) (map pos (take (r .fitted) (r .worst)))
+  pub so-far : choiceOf c s (r .fitted) ≡ chosen (take (r .fitted) (r .keep)) (map pos (take (r .fitted) (r .worst)))
   pub keep-past : (m : ℕ) → r .fitted ≤ m → m < maxTasks → column (r .keep) m ≡ 0
   pub worst-past : (m : ℕ) → r .fitted ≤ m → m < maxTasks → column (r .worst) m ≡ 0
   pub keep-long : length (r .keep) ≡ maxTasks
   pub worst-long : length (r .worst) ≡ maxTasks
-  -- the evaluations are those of the verdicts at the chosen kept jitters, added up
-  pub counted : r .evaluations ≡ sum (λ j. evaluations s (column (r .keep)) j) (r .fitted)
+  -- the evaluations are those of the verdicts at the chosen kept jitters, added up over the tasks that are judged
+  pub counted : r .evaluations ≡ sum (λ j. evaluationsFor c s (column (r .keep)) j) (r .fitted)
+
+-- one of the first n tasks is low
+unfoldable pub anyLow : Tasks → ℕ → Bool
+anyLow s zero = false
+anyLow s (suc n) = anyLow s n || s .low n
+
+-- the choice that is the answer, and which of the two it is
+pub record DecisionIs (s : Tasks) (r : Decision) : Type 0 where
+  pub told : scopeIn (r .partial) ≡ scope s
+  pub choices : ChoicesAre (scopeIn (r .partial)) s (r .choices)
+
+-- what is checked before a choice is made, given the slots of its columns
+abbrev pub roomInputs : Tasks → ℕ → ℕ → Inputs
+roomInputs s kept worst = record {
+  tasks = s;
+  single = none;
+  count = none;
+  lent = record { needed = s .count; slots = kept } ∷ record { needed = s .count; slots = worst } ∷ [];
+  kept = none;
+  releases = [];
+  unfit = none;
+}
+
+-- an answer as the definitions have it
+unfoldable pub scopeTold : ChoiceAnswer → Answer Scope
+scopeTold Ordinary = answered ordinary
+scopeTold HighOnly = answered high-only
+scopeTold (Refused n p) = refused (record { number = n; place = p })

@@ -8,7 +8,7 @@ use Rattle.model.specs.Series.{sum}
 use Rattle.model.specs.Tasks.{Tasks, Valid}
 use Rattle.model.specs.Verdict.{fits}
 use Rattle.model.specs.Evaluations.{evaluations}
-use Rattle.model.specs.Choice.{column}
+use Rattle.model.specs.Choice.{column, ordinary}
 use Rattle.model.specs.Refusal.{answered}
 use Rattle.model.specs.Calls.{verdictCall}
 use Rattle.choice.specs.declared.Choices.{Choices}
@@ -23,8 +23,8 @@ pub record Planned (s : Tasks) (ks : List ℕ) (ws : List ℤ) (n : ℕ) : Type 
   -- these numbers, added up, are the evaluations of the choice
   pub adds-up : n ≡ sum (λ i. evaluations s (column ks) i) (s .count)
 
--- so it is where every task fits, n being what the choice has counted
+-- so it is of an ordinary choice where every task fits, n being what the choice has counted
 abbrev pub PlannedChoice : Type 0
 PlannedChoice =
-    (s : Tasks) → Valid s → (r : Choices) → ChoicesAre s r → s .count ≤ r .fitted
+    (s : Tasks) → Valid s → (r : Choices) → ChoicesAre ordinary s r → s .count ≤ r .fitted
     → Planned s (take (s .count) (r .keep)) (map pos (take (s .count) (r .worst))) (r .evaluations)

@@ -4,12 +4,27 @@ ghost use Prim.Native.Nat.{_≤_};
 ghost use mathlib.Core.List.{_++_};
 ghost use lib.ListN.{length, take, drop};
 ghost use Rattle.model.specs.Tasks.{Valid};
+ghost use mathlib.Core.Bool.{_&&_};
 ghost use Rattle.model.specs.Checks.{refusalOf};
-ghost use Rattle.model.specs.Choice.{choice};
-ghost use Rattle.model.specs.Calls.{choiceInputs, columnAfter, keptColumn, worstColumn};
+ghost use Rattle.model.specs.Choice.{scopeIn, choice};
+ghost use Rattle.model.specs.Calls.{choiceInputs, choiceCall, columnAfter, keptColumn, worstColumn};
 ghost use Rattle.taskset.specs.TaskSet.{viewOf, refusalIn};
 ghost use Rattle.demand.specs.Columns.{Factored};
-ghost use Rattle.choice.specs.Choices.{Searched, Walkable, WindowOf, LeastOf, Product, Stepped, stepOf, ChoicesAre};
+ghost use Rattle.choice.specs.Choices.{
+  Searched,
+  Walkable,
+  WindowOf,
+  LeastOf,
+  KeepOf,
+  Product,
+  Stepped,
+  stepOf,
+  ChoicesAre,
+  anyLow,
+  DecisionIs,
+  roomInputs,
+  scopeTold,
+};
 use demand::above_load;
 use demand::columns_of;
 use demand::factors_of;
@@ -46,12 +61,26 @@ pub enum Least {
     Unfit,
 }
 
-// Kept jitters and largest R of the first tasks, as many as fit, 0 past them; and the evaluations that they took.
+// Kept jitters and largest R of the first tasks, as many as have a kept jitter, 0 past them and 0 for those that are not judged; and the evaluations that they
+// took.
 pub struct Choices {
     pub keep: [u32; 32],
     pub worst: [u32; 32],
     pub fitted: usize,
     pub evaluations: u64,
+}
+
+// The choice that is the answer, and whether it is a partial one, that of the high tasks alone.
+pub struct Decision {
+    pub choices: Choices,
+    pub partial: bool,
+}
+
+// The answer of a choice: which of the two it is, or document 01's number and place.
+pub enum ChoiceAnswer {
+    Ordinary,
+    HighOnly,
+    Refused { number: u32, place: usize },
 }
 
 // A number of jobs times P or E.
@@ -167,10 +196,45 @@ fn least_keep(
     }
 }
 
-// The choice of a sheet within its limits, from task 0 down to the first task that fits at no K. The lowest task is above no other, so its factor is not needed.
-fn choices_of(s: TaskSet) -> Choices
+// The kept jitter of task i, given the kept jitters of the tasks above: 0 where it is spared, that is, not judged; else the least at which it fits.
+fn keep_for(
+    loads: &[u32],
+    periods: &[u32],
+    highs: &[u32],
+    lows: &[u32],
+    keeps: &[u32],
+    i: usize,
+    jitter: u32,
+    deadline: u32,
+    spared: bool,
+) -> Least
+    requires { ⌜ Walkable (now loads) (now periods) (now keeps) i jitter deadline ⌝ }
+    requires { ⌜ Factored (now periods) (now highs) (now lows) i ⌝ }
+    ensures { λ r. ⌜ KeepOf spared (now (loads .entry)) (now (periods .entry)) (now (keeps .entry)) i jitter deadline r ⌝ }
+{
+    if spared {
+        return Least::Keep {
+            keep: 0,
+            worst: 0,
+            last: 0,
+            evaluations: 0,
+        };
+    }
+    least_keep(loads, periods, highs, lows, keeps, i, jitter, deadline)
+}
+
+// Whether a task is spared: a low one, where the high ones alone are judged.
+fn is_spared(partial: bool, low: bool) -> bool
+    ensures { λ r. ⌜ r ≡ (partial && low) ⌝ }
+{
+    partial && low
+}
+
+// A choice of a sheet within its limits, ordinary or, where it is a partial one, of the high tasks alone, from task 0 down to the first task that is judged and fits at no K. The lowest task is
+// above no other, so its factor is not needed.
+fn choices_of(s: TaskSet, partial: bool) -> Choices
     requires { ⌜ Valid (viewOf s) ⌝ }
-    ensures { λ r. ⌜ ChoicesAre (viewOf s) r ⌝ }
+    ensures { λ r. ⌜ ChoicesAre (scopeIn partial) (viewOf s) r ⌝ }
 {
     let flat = columns_of(s);
     let loads = flat.loads;
@@ -185,7 +249,8 @@ fn choices_of(s: TaskSet) -> Choices
     let mut i = 0;
     while i < count {
         let own = s.tasks[i];
-        let least = least_keep(
+        let spared = is_spared(partial, own.low);
+        let least = keep_for(
             &loads,
             &periods,
             &highs,
@@ -194,6 +259,7 @@ fn choices_of(s: TaskSet) -> Choices
             i,
             own.jitter,
             own.deadline,
+            spared,
         );
         let Least::Keep {
             keep: k,
@@ -222,6 +288,49 @@ fn choices_of(s: TaskSet) -> Choices
     }
 }
 
+// Whether one of the first n tasks is low.
+fn any_low(s: TaskSet, n: usize) -> bool
+    requires { ⌜ n ≤ 32 ⌝ }
+    ensures { λ r. ⌜ r ≡ anyLow (viewOf s) n ⌝ }
+{
+    let mut i = 0;
+    while i < n {
+        let t = s.tasks[i];
+        if t.low {
+            return true;
+        }
+        i += 1;
+    }
+    false
+}
+
+// The choice of a sheet within its limits: the ordinary one, and where a task fits at no K, the one of the high tasks alone. Without a low task down to that one both
+// are the same, and it is not made anew.
+fn decide(s: TaskSet) -> Decision
+    requires { ⌜ Valid (viewOf s) ⌝ }
+    ensures { λ r. ⌜ DecisionIs (viewOf s) r ⌝ }
+{
+    let first = choices_of(s, false);
+    let fitted = first.fitted;
+    if s.count <= fitted {
+        return Decision {
+            choices: first,
+            partial: false,
+        };
+    }
+    if any_low(s, fitted + 1) {
+        let second = choices_of(s, true);
+        return Decision {
+            choices: second,
+            partial: true,
+        };
+    }
+    Decision {
+        choices: first,
+        partial: true,
+    }
+}
+
 // Copies the first n numbers of a column into a lent one.
 fn put(column: &[u32], n: usize, out: &mut [u32])
     requires { ⌜ (n ≤ length (now column)) × (n ≤ length (now out)) ⌝ }
@@ -234,10 +343,35 @@ fn put(column: &[u32], n: usize, out: &mut [u32])
     }
 }
 
+// The checks of a choice before it is made: the sheet (5, 4, 6, 17), and room in both columns (13).
+pub fn check_room(s: TaskSet, kept: usize, worst: usize) -> Checked
+    ensures { λ r. ⌜ refusalIn r ≡ refusalOf (roomInputs (viewOf s) kept worst) ⌝ }
+{
+    let whole = taskset::check(s);
+    let Checked::Fine = whole else {
+        return whole;
+    };
+    let count = s.count;
+    if kept < count {
+        return Checked::Refused {
+            number: 13,
+            place: count,
+        };
+    }
+    if worst < count {
+        return Checked::Refused {
+            number: 13,
+            place: count,
+        };
+    }
+    Checked::Fine
+}
+
 // Choice: for each task from task 0 down the least K in 0..J at which its verdict is "fits", given the choices above, into `kept`, and its largest R into `worst`.
-// A refusal, 15 at the first task that fits at no K included, leaves both columns.
-pub fn choose(s: TaskSet, kept: &mut [u32], worst: &mut [u32]) -> Checked
-    ensures { λ r. ⌜ refusalIn r ≡ refusalOf (choiceInputs (viewOf s) (now (kept .entry)) (now (worst .entry))) ⌝ }
+// Where a task fits at no K, the choice is made anew with every low task kept at 0 and not judged, its worst value being 0; the answer tells which of the two it is.
+// A refusal, 15 at the first high task that fits at no K then included, leaves both columns.
+pub fn choose(s: TaskSet, kept: &mut [u32], worst: &mut [u32]) -> ChoiceAnswer
+    ensures { λ r. ⌜ scopeTold r ≡ choiceCall (viewOf s) (now (kept .entry)) (now (worst .entry)) ⌝ }
     ensures { λ _. ⌜
         now (kept .exit)
         ≡ columnAfter (refusalOf (choiceInputs (viewOf s) (now (kept .entry)) (now (worst .entry)))) (keptColumn (choice (viewOf s))) (now (kept .entry))
@@ -247,27 +381,19 @@ pub fn choose(s: TaskSet, kept: &mut [u32], worst: &mut [u32]) -> Checked
         ≡ columnAfter (refusalOf (choiceInputs (viewOf s) (now (kept .entry)) (now (worst .entry)))) (worstColumn (choice (viewOf s))) (now (worst .entry))
         ⌝ }
 {
-    let whole = taskset::check(s);
-    let Checked::Fine = whole else {
-        return whole;
-    };
+    let checked = check_room(s, kept.len(), worst.len());
+    if let Checked::Refused { number, place } = checked {
+        return ChoiceAnswer::Refused {
+            number: number,
+            place: place,
+        };
+    }
     let count = s.count;
-    if kept.len() < count {
-        return Checked::Refused {
-            number: 13,
-            place: count,
-        };
-    }
-    if worst.len() < count {
-        return Checked::Refused {
-            number: 13,
-            place: count,
-        };
-    }
-    let c = choices_of(s);
+    let decided = decide(s);
+    let c = decided.choices;
     let fitted = c.fitted;
     if fitted < count {
-        return Checked::Refused {
+        return ChoiceAnswer::Refused {
             number: 15,
             place: fitted,
         };
@@ -276,5 +402,8 @@ pub fn choose(s: TaskSet, kept: &mut [u32], worst: &mut [u32]) -> Checked
     let worsts = c.worst;
     put(&keeps, count, kept);
     put(&worsts, count, worst);
-    Checked::Fine
+    if decided.partial {
+        return ChoiceAnswer::HighOnly;
+    }
+    ChoiceAnswer::Ordinary
 }

@@ -4,7 +4,7 @@ use libc::STDOUT_FILENO;
 
 fn main() {
     // No byte past these changes the answer.
-    let mut file: [u8; 14899] = [0; 14899];
+    let mut file: [u8; 14932] = [0; 14932];
     let n = io::read_full(STDIN_FILENO, &mut file);
     let mut out: [u8; 2560] = [0; 2560];
     let m = answers::choose_text(&file, n, &mut out);

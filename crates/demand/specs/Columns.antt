@@ -1,6 +1,7 @@
 -- Tasks as flat columns: what the search for W(q) looks at.
 use Prim.Native.Nat.{ℕ, _*_, _≤_, _<_}
 use mathlib.Core.Path.{_≡_}
+use mathlib.Core.Bool.{false}
 use mathlib.Core.List.{List}
 use lib.ListN.{length}
 use Rattle.model.specs.Series.{sum}
@@ -17,7 +18,7 @@ use Rattle.quotient.specs.Factor.{highOf, lowOf, IsFactor}
 unfoldable pub columnLoad : List ℕ → List ℕ → List ℕ → ℕ → ℕ → ℕ
 columnLoad loads periods keeps n t = sum (λ j. column loads j * arrivals (column periods j) (column keeps j) t) n
 
--- a task set with these loads and periods and no charge, whose tasks have jitter J and deadline D
+-- a task set with these loads and periods and no charge, whose tasks have jitter J and deadline D and are high
 abbrev pub flatTasks : List ℕ → List ℕ → ℕ → ℕ → Tasks
 flatTasks loads periods J D = record {
   count = 0;
@@ -25,6 +26,7 @@ flatTasks loads periods J D = record {
   jitter = λ j. J;
   cost = column loads;
   deadline = λ j. D;
+  low = λ j. false;
   charge = 0;
 }
 

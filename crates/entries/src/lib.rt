@@ -3,15 +3,15 @@ use taskset::Checked;
 use taskset::Task;
 use taskset::TaskSet;
 ghost use mathlib.Core.Path.{_≡_};
-ghost use Prim.Native.Nat.{_+_, _*_, _≤_};
+ghost use Prim.Native.Nat.{_≤_};
 ghost use mathlib.Core.List.{[]};
-ghost use Rattle.taskset.specs.TaskSet.{refusalIn};
+ghost use Rattle.taskset.specs.TaskSet.{viewOf, refusalIn};
 ghost use Rattle.model.specs.Checks.{faultAt};
-ghost use Rattle.fileformat.specs.Records.{widthIn, releaseSize};
-ghost use Rattle.fileformat.specs.File.{chargeFault, taskFault};
-ghost use Rattle.fileformat.specs.FileCalls.{setOf, chargeBytes};
+ghost use Rattle.fileformat.specs.Records.{widthIn, taskSize, releaseSize};
+ghost use Rattle.fileformat.specs.File.{chargeFault, taskFault, markFault};
+ghost use Rattle.fileformat.specs.FileCalls.{setOf, chargeBytes, sheetBytes};
 
-// No tasks and no charge; all entries are 0.
+// No tasks and no charge; all entries are 0 and high.
 pub fn no_tasks() -> TaskSet
     ensures { λ r. ⌜ r ≡ setOf [] ⌝ }
 {
@@ -20,6 +20,7 @@ pub fn no_tasks() -> TaskSet
         jitter: 0,
         cost: 0,
         deadline: 0,
+        low: false,
     };
     TaskSet {
         tasks: [t; 32],
@@ -66,12 +67,25 @@ pub fn charge_size(charge: u8) -> usize
     if 0 < charge { 2 } else { 0 }
 }
 
-// The bytes of the records of a sheet: its charge and its tasks.
-pub fn sheet_size(charge: u8, count: usize) -> usize
-    requires { ⌜ count ≤ 32 ⌝ }
-    ensures { λ r. ⌜ r ≡ chargeBytes charge + 17 * count ⌝ }
+// The bytes of the record of a task, by its mark.
+pub fn task_size(low: bool) -> usize
+    ensures { λ r. ⌜ r ≡ taskSize low ⌝ }
 {
-    charge_size(charge) + 17 * count
+    if low { 18 } else { 17 }
+}
+
+// The bytes of the records of a sheet: its charge and its tasks.
+pub fn sheet_size(s: TaskSet) -> usize
+    requires { ⌜ s .count ≤ 32 ⌝ }
+    ensures { λ r. ⌜ r ≡ sheetBytes (viewOf s) ⌝ }
+{
+    let mut size = charge_size(s.charge);
+    let mut i = 0;
+    while i < s.count {
+        size += task_size(s.tasks[i].low);
+        i += 1;
+    }
+    size
 }
 
 // The bytes of a release record.
@@ -98,4 +112,14 @@ pub fn check_task(charge: u8, tasks: usize, releases: usize, at: usize, t: Task)
         };
     }
     taskset::check_entry(charge, at, t)
+}
+
+// What is wrong with a kind 6 record after so many tasks and releases, its last byte not being 0: 3, 4 or 6.
+pub fn mark_fault(tasks: usize, releases: usize) -> u32
+    ensures { λ r. ⌜ r ≡ markFault tasks releases ⌝ }
+{
+    if 0 < releases {
+        return 3;
+    }
+    if tasks < 32 { 6 } else { 4 }
 }

@@ -1,4 +1,5 @@
--- Numbers and places of the refusals of a read and of a write are bounded: no file gets past a charge, 32 tasks, 1,024 releases and the end record, which are 14,883 bytes.
+-- Numbers and places of the refusals of a read and of a write are bounded: no file gets past a charge, 32 tasks, 1,024 releases and the end record, which are at most
+-- 14,915 bytes.
 use Prim.Native.Nat.{ℕ, zero, suc, _+_, _*_, _≤_}
 use mathlib.Core.Path.{_≡_, refl, sym, ap, _∙_}
 use mathlib.Core.Bool.{Bool, true, false, _||_}
@@ -17,10 +18,14 @@ use Rattle.model.proofs.CheckLaws.{entry-number, count-of}
 use Rattle.model.proofs.RefusalPlaces.{largestNumber, Within, within-known, fault-number, needs, needs-none, Limited}
 use Rattle.releases.proofs.ReleaseLaws.{length-releases}
 use Rattle.taskset.specs.declared.Task.{Task}
-use Rattle.fileformat.specs.Records.{Width, short, long, bodySize, Record, broken, taskRecord, releaseRecord, chargeRecord, endRecord, taskFrom, releaseFrom, chargeFrom, whole, recordOf, sizeOf}
-use Rattle.fileformat.specs.File.{File, State, Step, stop, next, last, chargeFault, taskFault, lowTick, highTick, listFault, endFault, withCharge, withTask, withRelease, unless, advance, afterEnd, readBy, readFrom, empty, decode}
-use Rattle.fileformat.specs.FileCalls.{chargeBytes, listBytes, bytesNeeded, writeInputs}
+use Rattle.fileformat.specs.Numbers.{field}
+use Rattle.fileformat.specs.Records.{Width, short, long, bodySize, taskBody, Record, broken, wrongMark, taskRecord, releaseRecord, chargeRecord, endRecord}
+use Rattle.fileformat.specs.Records.{taskFrom, markedFrom, releaseFrom, chargeFrom, whole, recordOf, sizeOf}
+use Rattle.fileformat.specs.File.{File, State, Step, stop, next, last, chargeFault, taskFault, markFault, lowTick, highTick, listFault, endFault}
+use Rattle.fileformat.specs.File.{withCharge, withTask, withRelease, unless, advance, afterEnd, readBy, readFrom, empty, decode}
+use Rattle.fileformat.specs.FileCalls.{chargeBytes, sheetBytes, listBytes, bytesNeeded, writeInputs}
 use Rattle.fileformat.proofs.WidthLaws.{size-high, list-high}
+use Rattle.fileformat.proofs.TaskSizeLaws.{task-size-high, tasks-bytes-high}
 use Rattle.fileformat.proofs.RoundTrips.{no-charge-bytes, some-charge-bytes, charge-bytes-high}
 use Rattle.fileformat.proofs.StepLaws.{Moves, stops, takes-charge, takes-task, takes-release, ends, moves, read-stop, read-next, read-last}
 
@@ -29,11 +34,20 @@ pub record Number (n : ℕ) : Type 0 where
   pub low : 1 ≤ n
   pub high : n ≤ largestNumber
 
+-- a kind 6 record that is whole is a task or has a wrong mark
+marked-whole : (l : List ℕ) (n : ℕ) → markedFrom l ≡ broken n → ⊥
+unfolding markedFrom
+marked-whole l n e = go (eqb (field 16 1 l) 0) refl
+  where
+    go : (b : Bool) → eqb (field 16 1 l) 0 ≡ b → ⊥
+    go true h = let w : taskRecord (taskFrom true l) ≡ broken n = rw (markedFrom, h) at e in let z : _≡_ {A = ℕ} 0 1 = cc in omega arith
+    go false h = let w : wrongMark ≡ broken n = rw (markedFrom, h) at e in let z : _≡_ {A = ℕ} 0 1 = cc in omega arith
+
 -- a record that is broken: 1 or 2
 record-number : (f : List ℕ) (n : ℕ) → recordOf f ≡ broken n → Number n
 unfolding recordOf whole
 record-number [] n e = let w : 2 ≡ n = cc in record { low = omega arith; high = omega arith }
-record-number (k ∷ l) n e = go (eqb k 1) (eqb k 2) (eqb k 3) (eqb k 4) (eqb k 5) refl refl refl refl refl
+record-number (k ∷ l) n e = go (eqb k 1) (eqb k 2) (eqb k 3) (eqb k 4) (eqb k 5) (eqb k 6) refl refl refl refl refl refl
   where
     is : (m : ℕ) → 1 ≤ m → m ≤ largestNumber → broken m ≡ broken n → Number n
     is m a b h = let w : m ≡ n = cc in record { low = omega arith; high = omega arith }
@@ -46,16 +60,18 @@ record-number (k ∷ l) n e = go (eqb k 1) (eqb k 2) (eqb k 3) (eqb k 4) (eqb k 
         go true g = is 2 (omega arith) (omega arith) (rw (whole, g) at h)
         go false g = absurd (x (rw (whole, g) at h))
 
-    go : (a b c d i : Bool) → eqb k 1 ≡ a → eqb k 2 ≡ b → eqb k 3 ≡ c → eqb k 4 ≡ d → eqb k 5 ≡ i → Number n
-    go true b c d i p q r t u = cut 16 _ (λ (h : taskRecord (taskFrom l) ≡ broken n). let z : _≡_ {A = ℕ} 0 1 = cc in omega arith) (rw (recordOf, p) at e)
-    go false true c d i p q r t u =
+    go : (a b c d i j : Bool) → eqb k 1 ≡ a → eqb k 2 ≡ b → eqb k 3 ≡ c → eqb k 4 ≡ d → eqb k 5 ≡ i → eqb k 6 ≡ j → Number n
+    go true b c d i j p q r t u v =
+        cut (taskBody false) _ (λ (h : taskRecord (taskFrom false l) ≡ broken n). let z : _≡_ {A = ℕ} 0 1 = cc in omega arith) (rw (recordOf, p) at e)
+    go false true c d i j p q r t u v =
         cut (bodySize short) _ (λ (h : releaseRecord short (releaseFrom short l) ≡ broken n). let z : _≡_ {A = ℕ} 0 1 = cc in omega arith) (rw (recordOf, p, q) at e)
-    go false false true d i p q r t u = cut 0 _ (λ (h : endRecord ≡ broken n). let z : _≡_ {A = ℕ} 0 1 = cc in omega arith) (rw (recordOf, p, q, r) at e)
-    go false false false true i p q r t u =
+    go false false true d i j p q r t u v = cut 0 _ (λ (h : endRecord ≡ broken n). let z : _≡_ {A = ℕ} 0 1 = cc in omega arith) (rw (recordOf, p, q, r) at e)
+    go false false false true i j p q r t u v =
         cut (bodySize long) _ (λ (h : releaseRecord long (releaseFrom long l) ≡ broken n). let z : _≡_ {A = ℕ} 0 1 = cc in omega arith) (rw (recordOf, p, q, r, t) at e)
-    go false false false false true p q r t u =
+    go false false false false true j p q r t u v =
         cut 1 _ (λ (h : chargeRecord (chargeFrom l) ≡ broken n). let z : _≡_ {A = ℕ} 0 1 = cc in omega arith) (rw (recordOf, p, q, r, t, u) at e)
-    go false false false false false p q r t u = is 1 (omega arith) (omega arith) (rw (recordOf, p, q, r, t, u) at e)
+    go false false false false false true p q r t u v = cut (taskBody true) _ (marked-whole l n) (rw (recordOf, p, q, r, t, u, v) at e)
+    go false false false false false false p q r t u v = is 1 (omega arith) (omega arith) (rw (recordOf, p, q, r, t, u, v) at e)
 
 -- a number that is known
 is-number : (m n : ℕ) → 1 ≤ m → m ≤ largestNumber → some m ≡ some n → Number n
@@ -89,6 +105,16 @@ task-number charge tasks releases t n e =
     go false true o p q r = is-number 4 n (omega arith) (omega arith) (rw (taskFault, p, q) at e)
     go false false (some m) p q r = numbered m (entry-number _ _ _ _ _ m r) (rw (taskFault, p, q, r) at e)
     go false false none p q r = not-number n (rw (taskFault, p, q, r) at e)
+
+-- a wrong mark: 3, 4 or 6
+mark-number : (tasks releases : ℕ) → Number (markFault tasks releases)
+unfolding markFault
+mark-number tasks releases = go (ltb 0 releases) (leb maxTasks tasks) refl refl
+  where
+    go : (a b : Bool) → ltb 0 releases ≡ a → leb maxTasks tasks ≡ b → Number (markFault tasks releases)
+    go true b p q = rw (markFault, p) (record { low = omega arith; high = omega arith })
+    go false true p q = rw (markFault, p, q) (record { low = omega arith; high = omega arith })
+    go false false p q = rw (markFault, p, q) (record { low = omega arith; high = omega arith })
 
 -- a release record: 5, 7, 8, 9 or 10
 list-number : (s : Tasks) (releases before : ℕ) (w : Width) (r : Release) (n : ℕ) → listFault s releases before w r ≡ some n → Number n
@@ -131,6 +157,10 @@ stop-number s f k e = go (recordOf f) refl
 
     go : (r : Record) → recordOf f ≡ r → Number k
     go (broken n) d = let w : stop n ≡ stop k = rw d at e in let x : n ≡ k = cc in rw x at (record-number f n d)
+    go wrongMark d =
+        let w : stop (markFault (length (s .tasks)) (length (s .releases))) ≡ stop k = rw d at e in
+        let x : markFault (length (s .tasks)) (length (s .releases)) ≡ k = cc in
+        rw x at (mark-number (length (s .tasks)) (length (s .releases)))
     go (taskRecord t) d = stop-fault _ _ k (task-number _ _ _ t) (no-next (withTask s t)) (rw d at e)
     go (releaseRecord w r) d = stop-fault _ _ k (list-number _ _ _ w r) (no-next (withRelease s r)) (rw d at e)
     go (chargeRecord c) d = stop-fault _ _ k (charge-number _ _ _ c) (no-next (withCharge s c)) (rw d at e)
@@ -138,15 +168,17 @@ stop-number s f k e = go (recordOf f) refl
 
 -- the bytes of the charge, the tasks and releases that are read
 record Stands (s : State) (at : ℕ) : Type 0 where
-  offset : at ≤ chargeBytes (s .charge) + 17 * length (s .tasks) + 14 * length (s .releases)
+  offset : at ≤ chargeBytes (s .charge) + 18 * length (s .tasks) + 14 * length (s .releases)
   few-tasks : length (s .tasks) ≤ maxTasks
   few-releases : length (s .releases) ≤ maxReleases
 
 -- a refusal that is known
-within-refused : (n p : ℕ) (r : Refusal) → 1 ≤ n → n ≤ largestNumber → p ≤ 14883 → _≡_ {A = Answer File} (refused (record { number = n; place = p })) (refused r) → Within 14883 r
-within-refused n p r a b c e = within-known 14883 n p r a (omega arith) c (cc)
+within-refused
+    : (n p : ℕ) (r : Refusal) → 1 ≤ n → n ≤ largestNumber → p ≤ 14915
+    → _≡_ {A = Answer File} (refused (record { number = n; place = p })) (refused r) → Within 14915 r
+within-refused n p r a b c e = within-known 14915 n p r a (omega arith) c (cc)
 
-end-within : (s : State) (at : ℕ) (l : List ℕ) (r : Refusal) → at ≤ 14883 → afterEnd s at l ≡ refused r → Within 14883 r
+end-within : (s : State) (at : ℕ) (l : List ℕ) (r : Refusal) → at ≤ 14915 → afterEnd s at l ≡ refused r → Within 14915 r
 unfolding afterEnd
 end-within s at [] r h e = let z : _≡_ {A = ℕ} 0 1 = cc in absurd (omega arith)
 end-within s at (b ∷ l) r h e = within-refused 11 at r (omega arith) (omega arith) h e
@@ -157,8 +189,8 @@ module _ (n : ℕ) (s : State) (at : ℕ) (f : List ℕ) (r : Refusal) (a : Stan
       → recordOf f ≡ q
       → advance s q ≡ t
       → Moves s q t
-      → ((s′ : State) → Stands s′ (at + sizeOf q) → readFrom n s′ (at + sizeOf q) (drop (sizeOf q) f) ≡ refused r → Within 14883 r)
-      → Within 14883 r
+      → ((s′ : State) → Stands s′ (at + sizeOf q) → readFrom n s′ (at + sizeOf q) (drop (sizeOf q) f) ≡ refused r → Within 14915 r)
+      → Within 14915 r
   unfolding sizeOf
   one-step q t d g (stops _ k) ih =
       let m = stop-number s f k (ap (advance s) d ∙ g) in
@@ -174,7 +206,7 @@ module _ (n : ℕ) (s : State) (at : ℕ) (f : List ℕ) (r : Refusal) (a : Stan
   one-step q t d g (takes-task t′ z l h k) ih =
       ih (withTask s t′)
       (record {
-        offset = omega (arith, a .offset, length-append (s .tasks) (t′ ∷ []));
+        offset = omega (arith, a .offset, task-size-high (t′ .low), length-append (s .tasks) (t′ ∷ []));
         few-tasks = omega (arith, length-append (s .tasks) (t′ ∷ []));
         few-releases = a .few-releases;
       })
@@ -190,28 +222,29 @@ module _ (n : ℕ) (s : State) (at : ℕ) (f : List ℕ) (r : Refusal) (a : Stan
   one-step q t d g (ends l) ih =
       end-within s (at + 1) (drop 1 f) r (omega (arith, a .offset, charge-bytes-high (s .charge), a .few-tasks, a .few-releases)) (sym (read-last n s at f q d g) ∙ e)
 
-from-within : (n : ℕ) (s : State) (at : ℕ) (f : List ℕ) (r : Refusal) → Stands s at → readFrom n s at f ≡ refused r → Within 14883 r
+from-within : (n : ℕ) (s : State) (at : ℕ) (f : List ℕ) (r : Refusal) → Stands s at → readFrom n s at f ≡ refused r → Within 14915 r
 unfolding readBy
 from-within zero s at f r a e = within-refused 2 at r (omega arith) (omega arith) (omega (arith, a .offset, charge-bytes-high (s .charge), a .few-tasks, a .few-releases)) e
 from-within (suc n) s at f r a e =
     one-step n s at f r a e (recordOf f) (advance s (recordOf f)) refl refl (moves s (recordOf f))
     (λ s′ b. from-within n s′ (at + sizeOf (recordOf f)) (drop (sizeOf (recordOf f)) f) r b)
 
--- a refused file, of whatever length: the place is at most 14,883
-pub decode-within : (f : List ℕ) (r : Refusal) → decode f ≡ refused r → Within 14883 r
+-- a refused file, of whatever length: the place is at most 14,915
+pub decode-within : (f : List ℕ) (r : Refusal) → decode f ≡ refused r → Within 14915 r
 unfolding decode
 decode-within f r = from-within (suc (length f)) empty 0 f r (record { offset = omega (arith, no-charge-bytes); few-tasks = omega arith; few-releases = omega arith })
 
 -- a refused write: no more bytes are needed
-pub write-limited : (s : Tasks) (n : ℕ) (task tick cost : List ℕ) (room : ℕ) → Limited 14883 (writeInputs s n task tick cost room)
+pub write-limited : (s : Tasks) (n : ℕ) (task tick cost : List ℕ) (room : ℕ) → Limited 14915 (writeInputs s n task tick cost room)
 unfolding bytesNeeded
 write-limited s n task tick cost room = record {
   over = omega arith;
   single = λ j e. let z : _≡_ {A = ℕ} 0 1 = cc in absurd (omega arith);
   lent = λ f e.
-      let h : n ≤ 14883 = omega (arith, count-of n e) in
+      let h : n ≤ 14915 = omega (arith, count-of n e) in
       let l = releasesOf n task tick cost in
-      let b : chargeBytes (s .charge) + 17 * s .count + listBytes (releasesOf n task tick cost) + 1 ≤ 14883 = omega (arith, charge-bytes-high (s .charge), count-of n e, list-high l, length-releases n task tick cost) in
+      let b : sheetBytes s + listBytes (releasesOf n task tick cost) + 1 ≤ 14915 = omega
+      (arith, charge-bytes-high (s .charge), tasks-bytes-high s (s .count), count-of n e, list-high l, length-releases n task tick cost) in
       needs h (needs h (needs h (needs b needs-none)));
   releases = λ e. omega (arith, count-of n e, length-releases n task tick cost);
   unfit = λ j e. let z : _≡_ {A = ℕ} 0 1 = cc in absurd (omega arith);

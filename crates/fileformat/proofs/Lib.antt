@@ -1,6 +1,7 @@
 -- Laws of the file, and the two round trips. From the ground up.
 pub mod StepLaws
 pub mod WidthLaws
+pub mod TaskSizeLaws
 pub mod FilePlaces
 pub mod NumberLaws
 pub mod RecordLaws

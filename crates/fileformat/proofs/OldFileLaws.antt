@@ -1,10 +1,10 @@
--- Files of document 01 and of R-3 are read and written as before.
+-- Files of document 01, of R-3 and of R-4 are read and written as before.
 use Prim.Native.Nat.{ℕ, zero, suc, _+_, _≤_, _<_}
 use mathlib.Core.Path.{_≡_, refl, sym, ap, ap₂, _∙_}
 use mathlib.Core.Bool.{Bool, true, false}
 use mathlib.Core.Logic.{_⊎_, inl, inr}
 use mathlib.Core.Option.{some}
-use mathlib.Core.List.{List, [], _∷_, _++_, map}
+use mathlib.Core.List.{List, [], _∷_, _++_, map, append-nil}
 use native.Mathlib.Omega.{arith}
 use native.Mathlib.Nat.{add-zero, zero-add}
 use borrow.Author.Tests.{leb-true, leb-false}
@@ -15,14 +15,19 @@ use Rattle.model.specs.Limits.{maxTasks}
 use Rattle.model.specs.Tasks.{Release}
 use Rattle.model.specs.Refusal.{refused}
 use Rattle.model.proofs.ChargeLaws.{entry-uncharged}
-use Rattle.fileformat.specs.Records.{short, Record, broken, taskRecord, releaseRecord, endRecord, recordOf, sizeOf, writtenRecord}
-use Rattle.fileformat.specs.File.{State, Step, stop, next, last, chargeRecords, joined, encode, recordsOf, taskFault, advance, readBy, readFrom, empty, decode}
-use Rattle.fileformat.specs.OldFiles.{unchargedEncode, ShortTicks, UnchargedIsWritten, UnchargedIsRead, ReadIsUncharged, OldIsWritten, OldIsRead, ReadIsOld, oldRecord, oldDecode, lastKind, OldIsAnswered, oldTaskFault, OldTask}
+use Rattle.taskset.specs.declared.Task.{Task}
+use Rattle.fileformat.specs.Records.{short, broken, taskRecord, releaseRecord, endRecord, recordOf, sizeOf, taskBytes, recordBytes, writtenRecord}
+use Rattle.fileformat.specs.File.{File, State, Step, stop, next, last, chargeRecords, joined, encode, recordsOf, taskFault}
+use Rattle.fileformat.specs.File.{advance, readBy, readFrom, empty, decode}
+use Rattle.fileformat.specs.OldFiles.{oldTaskBytes, oldTasks, AllHigh, unmarkedEncode, unchargedEncode, longEncode, ShortTicks}
+use Rattle.fileformat.specs.OldFiles.{oldRecord, oldDecode, lastKind, oldTaskFault}
+use Rattle.fileformat.specs.OldFiles.{UnmarkedIsWritten, UnmarkedIsRead, ReadIsUnmarked, UnchargedIsWritten, UnchargedIsRead, ReadIsUncharged}
+use Rattle.fileformat.specs.OldFiles.{OldIsWritten, OldIsRead, ReadIsOld, OldIsAnswered, OldTask}
 use Rattle.fileformat.specs.RoundTrips.{IsByte}
 use Rattle.fileformat.proofs.RecordLaws.{record-unknown}
 use Rattle.fileformat.proofs.StepLaws.{broken-stops, stops-by, goes-by, ends-by, read-stop, read-next, read-last}
 use Rattle.fileformat.proofs.WidthLaws.{width-short}
-use Rattle.fileformat.proofs.RoundTrips.{decode-encode, encode-decode}
+use Rattle.fileformat.proofs.RoundTrips.{joined-append, taskPart, decode-encode, encode-decode}
 
 -- a release within document 01's limit is written as a record of kind 2
 short-records : (l : List Release) → ShortTicks l → map writtenRecord l ≡ map (releaseRecord short) l
@@ -30,29 +35,55 @@ short-records [] h = refl
 short-records (r ∷ l) h =
     ap₂ _∷_ (ap (λ w. releaseRecord w r) (width-short (r .tick) (h 0 (omega arith)))) (short-records l (λ p i. h (suc p) (omega arith)))
 
+-- high tasks are written in records without a mark
+high-bytes : (t : Task) → t .low ≡ false → taskBytes t ≡ oldTaskBytes t
+unfolding taskBytes oldTaskBytes
+high-bytes t h = rw (h, append-nil)
+
+high-tasks : (l : List Task) → AllHigh l → taskPart l ≡ oldTasks l
+unfolding joined recordBytes oldTasks
+high-tasks [] h = refl
+high-tasks (t ∷ l) h = ap₂ _++_ (high-bytes t (h 0 (omega arith))) (high-tasks l (λ i k. h (suc i) (omega arith)))
+
+pub unmarked-encoded : UnmarkedIsWritten
+unfolding encode recordsOf unmarkedEncode
+unmarked-encoded x a =
+    let rest = map writtenRecord (x .releases) ++ (endRecord ∷ []) in
+    joined-append (chargeRecords (x .charge)) (map taskRecord (x .tasks) ++ rest)
+    ∙ ap (λ y. joined (chargeRecords (x .charge)) ++ y) (joined-append (map taskRecord (x .tasks)) rest ∙ ap (λ y. y ++ joined rest) (high-tasks (x .tasks) a))
+
+pub unmarked-decoded : UnmarkedIsRead
+unmarked-decoded x v b a = ap decode (sym (unmarked-encoded x a)) ∙ decode-encode x b v
+
+pub unmarked-only : ReadIsUnmarked
+unmarked-only f x b e a = sym (encode-decode f x b e) ∙ unmarked-encoded x a
+
 -- without a charge there is no record of it
+uncharged-unmarked : (x : File) → x .charge ≡ 0 → unmarkedEncode x ≡ longEncode x
+unfolding unmarkedEncode unchargedEncode joined chargeRecords
+uncharged-unmarked x z = ap (λ c. joined (chargeRecords c) ++ (oldTasks (x .tasks) ++ joined (map writtenRecord (x .releases) ++ (endRecord ∷ [])))) z
+
 pub uncharged-encoded : UnchargedIsWritten
-unfolding encode recordsOf chargeRecords unchargedEncode
-uncharged-encoded x z = ap (λ c. joined (chargeRecords c ++ (map taskRecord (x .tasks) ++ (map writtenRecord (x .releases) ++ (endRecord ∷ []))))) z
+uncharged-encoded x a z = unmarked-encoded x a ∙ uncharged-unmarked x z
 
 zero-byte : (c : ℕ) → c ≡ 0 → IsByte c
 zero-byte c z = omega arith
 
 pub uncharged-decoded : UnchargedIsRead
-uncharged-decoded x v z = ap decode (sym (uncharged-encoded x z)) ∙ decode-encode x (zero-byte (x .charge) z) v
+uncharged-decoded x v a z = ap decode (sym (uncharged-encoded x a z)) ∙ decode-encode x (zero-byte (x .charge) z) v
 
 pub uncharged-only : ReadIsUncharged
-uncharged-only f x b e z = sym (encode-decode f x b e) ∙ uncharged-encoded x z
+uncharged-only f x b e a z = sym (encode-decode f x b e) ∙ uncharged-encoded x a z
 
 pub old-encoded : OldIsWritten
 unfolding unchargedEncode
-old-encoded x z h = uncharged-encoded x z ∙ ap (λ l. joined (map taskRecord (x .tasks) ++ (l ++ (endRecord ∷ [])))) (short-records (x .releases) h)
+old-encoded x a z h = uncharged-encoded x a z ∙ ap (λ l. oldTasks (x .tasks) ++ joined (l ++ (endRecord ∷ []))) (short-records (x .releases) h)
 
 pub old-decoded : OldIsRead
-old-decoded x v z h = ap decode (sym (old-encoded x z h)) ∙ decode-encode x (zero-byte (x .charge) z) v
+old-decoded x v a z h = ap decode (sym (old-encoded x a z h)) ∙ decode-encode x (zero-byte (x .charge) z) v
 
 pub old-only : ReadIsOld
-old-only f x b e z h = sym (encode-decode f x b e) ∙ old-encoded x z h
+old-only f x b e a z h = sym (encode-decode f x b e) ∙ old-encoded x a z h
 
 pub old-task : OldTask
 unfolding taskFault oldTaskFault
@@ -122,7 +153,7 @@ module _ (first : ℕ) where
       (stops-by (oldRecord first) n s at (k ∷ l) (broken 1) (old-late k l e) 1 (broken-stops s 1)
       ∙ sym
       (read-stop n s at (k ∷ l) (broken 1)
-      (record-unknown k l (λ x. omega arith) (λ x. omega arith) (λ x. omega arith) (λ x. omega arith) (λ x. omega arith)) 1 (broken-stops s 1)))
+      (record-unknown k l (λ x. omega arith) (λ x. omega arith) (λ x. omega arith) (λ x. omega arith) (λ x. omega arith) (λ x. omega arith)) 1 (broken-stops s 1)))
 
   same-from : (n : ℕ) (s : State) (at : ℕ) (f : List ℕ) → SameFrom n s at f
   unfolding readBy

@@ -8,7 +8,7 @@ use lib.ListN.{length, getD, drop, length-drop}
 use lib.Seq.{drop-drop, getD-drop}
 use Rattle.model.specs.Tasks.{Release}
 use Rattle.fileformat.specs.Records.{Width, kindOf, Record, releaseRecord, releaseFrom, releaseSize, recordOf}
-use Rattle.fileformat.proofs.RecordLaws.{Shape, is-broken, is-task, is-release, is-charge, is-end, shape}
+use Rattle.fileformat.proofs.RecordLaws.{Shape, is-broken, is-wrong-mark, is-task, is-release, is-charge, is-end, shape}
 
 -- bytes that begin with a release record
 record Begins (w : Width) (r : Release) (l : List ℕ) : Type 0 where
@@ -18,7 +18,8 @@ record Begins (w : Width) (r : Release) (l : List ℕ) : Type 0 where
 
 begins : (w : Width) (r : Release) (l : List ℕ) (q : Record) → Shape l q → q ≡ releaseRecord w r → Begins w r l
 begins w r l q (is-broken f n) e = let z : _≡_ {A = ℕ} 0 1 = cc in absurd (omega arith)
-begins w r l q (is-task m h) e = let z : _≡_ {A = ℕ} 0 1 = cc in absurd (omega arith)
+begins w r l q (is-wrong-mark f) e = let z : _≡_ {A = ℕ} 0 1 = cc in absurd (omega arith)
+begins w r l q (is-task low m h k) e = let z : _≡_ {A = ℕ} 0 1 = cc in absurd (omega arith)
 begins w r l q (is-release v m h) e =
     let s : v ≡ w = cc in
     let d : releaseFrom v m ≡ r = cc in

@@ -69,6 +69,7 @@ view-set c l = λ t. record {
   jitter = λ i. pad l (maxTasks - length l) i t .jitter;
   cost = λ i. pad l (maxTasks - length l) i t .cost;
   deadline = λ i. pad l (maxTasks - length l) i t .deadline;
+  low = λ i. pad l (maxTasks - length l) i t .low;
   charge = c;
 }
 

@@ -1,5 +1,5 @@
 -- The two round trips, and that what is read is within the limits.
-use Prim.Native.Nat.{ℕ, zero, suc, _+_, _*_, _^_, _-_, _≤_, _<_}
+use Prim.Native.Nat.{ℕ, zero, suc, _+_, _^_, _-_, _≤_, _<_}
 use mathlib.Core.Path.{_≡_, refl, sym, ap, ap₂, _∙_}
 use mathlib.Core.Option.{none}
 use mathlib.Core.List.{List, [], _∷_, _++_, map, append-assoc, append-nil, map-append}
@@ -16,11 +16,14 @@ use Rattle.model.proofs.TraceLaws.{Passed, passed-of, releases-next, passes-con
 use Rattle.taskset.specs.declared.Task.{Task}
 use Rattle.taskset.specs.TaskSet.{noTask}
 use Rattle.fileformat.specs.Numbers.{Bytes}
-use Rattle.fileformat.specs.Records.{Width, short, long, tickBytes, Record, taskRecord, releaseRecord, chargeRecord, endRecord, recordOf, taskBytes, releaseBytes, releaseSize, recordBytes, sizeOf, widthFor, writtenRecord}
-use Rattle.fileformat.specs.File.{File, State, Step, lowTick, highTick, sheetWith, sheetIn, chargeRecords, recordsOf, joined, encode, withCharge, withTask, withRelease, advance, afterEnd, readBy, readFrom, empty, decode, ValidFile}
-use Rattle.fileformat.specs.FileCalls.{chargeBytes, listBytes}
+use Rattle.fileformat.specs.Records.{Width, short, long, tickBytes, taskSize, releaseSize, Record, taskRecord, releaseRecord, chargeRecord, endRecord}
+use Rattle.fileformat.specs.Records.{recordOf, taskBytes, releaseBytes, recordBytes, sizeOf, widthFor, writtenRecord}
+use Rattle.fileformat.specs.File.{File, State, Step, lowTick, highTick, sheetWith, sheetIn, chargeRecords, recordsOf, joined, encode}
+use Rattle.fileformat.specs.File.{withCharge, withTask, withRelease, advance, afterEnd, readBy, readFrom, empty, decode, ValidFile}
+use Rattle.fileformat.specs.FileCalls.{chargeBytes, tasksBytes, sheetBytes, listBytes}
 use Rattle.fileformat.specs.RoundTrips.{WrittenIsRead, ReadIsWritten, ReadIsValid, IsByte, ReadIsByte, RecordSizes, ReadIsShort}
 use Rattle.fileformat.proofs.WidthLaws.{any-kind, kind-written, written-kind, list-low, list-high}
+use Rattle.fileformat.proofs.TaskSizeLaws.{tasks-bytes-none, tasks-bytes-first, tasks-bytes-low, tasks-bytes-high}
 use Rattle.fileformat.proofs.RecordLaws.{shape, TaskFits, ReleaseFits, length-task, length-release, length-charge, task-read, release-read, charge-read, record-end, charge-byte, bytes-read}
 use Rattle.fileformat.proofs.StepLaws.{task-numbers, charge-fine, list-fine, end-fine, Ranged, Loaded, Moves, stops, takes-charge, takes-task, takes-release, ends, moves}
 use Rattle.fileformat.proofs.StepLaws.{charge-taken, task-taken, release-taken, end-taken, read-stop, read-next, read-last}
@@ -100,11 +103,12 @@ release-part-more l r =
     ap joined (map-append writtenRecord l (r ∷ [])) ∙ joined-append (map writtenRecord l) (writtenRecord r ∷ [])
     ∙ ap (λ x. releasePart l ++ x) (append-nil (writtenBytes r))
 
-pub length-task-part : (l : List Task) → length (taskPart l) ≡ 17 * length l
+-- whatever the charge of their sheet
+pub length-task-part : (c : ℕ) (l : List Task) → length (taskPart l) ≡ tasksBytes (sheetWith c l) (length l)
 unfolding joined recordBytes
-length-task-part [] = refl
-length-task-part (t ∷ l) =
-    length-append (taskBytes t) (taskPart l) ∙ omega (arith, length-task t, length-task-part l)
+length-task-part c [] = sym (tasks-bytes-none (sheetWith c []))
+length-task-part c (t ∷ l) =
+    length-append (taskBytes t) (taskPart l) ∙ omega (arith, length-task t, length-task-part c l, tasks-bytes-first c t l)
 
 pub length-release-part : (l : List Release) → length (releasePart l) ≡ listBytes l
 unfolding joined recordBytes listBytes
@@ -112,8 +116,8 @@ length-release-part [] = refl
 length-release-part (r ∷ l) =
     length-append (writtenBytes r) (releasePart l) ∙ omega (arith, length-release (widthFor (r .tick)) r, length-release-part l)
 
--- the bytes of the charge, 17 for each task, those of the releases, and 1
-pub length-encode : (x : File) → length (encode x) ≡ chargeBytes (x .charge) + 17 * length (x .tasks) + listBytes (x .releases) + 1
+-- the bytes of the sheet, those of the releases, and 1
+pub length-encode : (x : File) → length (encode x) ≡ sheetBytes (sheetIn x) + listBytes (x .releases) + 1
 length-encode x =
     ap length (encode-parts x)
     ∙ length-append (chargePart (x .charge)) (taskPart (x .tasks) ++ (releasePart (x .releases) ++ (3 ∷ [])))
@@ -122,7 +126,7 @@ length-encode x =
       length-charge-part (x .charge),
       length-append (taskPart (x .tasks)) (releasePart (x .releases) ++ (3 ∷ [])),
       length-append (releasePart (x .releases)) (3 ∷ []),
-      length-task-part (x .tasks),
+      length-task-part (x .charge) (x .tasks),
       length-release-part (x .releases),
     )
 
@@ -188,18 +192,18 @@ written-step
     : (n : ℕ) (s : State) (at : ℕ) (f : List ℕ) (x : File) (r : Record) (t : Step) → recordOf f ≡ r → advance s r ≡ t → Moves s r t → Bytes f
     → readFrom (suc n) s at f ≡ answered x → ((s′ : State) → readFrom n s′ (at + sizeOf r) (drop (sizeOf r) f) ≡ answered x → encode x ≡ partOf s′ ++ drop (sizeOf r) f)
     → encode x ≡ partOf s ++ f
-unfolding recordBytes
+unfolding recordBytes sizeOf
 written-step n s at f x r t d a (stops q k) b e ih =
     absurd (never-answered _ x (sym (read-stop n s at f r d k a) ∙ e))
 written-step n s at f x r t d a (takes-charge c z g l h) b e ih =
-    follows s (withCharge s c) f r x (part-charge s c z g l h) (bytes-read f r (rw d at (shape f)) b (λ j i. let w : _≡_ {A = ℕ} 0 1 = cc in omega arith))
+    follows s (withCharge s c) f r x (part-charge s c z g l h) (bytes-read f r (rw d at (shape f)) b (omega arith))
     (ih _ (sym (read-next n s at f r d _ a) ∙ e))
 written-step n s at f x r t d a (takes-task t′ z l g k) b e ih =
-    follows s (withTask s t′) f r x (part-task s t′ z) (bytes-read f r (rw d at (shape f)) b (λ j i. let w : _≡_ {A = ℕ} 0 1 = cc in omega arith))
+    follows s (withTask s t′) f r x (part-task s t′ z) (bytes-read f r (rw d at (shape f)) b (omega arith))
     (ih _ (sym (read-next n s at f r d _ a) ∙ e))
 written-step n s at f x r t d a (takes-release w r′ l g m) b e ih =
     follows s (withRelease s r′) f r x (part-release s w r′ (kind-written (sheetWith (s .charge) (s .tasks)) (s .before) r′ w g))
-    (bytes-read f r (rw d at (shape f)) b (λ j i. let w : _≡_ {A = ℕ} 0 1 = cc in omega arith))
+    (bytes-read f r (rw d at (shape f)) b (omega arith))
     (ih _ (sym (read-next n s at f r d _ a) ∙ e))
 written-step n s at f x r t d a (ends l) b e ih =
     let g = after-end s _ _ x (sym (read-last n s at f r d a) ∙ e) in
@@ -207,7 +211,7 @@ written-step n s at f x r t d a (ends l) b e ih =
     ∙ encode-parts (record { charge = s .charge; tasks = s .tasks; releases = s .releases })
     ∙ ap (λ y. chargePart (s .charge) ++ y) (sym (append-assoc (taskPart (s .tasks)) (releasePart (s .releases)) (3 ∷ [])))
     ∙ sym (append-assoc (chargePart (s .charge)) (restOf s) (3 ∷ []))
-    ∙ ap (λ y. partOf s ++ y) (ap (λ y. 3 ∷ y) (sym (g .0)) ∙ bytes-read f r (rw d at (shape f)) b (λ j i. let w : _≡_ {A = ℕ} 0 1 = cc in omega arith))
+    ∙ ap (λ y. partOf s ++ y) (ap (λ y. 3 ∷ y) (sym (g .0)) ∙ bytes-read f r (rw d at (shape f)) b (omega arith))
 
 written : (n : ℕ) (s : State) (at : ℕ) (f : List ℕ) (x : File) → Bytes f → readFrom n s at f ≡ answered x → encode x ≡ partOf s ++ f
 unfolding readBy
@@ -240,8 +244,8 @@ AllRanged l = (i : ℕ) → i < length l → Ranged (getD l i noTask)
 abbrev pub AllLoaded : ℕ → List Task → Type 0
 AllLoaded c l = (i : ℕ) → i < length l → Loaded c (getD l i noTask)
 
-drop-task : (t : Task) (m : List ℕ) → drop 17 (taskBytes t ++ m) ≡ m
-drop-task t m = drop-at (taskBytes t) m 17 (length-task t)
+drop-task : (t : Task) (m : List ℕ) → drop (taskSize (t .low)) (taskBytes t ++ m) ≡ m
+drop-task t m = drop-at (taskBytes t) m (taskSize (t .low)) (length-task t)
 
 drop-release : (w : Width) (r : Release) (m : List ℕ) → drop (releaseSize w) (releaseBytes w r ++ m) ≡ m
 drop-release w r m = drop-at (releaseBytes w r) m (releaseSize w) (length-release w r)
@@ -258,27 +262,29 @@ reads-charge c n at m l h =
 -- tasks that are written are read
 reads-task
     : (t : Task) (n c : ℕ) (ts : List Task) (at : ℕ) (m : List ℕ) → Ranged t → Loaded c t → length ts < maxTasks
-    → readFrom (suc n) (tasksWith c ts) at (taskBytes t ++ m) ≡ readFrom n (tasksWith c (ts ++ (t ∷ []))) (at + 17) m
+    → readFrom (suc n) (tasksWith c ts) at (taskBytes t ++ m) ≡ readFrom n (tasksWith c (ts ++ (t ∷ []))) (at + taskSize (t .low)) m
 unfolding sizeOf
 reads-task t n c ts at m h g l =
     read-next n (tasksWith c ts) at (taskBytes t ++ m) (taskRecord t) (task-read t m (ranged-fits t h)) (tasksWith c (ts ++ (t ∷ [])))
     (task-taken (tasksWith c ts) t (task-numbers _ _ _ t refl l ∙ entry-fine _ _ _ _ _ (in-range-yes _ _ _ _ h) g))
-    ∙ ap (readFrom n (tasksWith c (ts ++ (t ∷ []))) (at + 17)) (drop-task t m)
+    ∙ ap (readFrom n (tasksWith c (ts ++ (t ∷ []))) (at + taskSize (t .low))) (drop-task t m)
 
 reads-tasks
     : (l : List Task) (n c : ℕ) (ts : List Task) (at : ℕ) (m : List ℕ) → AllRanged l → AllLoaded c l → length ts + length l ≤ maxTasks
-    → readFrom (length l + n) (tasksWith c ts) at (taskPart l ++ m) ≡ readFrom n (tasksWith c (ts ++ l)) (at + 17 * length l) m
+    → readFrom (length l + n) (tasksWith c ts) at (taskPart l ++ m) ≡ readFrom n (tasksWith c (ts ++ l)) (at + length (taskPart l)) m
 unfolding joined recordBytes
 reads-tasks [] n c ts at m h g d =
     let e : 0 + n ≡ n = omega arith in
-    let a : at + 17 * 0 ≡ at = omega arith in
+    let a : at + 0 ≡ at = omega arith in
     rw (e, a, append-nil)
 reads-tasks (t ∷ l) n c ts at m h g d =
     let e : suc (length l) + n ≡ suc (length l + n) = omega arith in
-    let a : at + 17 + 17 * length l ≡ at + 17 * suc (length l) = omega arith in
+    let a : at + taskSize (t .low) + length (taskPart l) ≡ at + length (taskBytes t ++ taskPart l) = omega
+    (arith, length-append (taskBytes t) (taskPart l), length-task t) in
     ap₂ (λ k f. readFrom k (tasksWith c ts) at f) e (append-assoc (taskBytes t) (taskPart l) m)
     ∙ reads-task t (length l + n) c ts at (taskPart l ++ m) (h 0 (omega arith)) (g 0 (omega arith)) (omega arith)
-    ∙ reads-tasks l n c (ts ++ (t ∷ [])) (at + 17) m (λ i k. h (suc i) (omega arith)) (λ i k. g (suc i) (omega arith)) (omega (arith, length-append ts (t ∷ [])))
+    ∙ reads-tasks l n c (ts ++ (t ∷ [])) (at + taskSize (t .low)) m (λ i k. h (suc i) (omega arith)) (λ i k. g (suc i) (omega arith))
+    (omega (arith, length-append ts (t ∷ [])))
     ∙ ap₂ (λ q k. readFrom n (tasksWith c q) k m) (append-snoc ts t l) a
 
 -- releases that are written are read
@@ -342,7 +348,7 @@ reads-rest x n at h =
     let v = valid-of (sheetIn x) (h .tasks) in
     let c : length (x .tasks) ≤ maxTasks = v .few-tasks in
     reads-tasks (x .tasks) (length (x .releases) + suc n) (x .charge) [] at (releasePart (x .releases) ++ (3 ∷ [])) (v .in-range) (v .carried) (omega arith)
-    ∙ reads-releases (x .releases) (suc n) (x .charge) (x .tasks) [] 0 0 (at + 17 * length (x .tasks)) (3 ∷ []) x v (h .releases) (omega (arith, h .few))
+    ∙ reads-releases (x .releases) (suc n) (x .charge) (x .tasks) [] 0 0 (at + length (taskPart (x .tasks))) (3 ∷ []) x v (h .releases) (omega (arith, h .few))
     (λ b k. reads-end n (x .charge) (x .tasks) (x .releases) b k (v .some-task))
 
 -- what is written is read again
@@ -351,7 +357,7 @@ unfolding decode
 decode-encode x y h = by-charge (x .charge) without with-charge
   where
     left : ℕ
-    left = 16 * length (x .tasks) + (listBytes (x .releases) - length (x .releases)) + 1
+    left = (tasksBytes (sheetIn x) (length (x .tasks)) - length (x .tasks)) + (listBytes (x .releases) - length (x .releases)) + 1
 
     rest : List ℕ
     rest = taskPart (x .tasks) ++ (releasePart (x .releases) ++ (3 ∷ []))
@@ -359,7 +365,7 @@ decode-encode x y h = by-charge (x .charge) without with-charge
     without : x .charge ≡ 0 → readFrom (suc (length (encode x))) empty 0 (encode x) ≡ answered x
     without z =
         let e : suc (length (encode x)) ≡ length (x .tasks) + (length (x .releases) + suc left) = omega
-        (arith, length-encode x, list-low (x .releases), ap chargeBytes z, no-charge-bytes) in
+        (arith, length-encode x, list-low (x .releases), tasks-bytes-low (sheetIn x) (length (x .tasks)), ap chargeBytes z, no-charge-bytes) in
         ap₂ (λ k f. readFrom k empty 0 f) e (encode-parts x ∙ ap (λ a. chargePart a ++ rest) z ∙ ap (λ a. a ++ rest) no-charge-part)
         ∙ ap (λ a. readFrom (length (x .tasks) + (length (x .releases) + suc left)) (tasksWith a []) 0 rest) (sym z)
         ∙ reads-rest x left 0 h
@@ -367,7 +373,7 @@ decode-encode x y h = by-charge (x .charge) without with-charge
     with-charge : 1 ≤ x .charge → readFrom (suc (length (encode x))) empty 0 (encode x) ≡ answered x
     with-charge l =
         let e : suc (length (encode x)) ≡ suc (length (x .tasks) + (length (x .releases) + suc (suc left))) = omega
-        (arith, length-encode x, list-low (x .releases), some-charge-bytes (x .charge) l) in
+        (arith, length-encode x, list-low (x .releases), tasks-bytes-low (sheetIn x) (length (x .tasks)), some-charge-bytes (x .charge) l) in
         ap₂ (λ k f. readFrom k empty 0 f) e (encode-parts x ∙ ap (λ a. a ++ rest) (some-charge-part (x .charge) l))
         ∙ reads-charge (x .charge) _ 0 rest l y
         ∙ reads-rest x (suc left) 2 h
@@ -494,7 +500,7 @@ decode-charge f x b e = byte-from (suc (length f)) empty 0 f x b (omega arith) e
 -- how long records are, and so an accepted file
 pub record-sizes : RecordSizes
 unfolding recordBytes
-record-sizes c t r = (length-charge c, length-task t, length-release short r, length-release long r)
+record-sizes c t r = (length-charge c, λ e. length-task t ∙ ap taskSize e, λ e. length-task t ∙ ap taskSize e, length-release short r, length-release long r)
 
 pub decode-short : ReadIsShort
 decode-short f x b e =
@@ -504,6 +510,7 @@ decode-short f x b e =
       ap length (encode-decode f x b e),
       length-encode x,
       charge-bytes-high (x .charge),
+      tasks-bytes-high (sheetIn x) (length (x .tasks)),
       list-high (x .releases),
       v .few,
       valid-of (sheetIn x) (v .tasks) .few-tasks,

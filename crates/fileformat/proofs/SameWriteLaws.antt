@@ -15,8 +15,9 @@ use Rattle.model.proofs.SameAnswers.{refusal-same, answer-same, column-same}
 use Rattle.taskset.specs.declared.TaskSet.{TaskSet}
 use Rattle.taskset.specs.TaskSet.{noTask, viewOf}
 use Rattle.fileformat.specs.File.{encode}
-use Rattle.fileformat.specs.FileCalls.{tasksIn, bytesNeeded, writeInputs, fileOf}
+use Rattle.fileformat.specs.FileCalls.{tasksIn, writeInputs, fileOf}
 use Rattle.fileformat.specs.SameWrites.{SameWrites}
+use Rattle.fileformat.proofs.TaskSizeLaws.{bytes-needed-same}
 use Rattle.fileformat.proofs.RoundTripCalls.{covers}
 
 module _ (s s′ : TaskSet) (same : SameTasks (viewOf s) (viewOf s′)) where
@@ -27,15 +28,15 @@ module _ (s s′ : TaskSet) (same : SameTasks (viewOf s) (viewOf s′)) where
       (λ i l.
       let b : i < s .count = omega (arith, length-take-le (s .count) (s .tasks) h) in
       getD-take (s .count) (s .tasks) i noTask b
-      ∙ (λ x. record { period = same .period i b x; jitter = same .jitter i b x; cost = same .cost i b x; deadline = same .deadline i b x })
+      ∙ (λ x. record { period = same .period i b x; jitter = same .jitter i b x; cost = same .cost i b x; deadline = same .deadline i b x; low = same .low i b x })
       ∙ sym (getD-take (s′ .count) (s′ .tasks) i noTask (omega (arith, same .count))))
 
   module _ (n : ℕ) (task tick cost out : List ℕ) where
     refused-alike : refusalOf (writeInputs (viewOf s) n task tick cost (length out)) ≡ refusalOf (writeInputs (viewOf s′) n task tick cost (length out))
     refused-alike =
         refusal-same (viewOf s) (viewOf s′) same none (some n) _ _ none (releasesOf n task tick cost) none none
-        (ap₂ (λ S c. lends n task ∷ lends n tick ∷ lends n cost ∷ record { needed = bytesNeeded S c (releasesOf n task tick cost); slots = length out } ∷ []) (same .charge)
-        (same .count))
+        (ap (λ b. lends n task ∷ lends n tick ∷ lends n cost ∷ record { needed = b; slots = length out } ∷ [])
+        (bytes-needed-same (viewOf s) (viewOf s′) same (releasesOf n task tick cost)))
         refl
 
     -- a set that is not refused has an entry for each of its tasks

@@ -44,6 +44,7 @@ module _ (s : TaskSet) (h : s .count ≤ length (s .tasks)) where
         jitter = λ i l. ap (λ t. t .jitter) (sym (getD-take (s .count) (s .tasks) i noTask l));
         cost = λ i l. ap (λ t. t .cost) (sym (getD-take (s .count) (s .tasks) i noTask l));
         deadline = λ i l. ap (λ t. t .deadline) (sym (getD-take (s .count) (s .tasks) i noTask l));
+        low = λ i l. ap (λ t. t .low) (sym (getD-take (s .count) (s .tasks) i noTask l));
         charge = refl;
       }
 

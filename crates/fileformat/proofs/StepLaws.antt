@@ -15,8 +15,9 @@ use Rattle.model.specs.Refusal.{refused}
 use Rattle.model.specs.Checks.{entryFault, releaseFault}
 use Rattle.model.proofs.CheckLaws.{entry-of}
 use Rattle.taskset.specs.declared.Task.{Task}
-use Rattle.fileformat.specs.Records.{Width, Record, broken, taskRecord, releaseRecord, chargeRecord, endRecord, recordOf, sizeOf}
-use Rattle.fileformat.specs.File.{State, Step, stop, next, last, sheetWith, chargeFault, taskFault, lowTick, highTick, listFault, endFault, withCharge, withTask, withRelease, unless, advance, afterEnd, readBy, readFrom}
+use Rattle.fileformat.specs.Records.{Width, Record, broken, wrongMark, taskRecord, releaseRecord, chargeRecord, endRecord, recordOf, sizeOf}
+use Rattle.fileformat.specs.File.{State, Step, stop, next, last, sheetWith, chargeFault, taskFault, markFault, lowTick, highTick, listFault, endFault}
+use Rattle.fileformat.specs.File.{withCharge, withTask, withRelease, unless, advance, afterEnd, readBy, readFrom}
 
 -- P, J, E and D of a task are within their limits
 abbrev pub Ranged : Task → Type 0
@@ -119,6 +120,20 @@ task-same charge tasks releases t u e = go (ltb 0 releases) (leb maxTasks tasks)
     go false true p q = rw (taskFault, p, q)
     go false false p q = rw (taskFault, p, q, e)
 
+-- with a wrong mark: 3, 4 or 6
+module _ (tasks releases : ℕ) where
+  pub mark-after : 0 < releases → markFault tasks releases ≡ 3
+  unfolding markFault
+  mark-after h = rw (markFault, lt-ltb 0 releases h)
+
+  pub mark-over : releases ≡ 0 → maxTasks ≤ tasks → markFault tasks releases ≡ 4
+  unfolding markFault
+  mark-over z h = rw (markFault, le-ltb 0 releases (omega arith), le-leb maxTasks tasks h)
+
+  pub mark-alone : releases ≡ 0 → tasks < maxTasks → markFault tasks releases ≡ 6
+  unfolding markFault
+  mark-alone z l = rw (markFault, le-ltb 0 releases (omega arith), lt-leb maxTasks tasks l)
+
 module _ (s : Tasks) (releases before : ℕ) (w : Width) (r : Release) where
   pub list-early : s .count ≡ 0 → listFault s releases before w r ≡ some 5
   unfolding listFault
@@ -149,6 +164,10 @@ module _ (s : State) where
   pub broken-stops : (n : ℕ) → advance s (broken n) ≡ stop n
   unfolding advance
   broken-stops n = refl
+
+  pub mark-stops : advance s wrongMark ≡ stop (markFault (length (s .tasks)) (length (s .releases)))
+  unfolding advance
+  mark-stops = refl
 
   pub charge-stops : (c n : ℕ) → chargeFault (s .charge) (length (s .tasks)) (length (s .releases)) c ≡ some n → advance s (chargeRecord c) ≡ stop n
   unfolding advance unless
@@ -261,6 +280,7 @@ end-moves s = early (ltb 0 (length (s .tasks))) refl
 
 pub moves : (s : State) (r : Record) → Moves s r (advance s r)
 moves s (broken n) = rw (broken-stops s n) (stops _ n)
+moves s wrongMark = rw (mark-stops s) (stops _ _)
 moves s (taskRecord t) = task-moves s t
 moves s (releaseRecord w r) = release-moves s w r
 moves s (chargeRecord c) = charge-moves s c

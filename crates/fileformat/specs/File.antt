@@ -13,7 +13,8 @@ use Rattle.model.specs.Refusal.{Answer, refused, answered}
 use Rattle.model.specs.Checks.{entryFault, releaseFault, checkTasks, checkReleases}
 use Rattle.taskset.specs.declared.Task.{Task}
 use Rattle.taskset.specs.TaskSet.{noTask}
-use Rattle.fileformat.specs.Records.{Width, short, long, Record, broken, taskRecord, releaseRecord, chargeRecord, endRecord, recordOf, recordBytes, sizeOf, writtenRecord}
+use Rattle.fileformat.specs.Records.{Width, short, long, Record, broken, wrongMark, taskRecord, releaseRecord, chargeRecord, endRecord}
+use Rattle.fileformat.specs.Records.{recordOf, recordBytes, sizeOf, writtenRecord}
 
 -- what a file holds; a charge of 0 where it has none
 pub record File : Type 0 where
@@ -29,6 +30,7 @@ sheetWith c l = record {
   jitter = λ i. getD l i noTask .jitter;
   cost = λ i. getD l i noTask .cost;
   deadline = λ i. getD l i noTask .deadline;
+  low = λ i. getD l i noTask .low;
   charge = c;
 }
 
@@ -87,6 +89,10 @@ taskFault charge tasks releases t =
           ]
     ]
 
+-- with a kind 6 record whose last byte is not 0, the lower number first: 3, after a release; 4, over 32 tasks; 6
+unfoldable pub markFault : ℕ → ℕ → ℕ
+markFault tasks releases = elim (ltb 0 releases) [ true ↦ 3 | false ↦ elim (leb maxTasks tasks) [ true ↦ 4 | false ↦ 6 ] ]
+
 -- the ticks that a release record may have, the tick before being given: "the reader refuses with 8 a kind 2 above [1,000,000,000] and a kind 4 up to it"
 abbrev pub lowTick : Width → ℕ → ℕ
 lowTick short before = before
@@ -129,6 +135,7 @@ unless (some n) t = stop n
 -- "within a record the lower number" decides
 unfoldable pub advance : State → Record → Step
 advance s (broken n) = stop n
+advance s wrongMark = stop (markFault (length (s .tasks)) (length (s .releases)))
 advance s (taskRecord t) = unless (taskFault (s .charge) (length (s .tasks)) (length (s .releases)) t) (next (withTask s t))
 advance s (releaseRecord w r) = unless (listFault (sheetWith (s .charge) (s .tasks)) (length (s .releases)) (s .before) w r) (next (withRelease s r))
 advance s (chargeRecord c) = unless (chargeFault (s .charge) (length (s .tasks)) (length (s .releases)) c) (next (withCharge s c))

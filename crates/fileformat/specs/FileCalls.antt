@@ -1,10 +1,11 @@
 -- The calls "read" and "write": what each answers, as one equation with the definitions.
-use Prim.Native.Nat.{ℕ, _+_, _*_, _-_}
+use Prim.Native.Nat.{ℕ, _+_, _-_}
 use mathlib.Core.Bool.{true, false}
 use mathlib.Core.Option.{some, none}
 use mathlib.Core.List.{List, [], _∷_, _++_, map}
 use lib.Dec.{eqb}
 use lib.ListN.{length, take, replicate}
+use Rattle.model.specs.Series.{sum}
 use Rattle.model.specs.Limits.{maxTasks}
 use Rattle.model.specs.Tasks.{Tasks, Release}
 use Rattle.model.specs.Refusal.{Answer, refused, answered}
@@ -13,7 +14,7 @@ use Rattle.model.specs.Calls.{lends, releasesOf, columnAfter}
 use Rattle.taskset.specs.declared.Task.{Task}
 use Rattle.taskset.specs.declared.TaskSet.{TaskSet}
 use Rattle.taskset.specs.TaskSet.{noTask}
-use Rattle.fileformat.specs.Records.{releaseSize, widthFor}
+use Rattle.fileformat.specs.Records.{taskSize, releaseSize, widthFor}
 use Rattle.fileformat.specs.File.{File, decode}
 
 -- the tasks of a task set; entries past the count are not looked at
@@ -64,16 +65,24 @@ listBytes (r ∷ l) = releaseSize (widthFor (r .tick)) + listBytes l
 unfoldable pub chargeBytes : ℕ → ℕ
 chargeBytes c = elim (eqb c 0) [ true ↦ 0 | false ↦ 2 ]
 
--- write: a sheet, a list of n releases in three columns, and room for bytes, of which those of the charge, 17 for each task, those of the releases and 1 are needed
-unfoldable pub bytesNeeded : ℕ → ℕ → List Release → ℕ
-bytesNeeded charge tasks l = chargeBytes charge + 17 * tasks + listBytes l + 1
+-- the bytes of the first n tasks of a sheet: 17 for each high one, 18 for each low one
+unfoldable pub tasksBytes : Tasks → ℕ → ℕ
+tasksBytes s n = sum (λ i. taskSize (s .low i)) n
+
+-- those of the whole sheet, its charge and its tasks
+abbrev pub sheetBytes : Tasks → ℕ
+sheetBytes s = chargeBytes (s .charge) + tasksBytes s (s .count)
+
+-- write: a sheet, a list of n releases in three columns, and room for bytes, of which those of the sheet, those of the releases and 1 are needed
+unfoldable pub bytesNeeded : Tasks → List Release → ℕ
+bytesNeeded s l = sheetBytes s + listBytes l + 1
 
 abbrev pub writeInputs : Tasks → ℕ → List ℕ → List ℕ → List ℕ → ℕ → Inputs
 writeInputs s n task tick cost room = record {
   tasks = s;
   single = none;
   count = some n;
-  lent = lends n task ∷ lends n tick ∷ lends n cost ∷ record { needed = bytesNeeded (s .charge) (s .count) (releasesOf n task tick cost); slots = room } ∷ [];
+  lent = lends n task ∷ lends n tick ∷ lends n cost ∷ record { needed = bytesNeeded s (releasesOf n task tick cost); slots = room } ∷ [];
   kept = none;
   releases = releasesOf n task tick cost;
   unfit = none;

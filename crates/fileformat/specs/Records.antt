@@ -28,17 +28,39 @@ abbrev pub tickBytes : Width → ℕ
 tickBytes short = 4
 tickBytes long = 8
 
--- a record, or what is wrong with it: 1, no such kind; 2, the file ends inside the record or where a kind is due
+-- how a task record holds the task's mark (document 02, R-9): "a kind 1 task is high"; "a kind 6 record is kind 1 with a last byte, 0 for low"
+abbrev pub taskKind : Bool → ℕ
+taskKind true = 6
+taskKind false = 1
+
+abbrev pub markBytes : Bool → List ℕ
+markBytes true = 0 ∷ []
+markBytes false = []
+
+-- the bytes of its body, 17 where the task is low, else 16, and of the record
+abbrev pub taskBody : Bool → ℕ
+taskBody true = 17
+taskBody false = 16
+
+abbrev pub taskSize : Bool → ℕ
+taskSize low = suc (taskBody low)
+
+-- a record, or what is wrong with it: 1, no such kind; 2, the file ends inside the record or where a kind is due; or that the last byte of a kind 6 record is not 0
 pub data Record : Type 0 where
   broken : ℕ → Record
+  wrongMark : Record
   taskRecord : Task → Record
   releaseRecord : Width → Release → Record
   chargeRecord : ℕ → Record
   endRecord : Record
 
--- "kind 1, task: P, J, E, D, four bytes each"
-unfoldable pub taskFrom : List ℕ → Task
-taskFrom l = record { period = field 0 4 l; jitter = field 4 4 l; cost = field 8 4 l; deadline = field 12 4 l }
+-- "kind 1, task: P, J, E, D, four bytes each"; of kind 6 the task is low
+unfoldable pub taskFrom : Bool → List ℕ → Task
+taskFrom low l = record { period = field 0 4 l; jitter = field 4 4 l; cost = field 8 4 l; deadline = field 12 4 l; low = low }
+
+-- a kind 6 record by its last byte: a low task where it is 0
+unfoldable pub markedFrom : List ℕ → Record
+markedFrom l = elim (eqb (field 16 1 l) 0) [ true ↦ taskRecord (taskFrom true l) | false ↦ wrongMark ]
 
 -- "kind 2, release: task number, one byte; tick, four; cost, four"; of kind 4 the tick has eight
 unfoldable pub releaseFrom : Width → List ℕ → Release
@@ -61,7 +83,7 @@ unfoldable pub recordOf : List ℕ → Record
 recordOf [] = broken 2
 recordOf (k ∷ l) =
     elim (eqb k 1) [
-      | true ↦ whole 16 l (taskRecord (taskFrom l))
+      | true ↦ whole (taskBody false) l (taskRecord (taskFrom false l))
       | false ↦
           elim (eqb k 2) [
             | true ↦ whole (bodySize short) l (releaseRecord short (releaseFrom short l))
@@ -71,33 +93,40 @@ recordOf (k ∷ l) =
                   | false ↦
                       elim (eqb k 4) [
                         | true ↦ whole (bodySize long) l (releaseRecord long (releaseFrom long l))
-                        | false ↦ elim (eqb k 5) [ true ↦ whole 1 l (chargeRecord (chargeFrom l)) | false ↦ broken 1 ]
+                        | false ↦
+                            elim (eqb k 5) [
+                              | true ↦ whole 1 l (chargeRecord (chargeFrom l))
+                              | false ↦ elim (eqb k 6) [ true ↦ whole (taskBody true) l (markedFrom l) | false ↦ broken 1 ]
+                            ]
                       ]
                 ]
           ]
     ]
 
--- the bytes of a record
+-- the bytes of a record; "the writer uses kind 6 for low tasks only"
 unfoldable pub taskBytes : Task → List ℕ
-taskBytes t = 1 ∷ (bytesOf 4 (t .period) ++ (bytesOf 4 (t .jitter) ++ (bytesOf 4 (t .cost) ++ bytesOf 4 (t .deadline))))
+taskBytes t =
+    taskKind (t .low) ∷ (bytesOf 4 (t .period) ++ (bytesOf 4 (t .jitter) ++ (bytesOf 4 (t .cost) ++ (bytesOf 4 (t .deadline) ++ markBytes (t .low)))))
 
 unfoldable pub releaseBytes : Width → Release → List ℕ
 releaseBytes w r = kindOf w ∷ (bytesOf 1 (r .task) ++ (bytesOf (tickBytes w) (r .tick) ++ bytesOf 4 (r .cost)))
 
 unfoldable pub recordBytes : Record → List ℕ
 recordBytes (broken n) = []
+recordBytes wrongMark = []
 recordBytes (taskRecord t) = taskBytes t
 recordBytes (releaseRecord w r) = releaseBytes w r
 recordBytes (chargeRecord c) = 5 ∷ bytesOf 1 c
 recordBytes endRecord = 3 ∷ []
 
--- how many they are: of a release 10 or 14
+-- how many they are: of a task 17 or 18, of a release 10 or 14
 abbrev pub releaseSize : Width → ℕ
 releaseSize w = suc (bodySize w)
 
 unfoldable pub sizeOf : Record → ℕ
 sizeOf (broken n) = 0
-sizeOf (taskRecord t) = 17
+sizeOf wrongMark = 0
+sizeOf (taskRecord t) = taskSize (t .low)
 sizeOf (releaseRecord w r) = releaseSize w
 sizeOf (chargeRecord c) = 2
 sizeOf endRecord = 1

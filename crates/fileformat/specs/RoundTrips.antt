@@ -2,6 +2,7 @@
 -- proofs/RoundTripCalls.antt prove them under the names given here.
 use Prim.Native.Nat.{ℕ, _≤_}
 use mathlib.Core.Path.{_≡_}
+use mathlib.Core.Bool.{true, false}
 use mathlib.Core.Option.{none}
 use mathlib.Core.List.{List, _++_, map}
 use lib.ListN.{length, take}
@@ -38,19 +39,21 @@ ReadIsValid = (f : List ℕ) (x : File) → decode f ≡ answered x → ValidFil
 abbrev pub ReadIsByte : Type 0
 ReadIsByte = (f : List ℕ) (x : File) → Bytes f → decode f ≡ answered x → IsByte (x .charge)
 
--- `record-sizes`: a charge has 2 bytes, a task 17, a release of kind 2 has 10 and one of kind 4 has 14
+-- `record-sizes`: a charge has 2 bytes, a high task 17, a low one 18, a release of kind 2 has 10 and one of kind 4 has 14
 abbrev pub RecordSizes : Type 0
 RecordSizes =
-    (c : ℕ) (t : Task) (r : Release) → (length (recordBytes (chargeRecord c)) ≡ 2) × (length (recordBytes (taskRecord t)) ≡ 17) × (length (recordBytes (releaseRecord short r)) ≡ 10)
+    (c : ℕ) (t : Task) (r : Release) → (length (recordBytes (chargeRecord c)) ≡ 2) × (t .low ≡ false → length (recordBytes (taskRecord t)) ≡ 17)
+    × (t .low ≡ true → length (recordBytes (taskRecord t)) ≡ 18)
+    × (length (recordBytes (releaseRecord short r)) ≡ 10)
     × (length (recordBytes (releaseRecord long r)) ≡ 14)
 
--- `decode-short`: an accepted file has at most 14,883 bytes: a charge of 2, 32 tasks of 17, 1,024 releases of 14, and the end
+-- `decode-short`: an accepted file has at most 14,915 bytes: a charge of 2, 32 tasks of 18, 1,024 releases of 14, and the end
 abbrev pub ReadIsShort : Type 0
-ReadIsShort = (f : List ℕ) (x : File) → Bytes f → decode f ≡ answered x → length f ≤ 14883
+ReadIsShort = (f : List ℕ) (x : File) → Bytes f → decode f ≡ answered x → length f ≤ 14915
 
--- the bytes that decide a read: a charge of 2, 32 tasks of 17, 1,024 releases of 14, and one more record of 17
+-- the bytes that decide a read: a charge of 2, 32 tasks of 18, 1,024 releases of 14, and one more record of 18
 abbrev pub decidingBytes : ℕ
-decidingBytes = 14899
+decidingBytes = 14932
 
 -- `decode-first`: so many of the first bytes decide what a file answers
 abbrev pub FirstBytesDecide : Type 0

@@ -10,11 +10,11 @@ use Rattle.model.specs.Limits.{maxTick}
 use Rattle.model.specs.Tasks.{Tasks, Release, releaseAt, Valid}
 use Rattle.model.specs.Legality.{firstClose}
 use Rattle.model.specs.Evaluations.{Judged, judged}
-use Rattle.model.specs.Choice.{column, chosen, choice}
+use Rattle.model.specs.Choice.{column, chosen, Scope, scope, choice}
 use Rattle.model.specs.Claims.{Trace, Missed, Demand3}
 use Rattle.model.specs.Refusal.{answered}
 use Rattle.model.specs.Checks.{refusalOf}
-use Rattle.model.specs.Calls.{releasesOf, verdictCall, choiceInputs, runInputs}
+use Rattle.model.specs.Calls.{releasesOf, verdictCall, choiceCall, runInputs}
 use Rattle.guarantee.specs.ChoiceSafe.{Safe}
 
 -- an answered verdict is the verdict defined, with the number of its evaluations, and demand 3 holds with the kept jitters given
@@ -27,16 +27,17 @@ VerdictAnswers =
 abbrev pub MissedLegal : Type 0
 MissedLegal = (s : Tasks) (k : ℕ → ℕ) (i : ℕ) (d : Missed s k i) → firstClose s (d .list) ≡ none
 
--- a choice that succeeds, and what it is worth
-pub record SafeChoice (s : Tasks) : Type 0 where
+-- a choice that succeeds, which of the two it is, and what it is worth
+pub record SafeChoice (c : Scope) (s : Tasks) : Type 0 where
   pub kept : List ℕ
   pub worst : List ℤ
+  pub told : scope s ≡ c
   pub is : choice s ≡ chosen kept worst
-  pub safe : Safe s kept
+  pub safe : Safe c s kept worst
 
--- a choice that is not refused is safe
+-- a choice that is answered is the one told, and safe
 abbrev pub ChoiceAnswers : Type 0
-ChoiceAnswers = (s : Tasks) (kept worst : List ℕ) → refusalOf (choiceInputs s kept worst) ≡ none → SafeChoice s
+ChoiceAnswers = (s : Tasks) (kept worst : List ℕ) (c : Scope) → choiceCall s kept worst ≡ answered c → SafeChoice c s
 
 -- what demand 3 asks of a sheet, kept jitters and a list, and what it says of every task
 pub record RunHolds (s : Tasks) (k : ℕ → ℕ) (l : List Release) : Type 0 where

@@ -109,6 +109,11 @@ starts-with c (b ∷ l) e = go (eqb b lineFeed) refl (starts-with (c ++ (b ∷ [
           is = line-stays c b l f ∙ h .is ∙ ap (λ x. record { bytes = x; ended = h .ended } ∷ h .more) (append-snoc c b (h .rest));
         }
 
+-- the task of four fields is not changed by the cut, where it has no fault
+uncut-fields : (n : ℕ) (fields : List (List ℕ)) → taskFault 0 n 0 (taskOf fields) ≡ none → cutAt cap (taskOf fields) ≡ taskOf fields
+unfolding taskOf
+uncut-fields n fields g = uncut cap (omega arith) n (taskOf fields) g
+
 -- what the lines from here on say, for what follows
 abbrev Rest : List ℕ → Type 0
 Rest r =
@@ -141,7 +146,7 @@ module _ (r : List ℕ) (ih : Rest r) (ts : List Task) (m : LineSoFar) (p : List
       rw (after, a) (stopped-says (setOf ts) m k (length ts) r _ (load-stop ts line (linesFrom [] r) k (four-fault f (some k) g)))
   on-task t f e none g =
       let a : taskFault 0 (length ts) 0 t ≡ none = ap (taskFault 0 (length ts) 0) e ∙ same-fault cap (omega arith) (length ts) (taskOf (fieldsOf p)) ∙ g in
-      let u : t ≡ taskOf (fieldsOf p) = e ∙ uncut cap (omega arith) (length ts) (taskOf (fieldsOf p)) g in
+      let u : t ≡ taskOf (fieldsOf p) = e ∙ uncut-fields (length ts) (fieldsOf p) g in
       let few = task-few 0 (length ts) 0 (taskOf (fieldsOf p)) g in
       let s : pushed (going (setOf ts) m) t ≡ going (setOf (ts ++ (taskOf (fieldsOf p) ∷ []))) noLine =
       ap (λ q. going q noLine) (ap (λ x. record { tasks = set (setOf ts .tasks) (length ts) x; count = length ts + 1; charge = 0 }) u ∙ set-more ts (taskOf (fieldsOf p)) few) in

@@ -281,10 +281,11 @@ last-field : (m : LineSoFar) (p : List ℕ) (s : Seen m p) (i : ℕ) → i ≡ l
 last-field m p s i h =
     sym (getD-append-seam (s .done) (s .present) [] []) ∙ ap₂ (λ j x. getD x j []) (sym h) (sym (all-fields m p s))
 
--- a task of equal numbers
+-- a high task of equal numbers
 same-task
     : {a b c d a′ b′ c′ d′ : ℕ} → a ≡ a′ → b ≡ b′ → c ≡ c′ → d ≡ d′
-    → _≡_ {A = Task} (record { period = a; jitter = b; cost = c; deadline = d }) (record { period = a′; jitter = b′; cost = c′; deadline = d′ })
+    → _≡_ {A = Task} (record { period = a; jitter = b; cost = c; deadline = d; low = false })
+    (record { period = a′; jitter = b′; cost = c′; deadline = d′; low = false })
 same-task e f g h = rw (e, f, g, h)
 
 four-task : (m : LineSoFar) (p : List ℕ) (s : Seen m p) → m .digit ≡ true → m .commas ≡ 3 → taskSoFar m ≡ cutAt cap (taskOf (fieldsOf p))

@@ -44,9 +44,9 @@ withDigit m d = record {
 unfoldable pub withComma : LineSoFar → LineSoFar
 withComma m = record { commas = m .commas + 1; digit = false; value = 0; first = m .second; second = m .third; third = m .value }
 
--- the task of a line whose last number is the present one
+-- the task of a line whose last number is the present one; it is high
 abbrev pub taskSoFar : LineSoFar → Task
-taskSoFar m = record { period = m .first; jitter = m .second; cost = m .third; deadline = m .value }
+taskSoFar m = record { period = m .first; jitter = m .second; cost = m .third; deadline = m .value; low = false }
 
 -- a digit after a lone 0 makes a leading zero of it
 unfoldable pub afterZero : LineSoFar → Bool

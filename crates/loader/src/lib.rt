@@ -149,6 +149,7 @@ fn take_byte(m: LineSoFar, b: u8) -> Taken
         jitter: m.second,
         cost: m.third,
         deadline: m.value,
+        low: false,
     };
     Taken::Ends { task: task }
 }

@@ -3,15 +3,16 @@ use Prim.Native.Nat.{ℕ, zero, suc, _+_}
 use mathlib.Core.Path.{_≡_, refl, sym, ap, ap₂, _∙_}
 use mathlib.Core.Bool.{Bool, true, false, not}
 use mathlib.Core.Option.{Option, some, none}
-use mathlib.Core.List.{[], _∷_, _++_}
+use mathlib.Core.List.{List, [], _∷_, _++_}
 use native.Mathlib.Omega.{arith}
 use native.Mathlib.Nat.{add-zero}
+use lib.IntN.{pos}
 use lib.Dec.{ltb, eqb}
 use Rattle.model.specs.Search.{first}
 use Rattle.model.specs.Limits.{maxTasks}
 use Rattle.model.specs.Tasks.{Tasks, Valid, load}
 use Rattle.model.specs.Verdict.{verdict}
-use Rattle.model.specs.Choice.{Choice, unfit, chosen, andKeep, isFits, worstOf, leastKeep, choiceNext, choiceOf, choice}
+use Rattle.model.specs.Choice.{Choice, unfit, chosen, andKeep, isFits, worstOf, leastKeep, Scope, ordinary, high-only, judges, keepFor, worstFor, choiceNext, choiceOf, scopeAfter}
 use Rattle.model.specs.Refusal.{Refusal, refuse, firstOf}
 use Rattle.model.specs.Checks.{inRange, entryFault, faultOf, faultAt, isFault, refuseAt, refuseIf, refuseBy, checkEntries, checkTasks}
 use Rattle.model.specs.Charge.{oldCheckTasks, UnchargedIsChecked, UnchargedIsCost}
@@ -93,19 +94,35 @@ absorbed-verdict s k i = verdict-same (absorbed s) s k k i (absorbed-same s k i)
 pub absorbed-evaluations : AbsorbedIsCounted
 absorbed-evaluations s k i = evaluations-same (absorbed s) s k k i (absorbed-same s k i)
 
-next-same : (s : Tasks) (i : ℕ) (c : Choice) → choiceNext (absorbed s) i c ≡ choiceNext s i c
-unfolding choiceNext leastKeep
-next-same s i (unfit n) = refl
-next-same s i (chosen ks ws) = λ x.
-    elim (first (λ K. isFits (absorbed-verdict s (andKeep ks K) i x)) (suc (s .jitter i)) 0) [
-      | none ↦ unfit i
-      | some K ↦ chosen (ks ++ (K ∷ [])) (ws ++ (worstOf (absorbed-verdict s (andKeep ks K) i x) ∷ []))
-    ]
+judges-same : (c : Scope) (s : Tasks) (i : ℕ) → judges c (absorbed s) i ≡ judges c s i
+unfolding judges
+judges-same ordinary s i = refl
+judges-same high-only s i = refl
 
-choices-same : (s : Tasks) (n : ℕ) → choiceOf (absorbed s) n ≡ choiceOf s n
+least-same : (s : Tasks) (above : List ℕ) (i : ℕ) → leastKeep (absorbed s) above i ≡ leastKeep s above i
+unfolding leastKeep
+least-same s above i = λ x. first (λ K. isFits (absorbed-verdict s (andKeep above K) i x)) (suc (s .jitter i)) 0
+
+keep-same : (c : Scope) (s : Tasks) (above : List ℕ) (i : ℕ) → keepFor c (absorbed s) above i ≡ keepFor c s above i
+unfolding keepFor
+keep-same c s above i = λ x. elim (judges-same c s i x) [ true ↦ least-same s above i x | false ↦ some 0 ]
+
+worst-same : (c : Scope) (s : Tasks) (above : List ℕ) (K i : ℕ) → worstFor c (absorbed s) above K i ≡ worstFor c s above K i
+unfolding worstFor
+worst-same c s above K i = λ x. elim (judges-same c s i x) [ true ↦ worstOf (absorbed-verdict s (andKeep above K) i x) | false ↦ pos 0 ]
+
+next-same : (c : Scope) (s : Tasks) (i : ℕ) (r : Choice) → choiceNext c (absorbed s) i r ≡ choiceNext c s i r
+unfolding choiceNext
+next-same c s i (unfit n) = refl
+next-same c s i (chosen ks ws) = λ x.
+    elim (keep-same c s ks i x) [ none ↦ unfit i | some K ↦ chosen (ks ++ (K ∷ [])) (ws ++ (worst-same c s ks K i x ∷ [])) ]
+
+choices-same : (c : Scope) (s : Tasks) (n : ℕ) → choiceOf c (absorbed s) n ≡ choiceOf c s n
 unfolding choiceOf
-choices-same s zero = refl
-choices-same s (suc n) = ap (choiceNext (absorbed s) n) (choices-same s n) ∙ next-same s n (choiceOf s n)
+choices-same c s zero = refl
+choices-same c s (suc n) = ap (choiceNext c (absorbed s) n) (choices-same c s n) ∙ next-same c s n (choiceOf c s n)
 
 pub absorbed-choice : AbsorbedIsChosen
-absorbed-choice s = choices-same s (s .count)
+absorbed-choice s =
+    let e = choices-same ordinary s (s .count) in
+    (ap scopeAfter e, ap (λ r. choiceOf (scopeAfter r) (absorbed s) (s .count)) e ∙ choices-same (scopeAfter _) s (s .count))

@@ -11,6 +11,7 @@ pub mod SameVerdict
 pub mod TraceLaws
 pub mod OldListLaws
 pub mod ChargeLaws
+pub mod MarkLaws
 pub mod SameJobs
 pub mod ChargedRunLaws
 pub mod SameAnswers

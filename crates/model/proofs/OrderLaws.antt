@@ -141,6 +141,14 @@ module _ {A : Type 0} (c : Inputs) (a : A) where
       go none e = let f : answered a ≡ answered b = answers e ∙ h in (e, cc)
       go (some r) e = let f : refused r ≡ answered b = refuses r e ∙ h in let z : _≡_ {A = ℕ} 0 1 = cc in absurd (omega arith)
 
+  -- and one that refuses has that refusal
+  pub refused-of : (q : Refusal) → answerOf c a ≡ refused q → some q ≡ refusalOf c
+  refused-of q h = go (refusalOf c) refl
+    where
+      go : (o : Option Refusal) → o ≡ refusalOf c → some q ≡ refusalOf c
+      go none e = let f : answered a ≡ refused q = answers e ∙ h in let z : _≡_ {A = ℕ} 0 1 = cc in absurd (omega arith)
+      go (some r) e = let f : refused r ≡ refused q = refuses r e ∙ h in let same : q ≡ r = cc in ap some same ∙ e
+
 -- what a lent column holds after a refusal ..
 pub column-kept : (r : Option Refusal) (q : Refusal) (a o : List ℕ) → some q ≡ r → o ≡ columnAfter r a o
 unfolding columnAfter

@@ -11,7 +11,7 @@ use lib.Dec.{leb, ltb, eqb}
 use lib.ListN.{length, getD}
 use Rattle.model.specs.Limits.{maxTasks, maxReleases, maxTick}
 use Rattle.model.specs.Tasks.{Tasks, Release}
-use Rattle.model.specs.Choice.{Choice, unfit, chosen, leastKeep, choiceNext, choiceOf, choice}
+use Rattle.model.specs.Choice.{Choice, unfit, chosen, Scope, keepFor, choiceNext, choiceOf, scope, choice}
 use Rattle.model.specs.Refusal.{Refusal, refuse, refused, answered, firstOf}
 use Rattle.model.specs.Checks.{Lent, Inputs, refuseAt, refuseIf, faultOf, faultAt, refuseBy, checkEntries, checkTasks, checkTask, checkCount, checkSlots, checkKept, releaseFault, checkReleases, checkChoice, refusalOf, answerOf}
 use Rattle.model.specs.Calls.{releasesOf, taskInputs, choiceInputs, unfitOf, listInputs, readyInputs, runInputs}
@@ -147,16 +147,16 @@ releases-within B s before p (q ∷ l) r h e = go (releaseFault s before maxTick
         within-known B n p r (omega (arith, k .0)) (omega (arith, k .1)) (omega arith) (rw (checkReleases, f) at e)
 
 -- 15: the task that fits at no K is one of the sheet
-unfit-below : (s : Tasks) (m i : ℕ) → choiceOf s m ≡ unfit i → i < m
+unfit-below : (c : Scope) (s : Tasks) (m i : ℕ) → choiceOf c s m ≡ unfit i → i < m
 unfolding choiceOf choiceNext
-unfit-below s zero i e = let z : _≡_ {A = ℕ} 0 1 = cc in absurd (omega arith)
-unfit-below s (suc m) i e = go (choiceOf s m) refl (unfit-below s m i)
+unfit-below c s zero i e = let z : _≡_ {A = ℕ} 0 1 = cc in absurd (omega arith)
+unfit-below c s (suc m) i e = go (choiceOf c s m) refl (unfit-below c s m i)
   where
-    go : (c : Choice) → choiceOf s m ≡ c → (choiceOf s m ≡ unfit i → i < m) → i < suc m
-    go (unfit n) h f = let w : unfit n ≡ unfit i = sym (ap (choiceNext s m) h) ∙ e in omega (arith, f (h ∙ w))
-    go (chosen ks ws) h f = least (leastKeep s ks m) refl (sym (ap (choiceNext s m) h) ∙ e)
+    go : (r : Choice) → choiceOf c s m ≡ r → (choiceOf c s m ≡ unfit i → i < m) → i < suc m
+    go (unfit n) h f = let w : unfit n ≡ unfit i = sym (ap (choiceNext c s m) h) ∙ e in omega (arith, f (h ∙ w))
+    go (chosen ks ws) h f = least (keepFor c s ks m) refl (sym (ap (choiceNext c s m) h) ∙ e)
       where
-        least : (o : Option ℕ) → leastKeep s ks m ≡ o → choiceNext s m (chosen ks ws) ≡ unfit i → i < suc m
+        least : (o : Option ℕ) → keepFor c s ks m ≡ o → choiceNext c s m (chosen ks ws) ≡ unfit i → i < suc m
         least none g d = let w : unfit m ≡ unfit i = rw (choiceNext, g) at d in let x : m ≡ i = cc in omega arith
         least (some K) g d = let w = rw (choiceNext, g) at d in let z : _≡_ {A = ℕ} 0 1 = cc in absurd (omega arith)
 
@@ -236,7 +236,7 @@ module _ (s : Tasks) where
     single = λ j e. no-number e;
     lent = λ f _. let b : s .count ≤ maxReleases = omega arith in needs b (needs b needs-none);
     releases = λ _. omega arith;
-    unfit = λ j e. unfit-below s (s .count) j (is (choice s) j e);
+    unfit = λ j e. unfit-below (scope s) s (s .count) j (is (choice s) j e);
   }
     where
       is : (c : Choice) (j : ℕ) → unfitOf c ≡ some j → c ≡ unfit j

@@ -2,13 +2,14 @@
 use Prim.Native.Nat.{ℕ, zero, suc, _+_, _≤_, _<_}
 use mathlib.Core.Path.{_≡_, refl, sym, ap, ap₂, _∙_}
 use mathlib.Core.Logic.{_⊎_, inl, inr}
-use mathlib.Core.Bool.{Bool, true, false, _||_}
+use mathlib.Core.Bool.{Bool, true, false, not, _||_}
 use mathlib.Core.Option.{Option, some, none}
 use mathlib.Core.List.{List, [], _∷_, _++_, map}
 use native.Mathlib.Omega.{arith}
 use borrow.Author.Tests.{leb-true, leb-false}
 use lib.Dec.{leb, ltb, eqb}
 use lib.ListN.{length, getD, List·getD-eq-default}
+use lib.IntN.{pos}
 use Rattle.model.specs.Search.{first}
 use Rattle.model.specs.Series.{table}
 use Rattle.model.specs.Limits.{maxTasks, maxTick}
@@ -21,11 +22,12 @@ use Rattle.model.specs.Legality.{earlier, tooClose, firstClose}
 use Rattle.model.specs.Run.{finishOf, finishAt, finishList}
 use Rattle.model.specs.Stops.{different, stopTicks, stopCount}
 use Rattle.model.specs.Verdict.{verdict}
-use Rattle.model.specs.Choice.{Choice, unfit, chosen, column, andKeep, isFits, worstOf, leastKeep, choiceNext, choiceOf, choice}
+use Rattle.model.specs.Choice.{Choice, unfit, chosen, column, andKeep, isFits, worstOf, leastKeep, choice}
+use Rattle.model.specs.Choice.{Scope, ordinary, high-only, judges, keepFor, worstFor, choiceNext, choiceOf, scopeAfter, scope}
 use Rattle.model.specs.Refusal.{Refusal, answered, firstOf}
 use Rattle.model.specs.Checks.{Lent, Inputs, checkEntries, checkTasks, checkTask, checkCount, checkSlots, checkKept, releaseFault, checkReleases, checkChoice, refusalOf}
 use Rattle.model.specs.Checks.{entryFault, faultOf, faultAt, isFault, refuseAt, refuseIf, refuseBy, answerOf}
-use Rattle.model.specs.Calls.{lends, releasesOf, columnAfter, taskInputs, arrivalCall, verdictCall, unfitOf, choiceInputs, keptColumn, worstColumn, listInputs, traceCall, readyInputs, runInputs, jumpCall}
+use Rattle.model.specs.Calls.{lends, releasesOf, columnAfter, taskInputs, arrivalCall, verdictCall, unfitOf, choiceInputs, choiceCall, keptColumn, worstColumn, listInputs, traceCall, readyInputs, runInputs, jumpCall}
 use Rattle.model.specs.SameTasks.{SameTasks, SameAnswers, SameTasksAnswerSame}
 use Rattle.model.proofs.SeriesLaws.{le-or-lt}
 use Rattle.model.proofs.SearchLaws.{first-found}
@@ -162,20 +164,39 @@ module _ (s s′ : Tasks) (same : SameTasks s s′) where
   unfolding leastKeep
   least-same above i h = λ x. first (λ K. isFits (says-same (andKeep above K) i h x)) (suc (same .jitter i h x)) 0
 
-  next-same : (i : ℕ) → i < s .count → (c : Choice) → choiceNext s i c ≡ choiceNext s′ i c
+  judges-same : (c : Scope) (i : ℕ) → i < s .count → judges c s i ≡ judges c s′ i
+  unfolding judges
+  judges-same ordinary i h = refl
+  judges-same high-only i h = ap not (same .low i h)
+
+  keep-for-same : (c : Scope) (above : List ℕ) (i : ℕ) → i < s .count → keepFor c s above i ≡ keepFor c s′ above i
+  unfolding keepFor
+  keep-for-same c above i h = λ x. elim (judges-same c i h x) [ true ↦ least-same above i h x | false ↦ some 0 ]
+
+  worst-for-same : (c : Scope) (above : List ℕ) (K i : ℕ) → i < s .count → worstFor c s above K i ≡ worstFor c s′ above K i
+  unfolding worstFor
+  worst-for-same c above K i h = λ x. elim (judges-same c i h x) [ true ↦ worstOf (says-same (andKeep above K) i h x) | false ↦ pos 0 ]
+
+  next-same : (c : Scope) (i : ℕ) → i < s .count → (r : Choice) → choiceNext c s i r ≡ choiceNext c s′ i r
   unfolding choiceNext
-  next-same i h (unfit n) = refl
-  next-same i h (chosen ks ws) = λ x.
-      elim (least-same ks i h x) [ none ↦ unfit i | some K ↦ chosen (ks ++ (K ∷ [])) (ws ++ (worstOf (says-same (andKeep ks K) i h x) ∷ [])) ]
+  next-same c i h (unfit n) = refl
+  next-same c i h (chosen ks ws) = λ x.
+      elim (keep-for-same c ks i h x) [ none ↦ unfit i | some K ↦ chosen (ks ++ (K ∷ [])) (ws ++ (worst-for-same c ks K i h x ∷ [])) ]
 
-  choices-same : (n : ℕ) → n ≤ s .count → choiceOf s n ≡ choiceOf s′ n
+  choices-same : (c : Scope) (n : ℕ) → n ≤ s .count → choiceOf c s n ≡ choiceOf c s′ n
   unfolding choiceOf
-  choices-same zero h = refl
-  choices-same (suc n) h = next-same n h (choiceOf s n) ∙ ap (choiceNext s′ n) (choices-same n (omega arith))
+  choices-same c zero h = refl
+  choices-same c (suc n) h = next-same c n h (choiceOf c s n) ∙ ap (choiceNext c s′ n) (choices-same c n (omega arith))
 
-  -- the whole choice
+  whole-same : (c : Scope) → choiceOf c s (s .count) ≡ choiceOf c s′ (s′ .count)
+  whole-same c = choices-same c (s .count) (omega arith) ∙ ap (choiceOf c s′) (same .count)
+
+  -- which of the two choices it is, and that choice
+  pub scope-same : scope s ≡ scope s′
+  scope-same = ap scopeAfter (whole-same ordinary)
+
   pub choice-same : choice s ≡ choice s′
-  choice-same = choices-same (s .count) (omega arith) ∙ ap (choiceOf s′) (same .count)
+  choice-same = whole-same (scope s) ∙ ap (λ c. choiceOf c s′ (s′ .count)) scope-same
 
   -- a list whose every release is of a task of the sheet: trace check, ready ticks and run
   module _ (l : List Release) (known : (p : ℕ) → releaseAt l p .task < s .count) where
@@ -250,7 +271,7 @@ module _ (s s′ : Tasks) (same : SameTasks s s′) where
       refusal-same none (some n) _ _ (some (column kept)) (releasesOf n task tick cost) none none (lends-same kept _) refl
 
   all-same : SameAnswers s s′
-  unfolding arrivalCall verdictCall traceCall jumpCall
+  unfolding arrivalCall verdictCall choiceCall traceCall jumpCall
   all-same =
       record {
         arrival = λ i kept t.
@@ -263,7 +284,8 @@ module _ (s s′ : Tasks) (same : SameTasks s s′) where
             answer-same (listInputs s n task tick cost) (listInputs s′ n task tick cost) _ _
             (refusal-same none (some n) _ _ none (releasesOf n task tick cost) none none refl refl)
             (λ e. close-same (releasesOf n task tick cost) (known-of (listInputs s n task tick cost) refl e));
-        choice-refusal = choice-refused;
+        choice-answer = λ kept worst.
+            answer-same (choiceInputs s kept worst) (choiceInputs s′ kept worst) _ _ (choice-refused kept worst) (λ n. scope-same);
         choice-kept = λ kept worst. ap₂ (λ r c. columnAfter r (keptColumn c) kept) (choice-refused kept worst) choice-same;
         choice-worst = λ kept worst. ap₂ (λ r c. columnAfter r (worstColumn c) worst) (choice-refused kept worst) choice-same;
         ready-refusal = ready-refused;

@@ -20,11 +20,11 @@ use Rattle.model.specs.Demand.{aboveLoad, demand, meets, window}
 use Rattle.model.specs.Bound.{maxZ, minZ, offset, bound}
 use Rattle.model.specs.Verdict.{horizon, boundOf, isLate, isLast, stops, boundAt, peak, judge, verdict}
 use Rattle.model.specs.Evaluations.{triedAt, endsAt, tried, taken, evaluations}
-use Rattle.model.specs.Choice.{column, isFits, worstOf, leastKeep, choiceNext, choiceOf}
+use Rattle.model.specs.Choice.{column, isFits, worstOf, leastKeep, judges, keepFor, worstFor, choiceNext, choiceOf, scopeAfter}
 use Rattle.model.specs.Refusal.{firstOf}
 use Rattle.model.specs.Checks.{inRange, carries, entryFault, faultAt, isFault, refuseIf, refuseBy, checkEntries, checkTasks}
 use Rattle.model.proofs.SearchLaws.{first-hit, first-none}
-use Rattle.model.specs.Sums.{AllRows, AllSums, busy, chargeVerdicts, chargeRun, chargeChecks, triedLists, evaluationCounts, pad, sheet, task}
+use Rattle.model.specs.Sums.{AllRows, AllSums, busy, chargeVerdicts, chargeRun, chargeChecks, triedLists, evaluationCounts, markedChoices, pad, sheet, task}
 
 -- sum 11: below a task that takes every tick no demand is ever met
 never : (t : ℕ) → 1 ≤ t → meets (sheet (busy ∷ busy ∷ [])) (column (0 ∷ 0 ∷ [])) 1 0 t ≡ false
@@ -49,7 +49,7 @@ full = at-zero _ _ 1 (first-none (meets (sheet (busy ∷ busy ∷ [])) (column (
 
 judged-charges : AllRows chargeVerdicts
 unfolding arrivals ceilDiv gap window meets demand aboveLoad sum first verdict stops judge isLate isLast boundOf boundAt bound offset maxZ minZ peak
-    isFits worstOf leastKeep choiceNext choiceOf
+    isFits worstOf leastKeep judges keepFor worstFor choiceNext choiceOf scopeAfter
 judged-charges = (refl, (refl, (refl, (refl, (refl, tt)))))
 
 run-charges : AllRows chargeRun
@@ -68,13 +68,19 @@ counts-of : AllRows evaluationCounts
 unfolding arrivals ceilDiv gap window meets demand aboveLoad sum first stops isLate isLast boundOf bound offset maxZ minZ table triedAt endsAt tried taken evaluations
 counts-of = (refl, (refl, (refl, (refl, tt))))
 
-requests : AllSums (chargeVerdicts ∷ chargeRun ∷ chargeChecks ∷ triedLists ∷ evaluationCounts ∷ [])
-requests = (judged-charges, (run-charges, (checked-charges, (lists, (counts-of, tt)))))
+marked-choices : AllRows markedChoices
+unfolding arrivals ceilDiv gap window meets demand aboveLoad sum first verdict stops judge isLate isLast boundOf boundAt bound offset maxZ minZ peak
+    isFits worstOf leastKeep judges keepFor worstFor choiceNext choiceOf scopeAfter
+marked-choices = ((refl, refl), ((refl, refl), ((refl, refl), ((refl, refl), ((refl, refl), ((refl, refl), ((refl, refl), tt)))))))
+
+requests : AllSums (chargeVerdicts ∷ chargeRun ∷ chargeChecks ∷ triedLists ∷ evaluationCounts ∷ markedChoices ∷ [])
+requests = (judged-charges, (run-charges, (checked-charges, (lists, (counts-of, (marked-choices, tt))))))
 
 pub sums : AllSums pad
 unfolding arrivals ceilDiv gap after readyNext readyFrom readyAt readyList own table
     window meets demand aboveLoad sum most on first verdict stops judge isLate isLast boundOf boundAt bound offset maxZ minZ peak
-    pending prefer top pick less leftAt runs runsIn endOf finishOf finishAt finishList has different stopTicks stopCount isFits worstOf leastKeep choiceNext choiceOf
+    pending prefer top pick less leftAt runs runsIn endOf finishOf finishAt finishList has different stopTicks stopCount
+    isFits worstOf leastKeep judges keepFor worstFor choiceNext choiceOf scopeAfter
 sums = (
   (refl, tt),
   (

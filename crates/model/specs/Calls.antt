@@ -7,7 +7,7 @@ use lib.IntN.{natAbs}
 use Rattle.model.specs.Series.{table}
 use Rattle.model.specs.Tasks.{Tasks, Release}
 use Rattle.model.specs.Arrival.{arrivals}
-use Rattle.model.specs.Choice.{column, Choice, unfit, chosen, choice}
+use Rattle.model.specs.Choice.{column, Choice, unfit, chosen, Scope, scope, choice}
 use Rattle.model.specs.Evaluations.{Judged, judged}
 use Rattle.model.specs.Legality.{firstClose}
 use Rattle.model.specs.Stops.{stopCount}
@@ -64,7 +64,11 @@ choiceInputs s kept worst = record {
   unfit = unfitOf (choice s);
 }
 
--- the two columns of a choice; a worst value is at least 1
+-- choice: which of the two it is
+unfoldable pub choiceCall : Tasks → List ℕ → List ℕ → Answer Scope
+choiceCall s kept worst = answerOf (choiceInputs s kept worst) (scope s)
+
+-- its two columns; the worst value of a task that is judged is at least 1, that of another is 0
 unfoldable pub keptColumn : Choice → List ℕ
 keptColumn (unfit i) = []
 keptColumn (chosen ks ws) = ks

@@ -14,7 +14,7 @@ use Rattle.model.specs.Ready.{readyList}
 use Rattle.model.specs.Run.{finishList}
 use Rattle.model.specs.Verdict.{verdict}
 use Rattle.model.specs.Evaluations.{evaluations}
-use Rattle.model.specs.Choice.{choice}
+use Rattle.model.specs.Choice.{scope, choice}
 use Rattle.model.specs.Refusal.{Refusal, firstOf}
 use Rattle.model.specs.Checks.{inRange, refuseAt, refuseIf, checkTasks}
 
@@ -37,10 +37,10 @@ UnchargedIsCost = (cost : ℕ) → plain 0 .work cost ≡ cost
 
 -- the sheet with E + S for each E, and no charge
 abbrev pub absorbed : Tasks → Tasks
-absorbed s = record { count = s .count; period = s .period; jitter = s .jitter; cost = load s; deadline = s .deadline; charge = 0 }
+absorbed s = record { count = s .count; period = s .period; jitter = s .jitter; cost = load s; deadline = s .deadline; low = s .low; charge = 0 }
 
 -- `absorbed-valid`, `absorbed-verdict`, `absorbed-evaluations`, `absorbed-choice`: it is valid where the sheet is, and has the sheet's verdicts with their evaluations,
--- and its choice
+-- and its choice, ordinary or not
 abbrev pub AbsorbedIsValid : Type 0
 AbsorbedIsValid = (s : Tasks) → Valid s → Valid (absorbed s)
 
@@ -51,7 +51,7 @@ abbrev pub AbsorbedIsCounted : Type 0
 AbsorbedIsCounted = (s : Tasks) (k : ℕ → ℕ) (i : ℕ) → evaluations (absorbed s) k i ≡ evaluations s k i
 
 abbrev pub AbsorbedIsChosen : Type 0
-AbsorbedIsChosen = (s : Tasks) → choice (absorbed s) ≡ choice s
+AbsorbedIsChosen = (s : Tasks) → (scope (absorbed s) ≡ scope s) × (choice (absorbed s) ≡ choice s)
 
 -- the list with c + S for each cost c
 abbrev pub absorbedList : ℕ → List Release → List Release

@@ -1,6 +1,6 @@
--- The choice of kept jitters.
+-- The choice of kept jitters, of all tasks or of the high ones alone.
 use Prim.Native.Nat.{ℕ, zero, suc}
-use mathlib.Core.Bool.{Bool, true, false}
+use mathlib.Core.Bool.{Bool, true, false, not}
 use mathlib.Core.Option.{Option, some, none}
 use mathlib.Core.List.{List, [], _∷_, _++_}
 use lib.ListN.{getD}
@@ -37,17 +37,48 @@ pub data Choice : Type 0 where
   unfit : ℕ → Choice
   chosen : List ℕ → List ℤ → Choice
 
+-- the two choices (document 02, R-9): the ordinary one, in which every task is judged; the other, "with every low task kept at 0 and not judged"
+pub data Scope : Type 0 where
+  ordinary : Scope
+  high-only : Scope
+
+-- whether it is the other one, as code has it
+abbrev pub scopeIn : Bool → Scope
+scopeIn true = high-only
+scopeIn false = ordinary
+
+-- task i is judged
+unfoldable pub judges : Scope → Tasks → ℕ → Bool
+judges ordinary s i = true
+judges high-only s i = not (s .low i)
+
+-- the kept jitter of task i, given the choices above: the least, if there is one, and 0 where it is not judged
+unfoldable pub keepFor : Scope → Tasks → List ℕ → ℕ → Option ℕ
+keepFor c s above i = elim (judges c s i) [ true ↦ leastKeep s above i | false ↦ some 0 ]
+
+-- its worst value with kept jitter K, and 0 where it is not judged
+unfoldable pub worstFor : Scope → Tasks → List ℕ → ℕ → ℕ → ℤ
+worstFor c s above K i = elim (judges c s i) [ true ↦ worstOf (verdict s (andKeep above K) i) | false ↦ pos 0 ]
+
 -- one task more, given the choices above
-unfoldable pub choiceNext : Tasks → ℕ → Choice → Choice
-choiceNext s i (unfit n) = unfit n
-choiceNext s i (chosen ks ws) =
-    elim (leastKeep s ks i) [ none ↦ unfit i | some K ↦ chosen (ks ++ (K ∷ [])) (ws ++ (worstOf (verdict s (andKeep ks K) i) ∷ [])) ]
+unfoldable pub choiceNext : Scope → Tasks → ℕ → Choice → Choice
+choiceNext c s i (unfit n) = unfit n
+choiceNext c s i (chosen ks ws) =
+    elim (keepFor c s ks i) [ none ↦ unfit i | some K ↦ chosen (ks ++ (K ∷ [])) (ws ++ (worstFor c s ks K i ∷ [])) ]
 
 -- the choice of the first n tasks, from task 0 down
-unfoldable pub choiceOf : Tasks → ℕ → Choice
-choiceOf s zero = chosen [] []
-choiceOf s (suc n) = choiceNext s n (choiceOf s n)
+unfoldable pub choiceOf : Scope → Tasks → ℕ → Choice
+choiceOf c s zero = chosen [] []
+choiceOf c s (suc n) = choiceNext c s n (choiceOf c s n)
+
+-- "The ordinary choice is made first. If it ends in 15, it is made anew": which of the two is the answer
+unfoldable pub scopeAfter : Choice → Scope
+scopeAfter (unfit n) = high-only
+scopeAfter (chosen ks ws) = ordinary
+
+abbrev pub scope : Tasks → Scope
+scope s = scopeAfter (choiceOf ordinary s (s .count))
 
 -- "choice"
 abbrev pub choice : Tasks → Choice
-choice s = choiceOf s (s .count)
+choice s = choiceOf (scope s) s (s .count)

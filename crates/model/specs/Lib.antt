@@ -22,5 +22,6 @@ pub mod Checks
 pub mod Calls
 pub mod OldLists
 pub mod Charge
+pub mod Marks
 pub mod SameTasks
 pub mod Sums

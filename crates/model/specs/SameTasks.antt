@@ -9,15 +9,16 @@ use Rattle.model.specs.Ready.{readyList}
 use Rattle.model.specs.Run.{finishList}
 use Rattle.model.specs.Choice.{column, choice}
 use Rattle.model.specs.Checks.{refusalOf}
-use Rattle.model.specs.Calls.{releasesOf, columnAfter, arrivalCall, verdictCall, choiceInputs, keptColumn, worstColumn, traceCall, readyInputs, runInputs, jumpCall}
+use Rattle.model.specs.Calls.{releasesOf, columnAfter, arrivalCall, verdictCall, choiceInputs, choiceCall, keptColumn, worstColumn, traceCall, readyInputs, runInputs, jumpCall}
 
--- the same count and charge, and the same P, J, E and D of every task below the count
+-- the same count and charge, and the same P, J, E, D and mark of every task below the count
 pub record SameTasks (s s′ : Tasks) : Type 0 where
   pub count : s .count ≡ s′ .count
   pub period : (i : ℕ) → i < s .count → s .period i ≡ s′ .period i
   pub jitter : (i : ℕ) → i < s .count → s .jitter i ≡ s′ .jitter i
   pub cost : (i : ℕ) → i < s .count → s .cost i ≡ s′ .cost i
   pub deadline : (i : ℕ) → i < s .count → s .deadline i ≡ s′ .deadline i
+  pub low : (i : ℕ) → i < s .count → s .low i ≡ s′ .low i
   pub charge : s .charge ≡ s′ .charge
 
 -- of each call on values, whatever else goes in: the same refusal, the same value, and the same in every lent column afterwards
@@ -29,7 +30,7 @@ pub record SameAnswers (s s′ : Tasks) : Type 0 where
   -- trace check
   pub trace : (n : ℕ) (task tick cost : List ℕ) → traceCall s n task tick cost ≡ traceCall s′ n task tick cost
   -- choice
-  pub choice-refusal : (kept worst : List ℕ) → refusalOf (choiceInputs s kept worst) ≡ refusalOf (choiceInputs s′ kept worst)
+  pub choice-answer : (kept worst : List ℕ) → choiceCall s kept worst ≡ choiceCall s′ kept worst
   pub choice-kept
       : (kept worst : List ℕ)
       → columnAfter (refusalOf (choiceInputs s kept worst)) (keptColumn (choice s)) kept ≡ columnAfter (refusalOf (choiceInputs s′ kept worst))

@@ -16,7 +16,7 @@ use Rattle.model.specs.Stops.{stopCount}
 use Rattle.model.specs.Demand.{window}
 use Rattle.model.specs.Verdict.{Verdict, horizon, late, fits, stops, verdict}
 use Rattle.model.specs.Evaluations.{tried, evaluations}
-use Rattle.model.specs.Choice.{column, Choice, unfit, chosen, choice}
+use Rattle.model.specs.Choice.{column, Choice, unfit, chosen, Scope, ordinary, high-only, scope, choice}
 use Rattle.model.specs.Refusal.{Refusal, refuse}
 use Rattle.model.specs.Checks.{checkTasks}
 
@@ -33,16 +33,21 @@ task p j e d = record { P = p; J = j; E = e; D = d }
 abbrev pub entry : List Entry → ℕ → Entry
 entry l i = getD l i (task 0 0 0 0)
 
--- the sheet of some entries with a charge, and without one
-abbrev pub charged : ℕ → List Entry → Tasks
-charged S l = record {
+-- the sheet of some entries with a charge and marks, of which true is low and one past the end is high
+abbrev pub marked : ℕ → List Bool → List Entry → Tasks
+marked S lows l = record {
   count = length l;
   period = λ i. entry l i .P;
   jitter = λ i. entry l i .J;
   cost = λ i. entry l i .E;
   deadline = λ i. entry l i .D;
+  low = λ i. getD lows i false;
   charge = S;
 }
+
+-- with a charge and no low task, and without a charge
+abbrev pub charged : ℕ → List Entry → Tasks
+charged S = marked S []
 
 abbrev pub sheet : List Entry → Tasks
 sheet = charged 0
@@ -79,6 +84,8 @@ pub data Row : Type 0 where
   tries : ℕ → List Entry → List ℕ → ℕ → ℕ → List ℕ → Row
   -- charge, sheet, kept jitters and task: the number of evaluations
   counted : ℕ → List Entry → List ℕ → ℕ → ℕ → Row
+  -- marks and sheet: which of the two choices, and the choice
+  choseBy : List Bool → List Entry → Scope → Choice → Row
 
 abbrev pub Holds : Row → Type 0
 Holds (counts P K ts ns) = map (arrivals P K) ts ≡ ns
@@ -96,6 +103,7 @@ Holds (ranAt S l ks rs fs) = finishList (charged S l) (column ks) rs ≡ fs
 Holds (checked S l o) = checkTasks (charged S l) ≡ o
 Holds (tries S l ks i q ts) = tried (charged S l) (column ks) i q ≡ ts
 Holds (counted S l ks i n) = evaluations (charged S l) (column ks) i ≡ n
+Holds (choseBy lows l c r) = (scope (marked 0 lows l) ≡ c) × (choice (marked 0 lows l) ≡ r)
 
 abbrev pub AllRows : List Row → Type 0
 AllRows [] = Unit
@@ -178,11 +186,25 @@ evaluationCounts =
     ∷ counted 1 (task 10 9 2 6 ∷ task 20 0 2 10 ∷ []) (9 ∷ 0 ∷ []) 1 2
     ∷ []
 
+-- an ordinary choice, in which a low task is judged too; the ordinary one ends in 15 at task 2: with task 2 low it is left out, with task 1 low and kept at 0 task 2
+-- fits, with task 0 low it still does not; the ordinary one ends in 15 at task 0, which is low, and the other at task 1; without a low task both end at the same; a low
+-- task that fits at 0 has the worst value 0 too
+abbrev pub markedChoices : List Row
+markedChoices =
+    choseBy (false ∷ true ∷ false ∷ []) (printed 11) ordinary (chosen (2 ∷ 4 ∷ 0 ∷ []) (pos 6 ∷ pos 8 ∷ pos 11 ∷ []))
+    ∷ choseBy (false ∷ false ∷ true ∷ []) (printed 10) high-only (chosen (2 ∷ 4 ∷ 0 ∷ []) (pos 6 ∷ pos 8 ∷ pos 0 ∷ []))
+    ∷ choseBy (false ∷ true ∷ false ∷ []) (printed 10) high-only (chosen (2 ∷ 0 ∷ 0 ∷ []) (pos 6 ∷ pos 0 ∷ pos 9 ∷ []))
+    ∷ choseBy (true ∷ false ∷ false ∷ []) (printed 10) high-only (unfit 2)
+    ∷ choseBy (true ∷ false ∷ []) (task 10 0 2 2 ∷ task 10 0 2 4 ∷ []) high-only (unfit 1)
+    ∷ choseBy [] (printed 10) high-only (unfit 2)
+    ∷ choseBy (true ∷ true ∷ []) (task 10 0 2 6 ∷ task 10 0 2 4 ∷ []) high-only (chosen (0 ∷ 0 ∷ []) (pos 0 ∷ pos 0 ∷ []))
+    ∷ []
+
 -- the sums, in document 01's order, 7 to 12 with the pickup of document 02's R-2; then R-2's own figures: the choice on the printed sheet, which ends in 15 at task 2,
 -- of its tasks 0 and 1 alone and with D 11, the run with D 11, and the stop of the walk, which has no pickup: W(0) = d_K(1), W(0) = d_K(1) + 1;
 -- then stops of R-5: no release, one, two with the same ready tick, a finish that is another's ready tick plus 1, a job that another interrupts, and the printed list;
 -- and a run in which the job of the higher task, though later in the list, goes before one with the same ready tick;
--- then the charges of R-4; then the lists and numbers of R-8
+-- then the charges of R-4; then the lists and numbers of R-8; then the marks of R-9
 abbrev pub pad : List (List Row)
 pad =
     (counts 6 5 (0 ∷ 1 ∷ 2 ∷ 7 ∷ 8 ∷ []) (0 ∷ 1 ∷ 2 ∷ 2 ∷ 3 ∷ []) ∷ [])
@@ -223,4 +245,5 @@ pad =
     ∷ chargeChecks
     ∷ triedLists
     ∷ evaluationCounts
+    ∷ markedChoices
     ∷ []

@@ -1,17 +1,19 @@
 -- The task set (document 01's "sheet") as functions of the task number, and a release.
 use Prim.Native.Nat.{ℕ, _≤_, _<_}
+use mathlib.Core.Bool.{Bool}
 use mathlib.Core.List.{List}
 use lib.ListN.{getD}
 use Rattle.model.specs.Limits.{maxTasks, maxTime}
 use Rattle.model.specs.Processor.{plain}
 
--- "sheet": a count, P, J, E and D of each task, and the charge S; task 0 has the highest priority
+-- "sheet": a count, P, J, E and D of each task, its mark, high or low (document 02, R-9), and the charge S; task 0 has the highest priority
 pub record Tasks : Type 0 where
   pub count : ℕ
   pub period : ℕ → ℕ
   pub jitter : ℕ → ℕ
   pub cost : ℕ → ℕ
   pub deadline : ℕ → ℕ
+  pub low : ℕ → Bool
   pub charge : ℕ
 
 -- the ticks that a job of full cost takes: E + S

@@ -11,7 +11,7 @@ use lib.Dec.{ltb}
 use lib.ListN.{length}
 use Rattle.model.specs.Limits.{maxTasks, maxReleases}
 use Rattle.model.specs.Refusal.{Refusal, Answer, refused, answered}
-use Rattle.model.specs.Calls.{arrivalCall, verdictCall, traceCall, jumpCall}
+use Rattle.model.specs.Calls.{arrivalCall, verdictCall, choiceCall, traceCall, jumpCall}
 use Rattle.model.proofs.RefusalPlaces.{Within, within-more, Needs, needs, needs-none, slots-within, refusal-within, answer-within, task-limited, choice-limited, list-limited, ready-limited, run-limited}
 use Rattle.taskset.specs.declared.Task.{Task}
 use Rattle.taskset.specs.TaskSet.{viewOf}
@@ -23,7 +23,7 @@ use Rattle.textformat.proofs.TextPlaces.{load-within}
 use Rattle.nolkrada.specs.Interface.{sheetFrom, refusalCode, codeOf, codeIn, asWords, tooFew, afterSlots, orTooFew, withSlots, oneWord, verdictWords, traceWords}
 use Rattle.nolkrada.specs.Files.{readLent, readWithin, readAnswer, writeAnswer}
 use Rattle.nolkrada.specs.Texts.{loadLent, loadWithin, loadAnswer}
-use Rattle.nolkrada.specs.Runs.{jumpAnswer}
+use Rattle.nolkrada.specs.Runs.{jumpAnswer, choiceAnswer}
 use Rattle.nolkrada.specs.Codes.{told, refusalFrom, Tells, TellsOf, CodesTell}
 
 -- the largest place that a code holds
@@ -104,28 +104,28 @@ slotted x (some q) r e = let i : q ≡ r = cc in sym (ap some i)
 -- a read: the file's refusal, or 13 for at most 1,024 slots
 lent-needs : (m sheet task tick cost answer : ℕ) → m ≤ maxReleases → Needs maxReleases (readLent m sheet task tick cost answer)
 lent-needs m sheet task tick cost answer h =
-    let a : 128 ≤ maxReleases = omega arith in let b : 3 ≤ maxReleases = omega arith in needs a (needs h (needs h (needs h (needs b needs-none))))
+    let a : 160 ≤ maxReleases = omega arith in let b : 3 ≤ maxReleases = omega arith in needs a (needs h (needs h (needs h (needs b needs-none))))
 
 read-within
     : (f : List ℕ) (a : Answer File) (sheet task tick cost answer : ℕ) (r : Refusal) → decode f ≡ a → readWithin a sheet task tick cost answer ≡ refused r → Within top r
 unfolding readWithin
-read-within f (refused q) sheet task tick cost answer r d e = within-more 14883 top r (omega arith) (decode-within f r (d ∙ e))
+read-within f (refused q) sheet task tick cost answer r d e = within-more 14915 top r (omega arith) (decode-within f r (d ∙ e))
 read-within f (answered x) sheet task tick cost answer r d e =
     within-more maxReleases top r (omega arith)
     (slots-within maxReleases _ r (lent-needs (length (x .releases)) sheet task tick cost answer (decode-valid f x d .few)) (slotted x _ r e))
 
--- a load: the text's refusal, or 13 for at most 128 slots
+-- a load: the text's refusal, or 13 for at most 160 slots
 load-slots : (text : List ℕ) (a : Answer (List Task)) (sheet answer : ℕ) (r : Refusal) → load text ≡ a → loadWithin a sheet answer ≡ refused r → Within top r
 unfolding loadWithin
 load-slots text (refused q) sheet answer r d e = within-more maxTasks top r (omega arith) (load-within text r (d ∙ e))
 load-slots text (answered ts) sheet answer r d e =
-    let a : 128 ≤ 128 = omega arith in
-    let b : 1 ≤ 128 = omega arith in
-    within-more 128 top r (omega arith) (slots-within 128 (loadLent sheet answer) r (needs a (needs b needs-none)) (slotted ts _ r e))
+    let a : 160 ≤ 160 = omega arith in
+    let b : 1 ≤ 160 = omega arith in
+    within-more 160 top r (omega arith) (slots-within 160 (loadLent sheet answer) r (needs a (needs b needs-none)) (slotted ts _ r e))
 
 -- the code of every call for C tells its refusal
 pub codes-tell : CodesTell
-unfolding arrivalCall verdictCall traceCall jumpCall jumpAnswer readAnswer loadAnswer writeAnswer
+unfolding arrivalCall verdictCall traceCall jumpCall choiceCall jumpAnswer choiceAnswer readAnswer loadAnswer writeAnswer
 codes-tell = record {
   arrival = λ sheet count charge task kept t answer h.
       words-told 1 (length answer) oneWord _ (omega arith)
@@ -133,8 +133,10 @@ codes-tell = record {
   verdict = λ sheet count charge task kept answer h.
       words-told 4 (length answer) verdictWords _ (omega arith)
       (λ r. answer-within top _ _ r (task-limited (viewOf (sheetFrom sheet count charge)) top task kept (omega arith) (omega arith)));
-  choice = λ sheet count charge kept worst.
-      tells _ (λ r e. within-more maxReleases top r (omega arith) (refusal-within maxReleases _ (choice-limited (viewOf (sheetFrom sheet count charge)) kept worst) r e));
+  choice = λ sheet count charge kept worst answer.
+      slots-told 1 (length answer) _ (omega arith)
+      (λ r e. within-more maxReleases top r (omega arith)
+      (answer-within maxReleases _ _ r (choice-limited (viewOf (sheetFrom sheet count charge)) kept worst) e));
   trace = λ sheet count charge n task tick cost answer.
       words-told 2 (length answer) traceWords _ (omega arith)
       (λ r e. within-more maxReleases top r (omega arith) (answer-within maxReleases _ _ r (list-limited (viewOf (sheetFrom sheet count charge)) n task tick cost) e));
@@ -154,5 +156,5 @@ codes-tell = record {
   load = λ text sheet answer. tells-of _ (λ r. load-slots text (load text) (length sheet) (length answer) r refl);
   write = λ sheet count charge n task tick cost out answer.
       slots-told 1 (length answer) _ (omega arith)
-      (λ r e. within-more 14883 top r (omega arith) (answer-within 14883 _ _ r (write-limited (viewOf (sheetFrom sheet count charge)) n task tick cost (length out)) e));
+      (λ r e. within-more 14915 top r (omega arith) (answer-within 14915 _ _ r (write-limited (viewOf (sheetFrom sheet count charge)) n task tick cost (length out)) e));
 }

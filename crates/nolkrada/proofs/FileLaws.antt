@@ -25,27 +25,30 @@ unfolding numbersOf
 numbers-append [] b = refl
 numbers-append (t ∷ a) b = ap (λ (l : List ℕ). taskNumbers t ++ l) (numbers-append a b)
 
-pub length-numbers : (a : List Task) → length (numbersOf a) ≡ 4 * length a
+pub length-numbers : (a : List Task) → length (numbersOf a) ≡ 5 * length a
 unfolding numbersOf
 length-numbers [] = refl
 length-numbers (t ∷ a) = let e = length-numbers a in omega (arith, e)
 
--- four stores, one after the other
-pub four-set : (l : List ℕ) (at a b c d : ℕ) → set (set (set (set l at a) (at + 1) b) (at + 2) c) (at + 3) d ≡ sets l at (a ∷ b ∷ c ∷ d ∷ [])
-four-set l at a b c d =
+-- five stores, one after the other
+pub five-set
+    : (l : List ℕ) (at a b c d e : ℕ)
+    → set (set (set (set (set l at a) (at + 1) b) (at + 2) c) (at + 3) d) (at + 4) e ≡ sets l at (a ∷ b ∷ c ∷ d ∷ e ∷ [])
+five-set l at a b c d e =
     let x : at + 2 ≡ suc (suc at) = omega arith in
     let y : at + 3 ≡ suc (suc (suc at)) = omega arith in
-    rw (add-one, x, y)
+    let z : at + 4 ≡ suc (suc (suc (suc at))) = omega arith in
+    rw (add-one, x, y, z)
 
 -- the numbers of the first i of 32 entries are written
 pub record Put (held : List ℕ) (tasks : List Task) (now : List ℕ) (i : ℕ) : Type 0 where
   pub many : length tasks ≡ 32
   pub within : i ≤ 32
-  pub room : 128 ≤ length held
+  pub room : 160 ≤ length held
   pub long : length now ≡ length held
   pub whole : now ≡ sets held 0 (numbersOf (take i tasks))
 
-pub put-none : (held : List ℕ) (tasks : List Task) → length tasks ≡ 32 → 128 ≤ length held → Put held tasks held 0
+pub put-none : (held : List ℕ) (tasks : List Task) → length tasks ≡ 32 → 160 ≤ length held → Put held tasks held 0
 unfolding numbersOf
 put-none held tasks h g = record { many = h; within = omega arith; room = g; long = refl; whole = refl }
 
@@ -53,29 +56,29 @@ pub put-next
     : (held : List ℕ) (tasks : List Task) (now now′ : List ℕ) (i : ℕ)
     → Put held tasks now i
     → i < 32
-    → now′ ≡ sets now (4 * i) (taskNumbers (getD tasks i noTask))
+    → now′ ≡ sets now (5 * i) (taskNumbers (getD tasks i noTask))
     → Put held tasks now′ (i + 1)
 unfolding numbersOf stored
 put-next held tasks now now′ i f h e =
     let t = getD tasks i noTask in
     let front = numbersOf (take i tasks) in
-    let n : length front ≡ 4 * i = length-numbers (take i tasks) ∙ ap (λ (k : ℕ). 4 * k) (length-take-le i tasks (omega (arith, f .many))) in
+    let n : length front ≡ 5 * i = length-numbers (take i tasks) ∙ ap (λ (k : ℕ). 5 * k) (length-take-le i tasks (omega (arith, f .many))) in
     let more : numbersOf (take (i + 1) tasks) ≡ front ++ taskNumbers t =
     rw (add-one, take-suc tasks i noTask (omega (arith, f .many))) (numbers-append (take i tasks) (t ∷ [])) in
     record {
       many = f .many;
       within = omega arith;
       room = f .room;
-      long = ap length e ∙ length-sets now (4 * i) (taskNumbers t) ∙ f .long;
+      long = ap length e ∙ length-sets now (5 * i) (taskNumbers t) ∙ f .long;
       whole =
-          e ∙ ap (λ (l : List ℕ). sets l (4 * i) (taskNumbers t)) (f .whole) ∙ stored-at held front (taskNumbers t) 0 (4 * i) (omega (arith, n)) ∙ sym
+          e ∙ ap (λ (l : List ℕ). sets l (5 * i) (taskNumbers t)) (f .whole) ∙ stored-at held front (taskNumbers t) 0 (5 * i) (omega (arith, n)) ∙ sym
           (ap (sets held 0) more);
     }
 
 pub put-all : (held : List ℕ) (tasks : List Task) (now : List ℕ) (i : ℕ) → Put held tasks now i → 32 ≤ i → now ≡ numbersOf tasks ++ drop (length (numbersOf tasks)) held
 put-all held tasks now i f h =
     let e : take i tasks ≡ tasks = take-all i tasks (omega (arith, f .many)) in
-    let n : length (numbersOf tasks) ≡ 128 = length-numbers tasks ∙ ap (λ (k : ℕ). 4 * k) (f .many) in
+    let n : length (numbersOf tasks) ≡ 160 = length-numbers tasks ∙ ap (λ (k : ℕ). 5 * k) (f .many) in
     let z : 0 + length (numbersOf tasks) ≡ length (numbersOf tasks) = omega arith in
     f .whole
     ∙ ap (λ (l : List Task). sets held 0 (numbersOf l)) e
@@ -86,7 +89,7 @@ module _ (f sheet task tick cost answer : List ℕ) where
   abbrev ended : Answer File
   ended = readAnswer f sheet task tick cost answer
 
-  as-called : 3 ≤ length answer → 128 ≤ length sheet → ended ≡ readCall f task tick cost
+  as-called : 3 ≤ length answer → 160 ≤ length sheet → ended ≡ readCall f task tick cost
   unfolding readAnswer
   as-called h g = within-enough (decode f) (length sheet) (length answer) task tick cost g h ∙ sym (call-told task tick cost f)
 
@@ -111,7 +114,7 @@ module _ (f sheet task tick cost answer : List ℕ) where
   pub read-refused
       : (r number place : ℕ) (task′ tick′ cost′ : List ℕ)
       → 3 ≤ length answer
-      → 128 ≤ length sheet
+      → 160 ≤ length sheet
       → refused (record { number = number; place = place }) ≡ readCount (readCall f task tick cost)
       → r ≡ refusalCode number place
       → task′ ≡ readColumn (λ q. q .task) (readCall f task tick cost) task
@@ -147,7 +150,7 @@ module _ (f sheet task tick cost answer : List ℕ) where
   pub read-answered
       : (n r : ℕ) (s : TaskSet) (sheet′ task′ tick′ cost′ answer′ : List ℕ)
       → 3 ≤ length answer
-      → 128 ≤ length sheet
+      → 160 ≤ length sheet
       → answered n ≡ readCount (readCall f task tick cost)
       → s ≡ readSheet (readCall f task tick cost)
       → sheet′ ≡ numbersOf (s .tasks) ++ drop (length (numbersOf (s .tasks))) sheet

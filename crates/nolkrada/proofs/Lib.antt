@@ -6,5 +6,7 @@ pub mod ReadLaws
 pub mod FileLaws
 pub mod SameNumbers
 pub mod WriteEndLaws
+pub mod ColumnEndLaws
 pub mod JumpEndLaws
+pub mod ChoiceEndLaws
 pub mod LoadEndLaws

@@ -47,13 +47,13 @@ module _ (text sheet answer : List ℕ) where
   load-refused r number place e i = load-halted (record { number = number; place = place }) r (ended-refused _ e) i
 
   -- too few slots for the sheet, or for the word
-  pub load-no-sheet : (ts : List Task) (r : ℕ) → load text ≡ answered ts → length sheet < 128 → r ≡ refusalCode 13 128 → LoadEnds ended sheet answer r sheet answer
-  load-no-sheet ts r e h i = load-halted (tooFew 128) r (ended-slots ts (some (tooFew 128)) e (sym (slots-short _ _ h))) i
+  pub load-no-sheet : (ts : List Task) (r : ℕ) → load text ≡ answered ts → length sheet < 160 → r ≡ refusalCode 13 160 → LoadEnds ended sheet answer r sheet answer
+  load-no-sheet ts r e h i = load-halted (tooFew 160) r (ended-slots ts (some (tooFew 160)) e (sym (slots-short _ _ h))) i
 
   pub load-no-word
       : (ts : List Task) (r : ℕ)
       → load text ≡ answered ts
-      → 128 ≤ length sheet
+      → 160 ≤ length sheet
       → length answer < 1
       → r ≡ refusalCode 13 1
       → LoadEnds ended sheet answer r sheet answer
@@ -64,7 +64,7 @@ module _ (text sheet answer : List ℕ) where
       : (ts : List Task) (s : TaskSet) (r : ℕ) (sheet′ answer′ : List ℕ)
       → load text ≡ answered ts
       → s ≡ setOf ts
-      → 128 ≤ length sheet
+      → 160 ≤ length sheet
       → 1 ≤ length answer
       → sheet′ ≡ numbersOf (s .tasks) ++ drop (length (numbersOf (s .tasks))) sheet
       → Ends 1 (answered (s .count ∷ [])) answer r answer′

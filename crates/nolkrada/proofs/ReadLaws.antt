@@ -14,8 +14,9 @@ use Rattle.model.specs.Checks.{Lent, inRange, carries, entryFault, checkSlots, 
 use Rattle.model.specs.Calls.{lends}
 use Rattle.model.proofs.CheckLaws.{slots-next, slot-of}
 use Rattle.taskset.specs.declared.Task.{Task}
-use Rattle.fileformat.specs.Records.{bodySize, long, short, Width, Record, broken, taskRecord, releaseRecord, chargeRecord, endRecord, recordOf, whole, sizeOf}
-use Rattle.fileformat.specs.File.{File, State, Step, stop, next, last, chargeFault, taskFault, lowTick, highTick, listFault, endFault, unless, advance, afterEnd, readBy, readFrom, decode}
+use Rattle.fileformat.specs.Numbers.{field}
+use Rattle.fileformat.specs.Records.{taskBody, bodySize, long, short, Width, Record, broken, wrongMark, taskRecord, releaseRecord, chargeRecord, endRecord, markedFrom, recordOf, whole, sizeOf}
+use Rattle.fileformat.specs.File.{File, State, Step, stop, next, last, chargeFault, taskFault, markFault, lowTick, highTick, listFault, endFault, unless, advance, afterEnd, readBy, readFrom, decode}
 use Rattle.fileformat.specs.FileCalls.{readCall, readCount}
 use Rattle.nolkrada.specs.Interface.{refusalCode, codeOf, codeIn, tooFew}
 use Rattle.nolkrada.proofs.AnswerOrderLaws.{slots-extra}
@@ -37,6 +38,7 @@ OtherFault (some n) = NotSlots n
 
 abbrev OtherRecord : Record → Type 0
 OtherRecord (broken n) = NotSlots n
+OtherRecord wrongMark = 0 ≤ 0
 OtherRecord (taskRecord t) = 0 ≤ 0
 OtherRecord (releaseRecord w r) = 0 ≤ 0
 OtherRecord (chargeRecord c) = 0 ≤ 0
@@ -55,15 +57,20 @@ whole-other : (n : ℕ) (l : List ℕ) (r : Record) → OtherRecord r → OtherR
 unfolding whole
 whole-other n l r h = either OtherRecord (ltb (length l) n) _ _ (omega arith) h
 
+marked-other : (l : List ℕ) → OtherRecord (markedFrom l)
+unfolding markedFrom
+marked-other l = either OtherRecord (eqb (field 16 1 l) 0) _ _ (omega arith) (omega arith)
+
 record-other : (f : List ℕ) → OtherRecord (recordOf f)
 unfolding recordOf
 record-other [] = omega arith
 record-other (k ∷ l) =
-    either OtherRecord (eqb k 1) _ _ (whole-other 16 l _ (omega arith))
+    either OtherRecord (eqb k 1) _ _ (whole-other (taskBody false) l _ (omega arith))
     (either OtherRecord (eqb k 2) _ _ (whole-other (bodySize short) l _ (omega arith))
     (either OtherRecord (eqb k 3) _ _ (whole-other 0 l _ (omega arith))
     (either OtherRecord (eqb k 4) _ _ (whole-other (bodySize long) l _ (omega arith))
-    (either OtherRecord (eqb k 5) _ _ (whole-other 1 l _ (omega arith)) (omega arith)))))
+    (either OtherRecord (eqb k 5) _ _ (whole-other 1 l _ (omega arith))
+    (either OtherRecord (eqb k 6) _ _ (whole-other (taskBody true) l _ (marked-other l)) (omega arith))))))
 
 charge-other : (a b c d : ℕ) → OtherFault (chargeFault a b c d)
 unfolding chargeFault
@@ -82,6 +89,10 @@ task-other c a b t =
     (either OtherFault (leb maxTasks a) _ _ (omega arith)
     (neither OtherFault (inRange (t .period) (t .jitter) (t .cost) (t .deadline)) _ _ (omega arith)
     (neither OtherFault (carries c (t .period) (t .cost) (t .deadline)) _ _ (omega arith) (omega arith))))
+
+mark-other : (a b : ℕ) → NotSlots (markFault a b)
+unfolding markFault
+mark-other a b = either NotSlots (ltb 0 b) _ _ (omega arith) (either NotSlots (leb maxTasks a) _ _ (omega arith) (omega arith))
 
 release-other : (s : Tasks) (low high : ℕ) (r : Release) → OtherFault (releaseFault s low high r)
 unfolding releaseFault
@@ -111,6 +122,7 @@ unless-other (some n) t h g = h
 advance-other : (s : State) (r : Record) → OtherRecord r → OtherStep (advance s r)
 unfolding advance
 advance-other s (broken n) h = h
+advance-other s wrongMark h = mark-other (length (s .tasks)) (length (s .releases))
 advance-other s (taskRecord t) h = unless-other _ _ (task-other _ _ _ t) (omega arith)
 advance-other s (releaseRecord w r) h = unless-other _ _ (list-other _ _ _ w r) (omega arith)
 advance-other s (chargeRecord c) h = unless-other _ _ (charge-other _ _ _ c) (omega arith)
@@ -255,13 +267,13 @@ module _ (sheet task tick cost answer : ℕ) where
   abbrev lent : ℕ → Option Refusal
   lent m = checkSlots (readLent m sheet task tick cost answer)
 
-  sheet-enough : (m : ℕ) → none ≡ lent m → 128 ≤ sheet
+  sheet-enough : (m : ℕ) → none ≡ lent m → 160 ≤ sheet
   sheet-enough m e = slot-of _ _ e .0
 
   answer-enough : (m : ℕ) → none ≡ lent m → 3 ≤ answer
   answer-enough m e = slot-of _ _ (slot-of _ _ (slot-of _ _ (slot-of _ _ (slot-of _ _ e .1) .1) .1) .1) .0
 
-  pub sheet-halts : (a : Answer File) → sheet < 128 → Halts (readWithin a sheet task tick cost answer)
+  pub sheet-halts : (a : Answer File) → sheet < 160 → Halts (readWithin a sheet task tick cost answer)
   unfolding readWithin
   sheet-halts (refused q) h = omega arith
   sheet-halts (answered x) h = halting (lent (length (x .releases))) x (λ e. omega (arith, sheet-enough (length (x .releases)) e))
@@ -301,7 +313,7 @@ module _ (sheet task tick cost answer : ℕ) where
 -- where both are enough, the columns decide
 pub within-enough
     : (d : Answer File) (sheet answer : ℕ) (task tick cost : List ℕ)
-    → 128 ≤ sheet
+    → 160 ≤ sheet
     → 3 ≤ answer
     → readWithin d sheet (length task) (length tick) (length cost) answer ≡ told task tick cost d
 unfolding readWithin
@@ -311,4 +323,4 @@ within-enough (answered x) sheet answer task tick cost g h =
     let columns = lends m task ∷ lends m tick ∷ lends m cost ∷ [] in
     let words : Lent = record { needed = 3; slots = answer } in
     ap (λ (o : Option Refusal). elim o [ none ↦ answered x | some q ↦ refused q ])
-    (slots-next (record { needed = 128; slots = sheet }) (columns ++ (words ∷ [])) g ∙ slots-extra columns words h)
+    (slots-next (record { needed = 160; slots = sheet }) (columns ++ (words ∷ [])) g ∙ slots-extra columns words h)

@@ -8,12 +8,12 @@ use lib.Dec.{eqb}
 use lib.ListN.{length}
 use Rattle.model.specs.Refusal.{Refusal, Answer, refused, answered}
 use Rattle.model.specs.Checks.{refusalOf}
-use Rattle.model.specs.Calls.{arrivalCall, verdictCall, traceCall, choiceInputs, readyInputs, runInputs}
+use Rattle.model.specs.Calls.{arrivalCall, verdictCall, traceCall, readyInputs, runInputs}
 use Rattle.taskset.specs.TaskSet.{viewOf}
 use Rattle.nolkrada.specs.Interface.{sheetFrom, codeOf, codeIn, asWords, withSlots, oneWord, verdictWords, traceWords}
 use Rattle.nolkrada.specs.Files.{readAnswer, writeAnswer}
 use Rattle.nolkrada.specs.Texts.{loadAnswer}
-use Rattle.nolkrada.specs.Runs.{jumpAnswer}
+use Rattle.nolkrada.specs.Runs.{jumpAnswer, choiceAnswer}
 
 -- what a code tells: 0, that nothing is refused; else the number, code ÷ 2^32, and the place, the rest
 unfoldable pub told : ℕ → Option Refusal
@@ -41,7 +41,7 @@ pub record CodesTell : Type 0 where
       : (sheet : List ℕ) (count charge task : ℕ) (kept answer : List ℕ)
       → task < 4294967296
       → TellsOf (withSlots 4 (length answer) (asWords verdictWords (verdictCall (viewOf (sheetFrom sheet count charge)) task kept)))
-  pub choice : (sheet : List ℕ) (count charge : ℕ) (kept worst : List ℕ) → Tells (refusalOf (choiceInputs (viewOf (sheetFrom sheet count charge)) kept worst))
+  pub choice : (sheet : List ℕ) (count charge : ℕ) (kept worst answer : List ℕ) → TellsOf (choiceAnswer sheet count charge kept worst answer)
   pub trace
       : (sheet : List ℕ) (count charge n : ℕ) (task tick cost answer : List ℕ)
       → TellsOf (withSlots 2 (length answer) (asWords traceWords (traceCall (viewOf (sheetFrom sheet count charge)) n task tick cost)))

@@ -1,6 +1,7 @@
 -- The C interface of read and write: words and numbers from a file.
 use Prim.Native.Nat.{ℕ}
 use mathlib.Core.Path.{_≡_}
+use mathlib.Core.Bool.{Bool, true, false}
 use mathlib.Core.Option.{some, none}
 use mathlib.Core.List.{List, [], _∷_, _++_}
 use lib.ListN.{length}
@@ -12,9 +13,14 @@ use Rattle.fileformat.specs.File.{File, encode, decode}
 use Rattle.fileformat.specs.FileCalls.{setOf, readColumn, writeInputs, fileOf}
 use Rattle.nolkrada.specs.Interface.{sheetFrom, codeIn, wordsAfter, asWords, withSlots}
 
+-- a mark as a number: 0 for high, 1 for low
+unfoldable pub markNumber : Bool → ℕ
+markNumber true = 1
+markNumber false = 0
+
 -- the numbers of a task
 abbrev pub taskNumbers : Task → List ℕ
-taskNumbers t = t .period ∷ t .jitter ∷ t .cost ∷ t .deadline ∷ []
+taskNumbers t = t .period ∷ t .jitter ∷ t .cost ∷ t .deadline ∷ markNumber (t .low) ∷ []
 
 -- the numbers of some tasks
 unfoldable pub numbersOf : List Task → List ℕ
@@ -25,7 +31,7 @@ numbersOf (t ∷ l) = taskNumbers t ++ numbersOf l
 unfoldable pub fileWords : File → List ℕ
 fileWords x = length (x .tasks) ∷ length (x .releases) ∷ x .charge ∷ []
 
--- the sheet of some tasks as 128 numbers, those of the entries past the tasks being 0
+-- the sheet of some tasks as 160 numbers, those of the entries past the tasks being 0
 unfoldable pub entryNumbers : List Task → List ℕ
 entryNumbers ts = numbersOf (setOf ts .tasks)
 
@@ -39,7 +45,7 @@ slots n have = record { needed = n; slots = have }
 
 -- the slices lent to a read of m releases, given how many slots each has: the sheet, the columns and then the words
 abbrev pub readLent : ℕ → ℕ → ℕ → ℕ → ℕ → ℕ → List Lent
-readLent m sheet task tick cost answer = slots 128 sheet ∷ slots m task ∷ slots m tick ∷ slots m cost ∷ slots 3 answer ∷ []
+readLent m sheet task tick cost answer = slots 160 sheet ∷ slots m task ∷ slots m tick ∷ slots m cost ∷ slots 3 answer ∷ []
 
 -- a file to which they are lent: what is wrong with the file, then 13 for the first slice that is too short
 unfoldable pub readWithin : Answer File → ℕ → ℕ → ℕ → ℕ → ℕ → Answer File

@@ -1,7 +1,7 @@
 -- The C interface: a sheet passed as numbers, refusals as codes, answers as words in a lent slice.
 use Prim.Native.Nat.{ℕ, _+_, _-_, _*_, _%_, min}
 use mathlib.Core.Path.{_≡_}
-use mathlib.Core.Bool.{Bool, true, false, _&&_, _||_}
+use mathlib.Core.Bool.{Bool, true, false, not, _&&_, _||_}
 use mathlib.Core.Option.{Option, some, none}
 use mathlib.Core.List.{List, [], _∷_, _++_}
 use lib.ListN.{length, getD, drop, replicate}
@@ -10,14 +10,22 @@ use lib.IntN.{natAbs}
 use Rattle.model.specs.Series.{table}
 use Rattle.model.specs.Verdict.{horizon, late, fits}
 use Rattle.model.specs.Evaluations.{Judged}
+use Rattle.model.specs.Choice.{Scope, ordinary, high-only}
 use Rattle.model.specs.Refusal.{Refusal, Answer, refused, answered}
 use Rattle.taskset.specs.declared.Task.{Task}
 use Rattle.taskset.specs.declared.TaskSet.{TaskSet}
 use Rattle.taskset.specs.TaskSet.{noTask}
 
--- the entry of task i in a sheet passed as numbers: P, J, E and D of task 0, then of task 1, ..; numbers past the end count as 0
+-- the entry of task i in a sheet passed as numbers: P, J, E, D and the mark of task 0, then of task 1, ..; the mark is 0 for high, another number for low; numbers
+-- past the end count as 0
 unfoldable pub taskAt : List ℕ → ℕ → Task
-taskAt l i = record { period = getD l (4 * i) 0; jitter = getD l (4 * i + 1) 0; cost = getD l (4 * i + 2) 0; deadline = getD l (4 * i + 3) 0 }
+taskAt l i = record {
+  period = getD l (5 * i) 0;
+  jitter = getD l (5 * i + 1) 0;
+  cost = getD l (5 * i + 2) 0;
+  deadline = getD l (5 * i + 3) 0;
+  low = not (eqb (getD l (5 * i + 4) 0) 0);
+}
 
 -- the sheet of such numbers, a count and a charge: entries past the count are 0
 abbrev pub sheetFrom : List ℕ → ℕ → ℕ → TaskSet
@@ -71,6 +79,11 @@ Ends n a held r words = (r ≡ codeIn (withSlots n (length held) a)) × (words �
 -- a number as one word
 abbrev pub oneWord : ℕ → List ℕ
 oneWord n = n ∷ []
+
+-- which of the two choices it is, as one word: 0 for the ordinary one, 1 for that of the high tasks alone
+unfoldable pub scopeWord : Scope → List ℕ
+scopeWord ordinary = 0 ∷ []
+scopeWord high-only = 1 ∷ []
 
 -- a verdict as four words: 0, q, 0 for horizon; 1, q, R for late; 2, q, R for fits; and then the number of its evaluations
 unfoldable pub verdictWords : Judged → List ℕ

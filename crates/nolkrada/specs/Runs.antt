@@ -1,21 +1,27 @@
--- The C interface of the run that jumps: two columns and a word.
+-- The C interface of the calls that answer in two columns and a word: the run that jumps, and the choice.
 use Prim.Native.Nat.{ℕ}
 use mathlib.Core.Path.{_≡_}
 use mathlib.Core.List.{List}
 use lib.ListN.{length}
+use Rattle.model.specs.Choice.{Scope}
 use Rattle.model.specs.Refusal.{Answer}
-use Rattle.model.specs.Calls.{jumpCall}
+use Rattle.model.specs.Calls.{choiceCall, jumpCall}
 use Rattle.taskset.specs.TaskSet.{viewOf}
-use Rattle.nolkrada.specs.Interface.{sheetFrom, codeIn, wordsAfter, asWords, oneWord, withSlots}
+use Rattle.nolkrada.specs.Interface.{sheetFrom, codeIn, wordsAfter, asWords, withSlots}
 
 -- the run that jumps: the number of stops, with one word lent after the columns
 unfoldable pub jumpAnswer : List ℕ → ℕ → ℕ → List ℕ → ℕ → List ℕ → List ℕ → List ℕ → List ℕ → List ℕ → List ℕ → Answer ℕ
 jumpAnswer sheet count charge kept n task tick cost ready finish answer =
     withSlots 1 (length answer) (jumpCall (viewOf (sheetFrom sheet count charge)) kept n task tick cost ready finish)
 
--- how it ends, given the ready and finish ticks of the list: what it returns, and what stands in the two columns and in the word
-pub record JumpEnds (a : Answer ℕ) (readies finishes ready finish answer : List ℕ) (r : ℕ) (ready′ finish′ answer′ : List ℕ) : Type 0 where
+-- the choice: which of the two it is, with one word lent after the columns
+unfoldable pub choiceAnswer : List ℕ → ℕ → ℕ → List ℕ → List ℕ → List ℕ → Answer Scope
+choiceAnswer sheet count charge kept worst answer =
+    withSlots 1 (length answer) (choiceCall (viewOf (sheetFrom sheet count charge)) kept worst)
+
+-- how such a call ends, given its answer, that as a word, and what it puts into the columns: what it returns, and what stands in the two columns and in the word
+pub record ColumnsEnd {A : Type 0} (word : A → List ℕ) (a : Answer A) (firsts seconds first second answer : List ℕ) (r : ℕ) (first′ second′ answer′ : List ℕ) : Type 0 where
   pub code : r ≡ codeIn a
-  pub words : answer′ ≡ wordsAfter (asWords oneWord a) answer
-  pub ready-column : ready′ ≡ wordsAfter (asWords (λ n. readies) a) ready
-  pub finish-column : finish′ ≡ wordsAfter (asWords (λ n. finishes) a) finish
+  pub words : answer′ ≡ wordsAfter (asWords word a) answer
+  pub first-column : first′ ≡ wordsAfter (asWords (λ x. firsts) a) first
+  pub second-column : second′ ≡ wordsAfter (asWords (λ x. seconds) a) second

@@ -17,7 +17,7 @@ textWord ts = length ts ∷ []
 
 -- the slices lent to a load, given how many slots each has: the sheet and then the word
 abbrev pub loadLent : ℕ → ℕ → List Lent
-loadLent sheet answer = slots 128 sheet ∷ slots 1 answer ∷ []
+loadLent sheet answer = slots 160 sheet ∷ slots 1 answer ∷ []
 
 -- a text to which they are lent: what is wrong with the text, then 13 for the first slice that is too short
 unfoldable pub loadWithin : Answer (List Task) → ℕ → ℕ → Answer (List Task)

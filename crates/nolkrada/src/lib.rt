@@ -15,7 +15,6 @@ ghost use Rattle.model.specs.Calls.{
   arrivalCall,
   verdictCall,
   traceCall,
-  choiceInputs,
   keptColumn,
   worstColumn,
   readyInputs,
@@ -38,12 +37,14 @@ ghost use Rattle.nolkrada.specs.Interface.{
   orTooFew,
   Ends,
   oneWord,
+  scopeWord,
   verdictWords,
   traceWords,
 };
-ghost use Rattle.nolkrada.specs.Files.{taskNumbers, numbersOf, readWithin, readAnswer, ReadEnds, writeAnswer, WriteEnds};
+ghost use Rattle.nolkrada.specs.Files.{markNumber, taskNumbers, numbersOf, readWithin, readAnswer, ReadEnds, writeAnswer, WriteEnds};
 ghost use Rattle.nolkrada.specs.Texts.{loadAnswer, LoadEnds};
-ghost use Rattle.nolkrada.specs.Runs.{jumpAnswer, JumpEnds};
+ghost use Rattle.nolkrada.specs.Runs.{jumpAnswer, choiceAnswer, ColumnsEnd};
+use choice::ChoiceAnswer;
 use demand::ArrivalAnswer;
 use jumps::JumpAnswer;
 use reader::ReadOutcome;
@@ -69,15 +70,17 @@ fn task_at(sheet: &[u32], i: usize) -> Task
     requires { ⌜ i < 32 ⌝ }
     ensures { λ r. ⌜ r ≡ taskAt (now (sheet .entry)) i ⌝ }
 {
-    let period = number_at(sheet, 4 * i);
-    let jitter = number_at(sheet, 4 * i + 1);
-    let cost = number_at(sheet, 4 * i + 2);
-    let deadline = number_at(sheet, 4 * i + 3);
+    let period = number_at(sheet, 5 * i);
+    let jitter = number_at(sheet, 5 * i + 1);
+    let cost = number_at(sheet, 5 * i + 2);
+    let deadline = number_at(sheet, 5 * i + 3);
+    let mark = number_at(sheet, 5 * i + 4);
     Task {
         period: period,
         jitter: jitter,
         cost: cost,
         deadline: deadline,
+        low: mark != 0,
     }
 }
 
@@ -100,6 +103,7 @@ fn sheet_from(sheet: &[u32], count: u32, charge: u8) -> TaskSet
         jitter: 0,
         cost: 0,
         deadline: 0,
+        low: false,
     };
     let mut tasks = [none; 32];
     let used = entries_used(count);
@@ -269,7 +273,7 @@ pub extern "C" fn nolkrada_verdict(
     }
 }
 
-// The choice of kept jitters: a kept jitter and a worst value for each task.
+// The choice of kept jitters: a kept jitter and a worst value for each task, and one word: which of the two choices it is.
 #[no_mangle]
 pub extern "C" fn nolkrada_choice(
     sheet: &[u32],
@@ -277,22 +281,29 @@ pub extern "C" fn nolkrada_choice(
     charge: u8,
     kept: &mut [u32],
     worst: &mut [u32],
+    answer: &mut [u64],
 ) -> u64
-    ensures code { λ r. ⌜ r ≡ codeOf (refusalOf (choiceInputs (viewOf (sheetFrom (now (sheet .entry)) count charge)) (now (kept .entry)) (now (worst .entry)))) ⌝ }
-    ensures keeps { λ _. ⌜
-        now (kept .exit)
-        ≡ columnAfter (refusalOf (choiceInputs (viewOf (sheetFrom (now (sheet .entry)) count charge)) (now (kept .entry)) (now (worst .entry))))
-        (keptColumn (choice (viewOf (sheetFrom (now (sheet .entry)) count charge)))) (now (kept .entry))
-        ⌝ }
-    ensures worsts { λ _. ⌜
-        now (worst .exit)
-        ≡ columnAfter (refusalOf (choiceInputs (viewOf (sheetFrom (now (sheet .entry)) count charge)) (now (kept .entry)) (now (worst .entry))))
-        (worstColumn (choice (viewOf (sheetFrom (now (sheet .entry)) count charge)))) (now (worst .entry))
+    ensures { λ r. ⌜
+        ColumnsEnd scopeWord (choiceAnswer (now (sheet .entry)) count charge (now (kept .entry)) (now (worst .entry)) (now (answer .entry)))
+        (keptColumn (choice (viewOf (sheetFrom (now (sheet .entry)) count charge))))
+        (worstColumn (choice (viewOf (sheetFrom (now (sheet .entry)) count charge))))
+        (now (kept .entry)) (now (worst .entry)) (now (answer .entry)) r (now (kept .exit)) (now (worst .exit)) (now (answer .exit))
         ⌝ }
 {
     let s = sheet_from(sheet, count, charge);
-    let checked = choice::choose(s, kept, worst);
-    code_of(checked)
+    if answer.len() < 1 {
+        let checked = choice::check_room(s, kept.len(), worst.len());
+        if let Checked::Refused { number, place } = checked {
+            return slots_code(number, place, 1, answer.len());
+        }
+        return refusal_code(13, 1);
+    }
+    let got = choice::choose(s, kept, worst);
+    match got {
+        ChoiceAnswer::Refused { number, place } => refusal_code(number, place),
+        ChoiceAnswer::Ordinary => put_one(answer, 0),
+        ChoiceAnswer::HighOnly => put_one(answer, 1),
+    }
 }
 
 // The trace check of n releases: two words.
@@ -410,7 +421,7 @@ pub extern "C" fn nolkrada_jump(
     answer: &mut [u64],
 ) -> u64
     ensures { λ r. ⌜
-        JumpEnds (jumpAnswer (now (sheet .entry)) count charge (now (kept .entry)) n (now (task .entry)) (now (tick .entry)) (now (cost .entry)) (now (ready .entry))
+        ColumnsEnd oneWord (jumpAnswer (now (sheet .entry)) count charge (now (kept .entry)) n (now (task .entry)) (now (tick .entry)) (now (cost .entry)) (now (ready .entry))
         (now (finish .entry)) (now (answer .entry)))
         (readyList (viewOf (sheetFrom (now (sheet .entry)) count charge)) (column (now (kept .entry)))
         (releasesOf n (now (task .entry)) (now (tick .entry)) (now (cost .entry))))
@@ -443,26 +454,34 @@ pub extern "C" fn nolkrada_jump(
     }
 }
 
-// Writes the four numbers of a task.
+// A mark as a number: 0 for high, 1 for low.
+fn mark_number(low: bool) -> u32
+    ensures { λ r. ⌜ r ≡ markNumber low ⌝ }
+{
+    if low { 1 } else { 0 }
+}
+
+// Writes the five numbers of a task.
 fn put_task(sheet: &mut [u32], at: usize, t: Task)
-    requires { ⌜ at + 4 ≤ length (now sheet) ⌝ }
+    requires { ⌜ at + 5 ≤ length (now sheet) ⌝ }
     ensures { λ _. ⌜ now (sheet .exit) ≡ sets (now (sheet .entry)) at (taskNumbers t) ⌝ }
 {
     sheet[at] = t.period;
     sheet[at + 1] = t.jitter;
     sheet[at + 2] = t.cost;
     sheet[at + 3] = t.deadline;
+    sheet[at + 4] = mark_number(t.low);
 }
 
-// Writes the 128 numbers of a sheet.
+// Writes the 160 numbers of a sheet.
 fn put_sheet(s: TaskSet, sheet: &mut [u32])
-    requires { ⌜ 128 ≤ length (now sheet) ⌝ }
+    requires { ⌜ 160 ≤ length (now sheet) ⌝ }
     ensures { λ _. ⌜ now (sheet .exit) ≡ numbersOf (s .tasks) ++ drop (length (numbersOf (s .tasks))) (now (sheet .entry)) ⌝ }
 {
     let mut i = 0;
     while i < 32 {
         let t = s.tasks[i];
-        put_task(sheet, 4 * i, t);
+        put_task(sheet, 5 * i, t);
         i += 1;
     }
 }
@@ -492,8 +511,8 @@ fn read_code(file: &[u8], sheet: usize, task: usize, tick: usize, cost: usize, a
     match found {
         ReadOutcome::Refused { number, place } => refusal_code(number, place),
         ReadOutcome::Read { releases } => {
-            if sheet < 128 {
-                return refusal_code(13, 128);
+            if sheet < 160 {
+                return refusal_code(13, 160);
             }
             if task < releases {
                 return refusal_code(13, releases);
@@ -512,7 +531,7 @@ fn read_code(file: &[u8], sheet: usize, task: usize, tick: usize, cost: usize, a
     }
 }
 
-// Reads a file: the 128 numbers of its sheet, three columns of releases, and three words: tasks, releases and the charge.
+// Reads a file: the 160 numbers of its sheet, three columns of releases, and three words: tasks, releases and the charge.
 #[no_mangle]
 pub extern "C" fn nolkrada_read(
     file: &[u8],
@@ -528,7 +547,7 @@ pub extern "C" fn nolkrada_read(
         (now (cost .exit)) (now (answer .exit))
         ⌝ }
 {
-    if sheet.len() < 128 {
+    if sheet.len() < 160 {
         return read_code(
             file,
             sheet.len(),
@@ -565,7 +584,7 @@ pub extern "C" fn nolkrada_read(
     }
 }
 
-// Loads a text: the 128 numbers of its sheet, and how many tasks as one word.
+// Loads a text: the 160 numbers of its sheet, and how many tasks as one word.
 #[no_mangle]
 pub extern "C" fn nolkrada_load(text: &[u8], sheet: &mut [u32], answer: &mut [u64]) -> u64
     ensures { λ r. ⌜
@@ -580,8 +599,8 @@ pub extern "C" fn nolkrada_load(text: &[u8], sheet: &mut [u32], answer: &mut [u6
         return refusal_code(number, place);
     }
     let slots = sheet.len();
-    if slots < 128 {
-        return refusal_code(13, 128);
+    if slots < 160 {
+        return refusal_code(13, 160);
     }
     if answer.len() < 1 {
         return refusal_code(13, 1);

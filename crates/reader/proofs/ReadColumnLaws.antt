@@ -1,7 +1,7 @@
 -- Laws of the columns that a read writes, and of its answer.
 use Prim.Native.Nat.{ℕ, _+_, _*_, _-_, _≤_, _<_}
 use mathlib.Core.Path.{_≡_, refl, sym, ap, ap₂, _∙_}
-use mathlib.Core.Option.{some, none}
+use mathlib.Core.Option.{Option, some, none}
 use mathlib.Core.List.{List, [], _∷_, _++_, map}
 use native.Mathlib.Omega.{arith}
 use native.Mathlib.Numerals.{add-one}
@@ -9,7 +9,7 @@ use lib.Dec.{eqb}
 use lib.ListN.{length, getD, take, drop, set, length-set, length-map, take-append-drop, List·getD-map}
 use lib.Seq.{take-suc, take-suc-set, take-length, drop-set-lt, drop-drop}
 use Rattle.model.specs.Tasks.{Release, noRelease}
-use Rattle.model.specs.Refusal.{Refusal, refuse, refused, answered}
+use Rattle.model.specs.Refusal.{Refusal, refuse, Answer, refused, answered, firstOf}
 use Rattle.model.specs.Checks.{Lent, checkSlots}
 use Rattle.model.specs.Calls.{lends, columnAfter}
 use Rattle.model.proofs.TableLaws.{getD-table}
@@ -17,7 +17,9 @@ use Rattle.reader.specs.declared.Job.{Job}
 use Rattle.reader.specs.declared.Scanned.{Scanned}
 use Rattle.reader.specs.declared.ReadOutcome.the-variants.{Read, Refused as Halted}
 use Rattle.taskset.specs.declared.TaskSet.{TaskSet}
+use Rattle.taskset.specs.declared.Checked.{Checked}
 use Rattle.taskset.specs.declared.Checked.the-variants.{Fine, Refused}
+use Rattle.taskset.specs.TaskSet.{refusalIn}
 use Rattle.fileformat.specs.Records.{widthIn, Width, short, long, kindOf, bodySize, releaseRecord, releaseFrom, releaseSize}
 use Rattle.fileformat.specs.File.{File, decode}
 use Rattle.fileformat.specs.FileCalls.{setOf, readCall, readCount, readSheet, readColumn}
@@ -196,6 +198,21 @@ module _ (f : List ℕ) (start count : ℕ) (task₀ tick₀ cost₀ : List ℕ)
           cost-column = column-all f start count _ _ _ i (p .cost-copied) h (p .within);
         }
 
+-- the first of two refusals
+pub first-of-two : (a b : Option Refusal) {q : Refusal} → a ≡ some q → firstOf (a ∷ b ∷ []) ≡ some q
+unfolding firstOf
+first-of-two a b e = rw (firstOf, e)
+
+pub second-of-two : (a b : Option Refusal) → a ≡ none → firstOf (a ∷ b ∷ []) ≡ b
+unfolding firstOf
+second-of-two a none e = rw (firstOf, e)
+second-of-two a (some q) e = rw (firstOf, e)
+
+-- a refusal as the answer of a file
+abbrev answerOr : Option Refusal → Answer File
+answerOr none = refused (record { number = 0; place = 0 })
+answerOr (some q) = refused q
+
 -- the answer of a read: the file's own refusal, then 13, else what the file holds
 module _ (f task tick cost : List ℕ) where
   call-refused : (q : Refusal) → refused q ≡ decode f → refused q ≡ readCall f task tick cost
@@ -241,16 +258,29 @@ module _ (f task tick cost : List ℕ) where
     found : r .answer ≡ Fine → answered (fileIn f r) ≡ decode f
     found e = ap (answerWith (fileIn f r)) (sym e) ∙ h .answer
 
-    pub reads-refused : (n p : ℕ) → r .answer ≡ Refused n p → ReadSays f task tick cost (record { outcome = Halted n p; tasks = r .tasks }) task tick cost
-    unfolding readSheet
-    reads-refused n p e =
-        let d : refused (record { number = n; place = p }) ≡ decode f = ap (answerWith (fileIn f r)) (sym e) ∙ h .answer in
-        says-refused n p (r .tasks) (h .sheet ∙ ap readSheet (sym d)) (call-refused _ d)
-
-    pub reads-short
-        : (n p : ℕ) (s : TaskSet) → r .answer ≡ Fine → s ≡ setOf [] → refuse n p ≡ checkSlots (slots (r .releases))
+    -- a refusal of the file, or of the columns after it
+    pub reads-halted
+        : (n p : ℕ) (s : TaskSet) → s ≡ setOf [] → refuse n p ≡ firstOf (refusalIn (r .answer) ∷ checkSlots (slots (r .releases)) ∷ [])
         → ReadSays f task tick cost (record { outcome = Halted n p; tasks = s }) task tick cost
-    reads-short n p s e z g = says-refused n p s z (call-short (fileIn f r) _ (found e) (g ∙ ap (λ k. checkSlots (slots k)) length-in))
+    reads-halted n p s z g = says-refused n p s z (go (r .answer) refl (checkSlots (slots (r .releases))) refl)
+      where
+        go : (a : Checked) → r .answer ≡ a → (o : Option Refusal) → checkSlots (slots (r .releases)) ≡ o → refused (record { number = n; place = p }) ≡ readCall f task tick cost
+        go (Refused m k) e o d =
+            let q : refuse n p ≡ refuse m k = g ∙ first-of-two _ _ (ap refusalIn e) in
+            call-refused _ (ap answerOr q ∙ ap (answerWith (fileIn f r)) (sym e) ∙ h .answer)
+        go Fine e o d =
+            let q : refuse n p ≡ checkSlots (slots (r .releases)) = g ∙ second-of-two _ _ (ap refusalIn e) in
+            call-short (fileIn f r) _ (found e) (q ∙ ap (λ k. checkSlots (slots k)) length-in)
+
+    -- neither
+    pub reads-passed : none ≡ firstOf (refusalIn (r .answer) ∷ checkSlots (slots (r .releases)) ∷ []) → (r .answer ≡ Fine) × (none ≡ checkSlots (slots (r .releases)))
+    reads-passed g = go (r .answer) refl
+      where
+        go : (a : Checked) → r .answer ≡ a → (r .answer ≡ Fine) × (none ≡ checkSlots (slots (r .releases)))
+        go Fine e = (e, g ∙ second-of-two _ _ (ap refusalIn e))
+        go (Refused m k) e =
+            let q : none ≡ refuse m k = g ∙ first-of-two _ _ (ap refusalIn e) in
+            let w : _≡_ {A = ℕ} 0 1 = cc in absurd (omega arith)
 
     pub reads-fine
         : (task′ tick′ cost′ : List ℕ)
@@ -263,7 +293,7 @@ module _ (f task tick cost : List ℕ) where
         let a : answered (fileIn f r) ≡ readCall f task tick cost = call-fine (fileIn f r) (found e) (g ∙ ap (λ k. checkSlots (slots k)) length-in) in
         record {
           outcome = ap answered length-in ∙ ap readCount a;
-          sheet = h .sheet ∙ ap readSheet (sym (found e)) ∙ ap readSheet a;
+          sheet = h .sheet (fileIn f r) (sym (found e)) ∙ ap readSheet (sym (found e)) ∙ ap readSheet a;
           task-column = c .task-column ∙ ap (λ b. readColumn (λ y. y .task) b task) a;
           tick-column = c .tick-column ∙ ap (λ b. readColumn (λ y. y .tick) b tick) a;
           cost-column = c .cost-column ∙ ap (λ b. readColumn (λ y. y .cost) b cost) a;

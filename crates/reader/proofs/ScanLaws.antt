@@ -5,13 +5,14 @@ use mathlib.Core.Option.{some, none}
 use mathlib.Core.List.{List, [], _∷_, _++_}
 use native.Mathlib.Omega.{arith}
 use native.Mathlib.Numerals.{add-one}
-use lib.ListN.{length, drop, set, replicate, length-set, drop-of-length-le}
-use lib.Seq.{take-suc-set, drop-set-lt, drop-drop, drop-cons}
+use lib.ListN.{length, getD, drop, set, replicate, length-set, drop-of-length-le}
+use lib.Seq.{take-suc-set, drop-set-lt, drop-drop, drop-cons, getD-set-same, getD-set-other}
 use Rattle.model.specs.Limits.{maxTasks}
-use Rattle.model.specs.Series.{table}
+use Rattle.model.specs.Series.{sum, table}
 use Rattle.model.specs.Tasks.{Tasks, Release}
 use Rattle.model.specs.Refusal.{Refusal, refused, answered}
 use Rattle.model.specs.Checks.{releaseFault}
+use Rattle.model.proofs.SeriesLaws.{sum-eq}
 use Rattle.model.proofs.TableLaws.{length-table}
 use Rattle.taskset.specs.declared.Task.{Task}
 use Rattle.taskset.specs.declared.TaskSet.{TaskSet}
@@ -19,16 +20,18 @@ use Rattle.taskset.specs.declared.Checked.the-variants.{Fine}
 use Rattle.taskset.specs.TaskSet.{noTask, viewOf}
 use Rattle.model.specs.Checks.{faultAt}
 use Rattle.model.proofs.CheckLaws.{faulty, fault-of, faultless-of}
-use Rattle.fileformat.specs.Records.{widthIn, Width, Record, broken, taskRecord, releaseRecord, chargeRecord, endRecord, releaseSize, recordOf, sizeOf}
-use Rattle.fileformat.specs.File.{State, stop, sheetWith, chargeFault, taskFault, lowTick, highTick, listFault, advance, afterEnd, readFrom, empty, decode}
-use Rattle.fileformat.specs.FileCalls.{tasksIn, setOf, setWith, chargeBytes, readSheet}
+use Rattle.fileformat.specs.Records.{Width, Record, broken, wrongMark, taskRecord, releaseRecord, chargeRecord, endRecord, taskSize, releaseSize, recordOf, sizeOf}
+use Rattle.fileformat.specs.File.{State, stop, sheetWith, chargeFault, taskFault, markFault, lowTick, highTick, listFault, advance, afterEnd, readFrom, empty, decode}
+use Rattle.fileformat.specs.FileCalls.{tasksIn, setOf, setWith, chargeBytes, tasksBytes, readSheet}
 use Rattle.fileformat.proofs.StepLaws.{charge-of, charge-stops, charge-taken, task-few, task-first, list-fault, end-early, end-fine}
-use Rattle.fileformat.proofs.StepLaws.{broken-stops, task-stops, task-taken, release-stops, release-taken, end-stops, end-taken, read-stop, read-next, read-last}
+use Rattle.fileformat.proofs.StepLaws.{broken-stops, mark-stops}
+use Rattle.fileformat.proofs.StepLaws.{task-stops, task-taken, release-stops, release-taken, end-stops, end-taken, read-stop, read-next, read-last}
 use Rattle.fileformat.proofs.SheetLaws.{same-sheet, length-tasks, list-agrees, set-of-tasks}
 use Rattle.fileformat.proofs.NumberLaws.{by-order}
 use Rattle.fileformat.proofs.OffsetLaws.{room}
 use Rattle.fileformat.proofs.RoundTrips.{no-charge-bytes, some-charge-bytes}
 use Rattle.fileformat.proofs.WidthLaws.{size-low}
+use Rattle.fileformat.proofs.TaskSizeLaws.{tasks-bytes-none, tasks-bytes-more}
 use Rattle.reader.specs.declared.Job.{Job}
 use Rattle.reader.specs.declared.Scanned.{Scanned}
 use Rattle.reader.specs.Reader.{releaseOf, recordThere, offsetOf, releaseIn, releasesAt, AreReleases, answerWith, startIn, fileIn, ScanSays, Refuses}
@@ -80,19 +83,20 @@ abbrev pub stateOf : List ℕ → TaskSet → ℕ → ℕ → State
 stateOf f s n before = record { charge = s .charge; tasks = tasksIn s; releases = releasesAt f (startIn s) n; before = before }
 
 -- where the scan stands: the file's answer is what the reading gives from here on, for as many records as there may still be
-pub record Scanning (f : List ℕ) (s : TaskSet) (n before at : ℕ) : Type 0 where
+pub record Scanning (f : List ℕ) (s : TaskSet) (n before start at : ℕ) : Type 0 where
   pub records : ℕ
   pub rest : decode f ≡ readFrom records (stateOf f s n before) at (drop at f)
   pub enough : suc (length f) ≤ records + at
   pub offset : at ≡ offsetOf f (startIn s) n
   pub far : startIn s + 10 * n ≤ at
+  pub begins : start ≡ startIn s
   pub stand : AreReleases f (startIn s) n
   pub within : at ≤ length f
   pub few-tasks : s .count ≤ maxTasks
   pub tasks-long : length (s .tasks) ≡ maxTasks
   pub padded : drop (s .count) (s .tasks) ≡ replicate (maxTasks - s .count) noTask
 
-module _ (f : List ℕ) (s : TaskSet) (n before at : ℕ) (i : Scanning f s n before at) where
+module _ (f : List ℕ) (s : TaskSet) (n before start at : ℕ) (i : Scanning f s n before start at) where
   in-array : s .count ≤ length (s .tasks)
   in-array = omega (arith, i .few-tasks, i .tasks-long)
 
@@ -117,6 +121,10 @@ module _ (f : List ℕ) (s : TaskSet) (n before at : ℕ) (i : Scanning f s n be
 
   pub scan-broken : (k : ℕ) → broken k ≡ recordOf (drop at f) → refused (record { number = k; place = at }) ≡ decode f
   scan-broken k e = stopped (broken k) k e (broken-stops _ k)
+
+  pub scan-mark : (k : ℕ) → wrongMark ≡ recordOf (drop at f) → k ≡ markFault (s .count) n → refused (record { number = k; place = at }) ≡ decode f
+  scan-mark k e a =
+      stopped wrongMark k e (mark-stops state ∙ ap stop (sym (a ∙ ap₂ markFault (sym (length-tasks s in-array)) (sym length-here))))
 
   charge-fault-here : (c : ℕ) → chargeFault (s .charge) (s .count) n c ≡ chargeFault (s .charge) (length (tasksIn s)) (length (state .releases)) c
   charge-fault-here c = ap₂ (λ a b. chargeFault (s .charge) a b c) (sym (length-tasks s in-array)) (sym length-here)
@@ -159,14 +167,20 @@ module _ (f : List ℕ) (s : TaskSet) (n before at : ℕ) (i : Scanning f s n be
   unfolding tasksIn
   state-charge c z = ap (λ b. record { charge = c; tasks = tasksIn s; releases = b; before = before }) (no-releases f _ n z ∙ sym (no-releases f _ n z))
 
+  -- the bytes of the tasks are the same
+  charge-alone : (c : ℕ) → tasksBytes (viewOf (withCharge c)) (s .count) ≡ tasksBytes (viewOf s) (s .count)
+  unfolding tasksBytes
+  charge-alone c = refl
+
   pub scan-charge-next
-      : (c : ℕ) → chargeRecord c ≡ recordOf (drop at f) → none ≡ faultAt at (chargeFault (s .charge) (s .count) n c) → Scanning f (withCharge c) n before (at + 2)
+      : (c : ℕ) → chargeRecord c ≡ recordOf (drop at f) → none ≡ faultAt at (chargeFault (s .charge) (s .count) n c) → Scanning f (withCharge c) n before (at + 2) (at + 2)
   unfolding sizeOf
   scan-charge-next c e a =
       let fine = faultless-of at _ a in
       let g = charge-of _ _ _ c fine in
       let z : n ≡ 0 = g .no-release in
       let b : chargeBytes (s .charge) ≡ 0 = ap chargeBytes (g .no-charge) ∙ no-charge-bytes in
+      let d = charge-alone c in
       record {
         records = left;
         enough = omega (arith, i .enough, i .within);
@@ -175,8 +189,9 @@ module _ (f : List ℕ) (s : TaskSet) (n before at : ℕ) (i : Scanning f s n be
             ∙ read-next left state at (drop at f) (chargeRecord c) (sym e) _ (charge-taken state c (sym (charge-fault-here c) ∙ fine))
             ∙ ap (readFrom left (record { charge = c; tasks = tasksIn s; releases = state .releases; before = before }) (at + 2)) (drop-drop 2 at f)
             ∙ ap (λ q. readFrom left q (at + 2) (drop (at + 2) f)) (state-charge c z);
-        offset = omega (arith, i .offset, g .no-task, b, some-charge-bytes c (g .not-zero), offset-none f (startIn s) n z, offset-none f (startIn (withCharge c)) n z);
-        far = omega (arith, i .far, b, some-charge-bytes c (g .not-zero));
+        offset = omega (arith, i .offset, b, d, some-charge-bytes c (g .not-zero), offset-none f (startIn s) n z, offset-none f (startIn (withCharge c)) n z);
+        far = omega (arith, i .far, b, d, some-charge-bytes c (g .not-zero));
+        begins = omega (arith, i .offset, b, d, some-charge-bytes c (g .not-zero), offset-none f (startIn s) n z);
         stand = λ r l. absurd (omega arith);
         within = room f at (chargeRecord c) (i .within) e;
         few-tasks = i .few-tasks;
@@ -204,11 +219,33 @@ module _ (f : List ℕ) (s : TaskSet) (n before at : ℕ) (i : Scanning f s n be
   state-task t h z =
       ap₂ (λ a b. record { charge = s .charge; tasks = a; releases = b; before = before }) (sym (tasks-more t h)) (no-releases f _ n z ∙ sym (no-releases f _ n z))
 
-  pub scan-task-next : (t : Task) → taskRecord t ≡ recordOf (drop at f) → none ≡ faultAt at (taskFault (s .charge) (s .count) n t) → Scanning f (withTask t) n before (at + 17)
+  -- its record stands before the releases too
+  tasks-bytes-kept : (t : Task) → s .count < maxTasks → tasksBytes (viewOf (withTask t)) (s .count) ≡ tasksBytes (viewOf s) (s .count)
+  unfolding tasksBytes
+  tasks-bytes-kept t h =
+      sum-eq (λ p. taskSize (viewOf (withTask t) .low p)) (λ p. taskSize (viewOf s .low p)) (s .count)
+      (λ p l. ap (λ (u : Task). taskSize (u .low)) (getD-set-other (s .tasks) (s .count) p t noTask (λ e. omega arith)))
+
+  start-more : (t : Task) → s .count < maxTasks → startIn (withTask t) ≡ startIn s + taskSize (t .low)
+  start-more t h =
+      let e : getD (set (s .tasks) (s .count) t) (s .count) noTask ≡ t = getD-set-same (s .tasks) (s .count) t noTask (omega (arith, i .tasks-long)) in
+      let m : s .count + 1 ≡ suc (s .count) = omega arith in
+      omega (
+        arith,
+        ap (tasksBytes (viewOf (withTask t))) m,
+        tasks-bytes-more (viewOf (withTask t)) (s .count),
+        tasks-bytes-kept t h,
+        ap (λ (u : Task). taskSize (u .low)) e,
+      )
+
+  task-next
+      : (t : Task) → taskRecord t ≡ recordOf (drop at f) → none ≡ faultAt at (taskFault (s .charge) (s .count) n t)
+      → Scanning f (withTask t) n before (at + taskSize (t .low)) (at + taskSize (t .low))
   unfolding sizeOf
-  scan-task-next t e a =
+  task-next t e a =
       let fine = faultless-of at _ a in
-      let low : s .count < maxTasks = task-few _ _ _ t fine in
+      let room-here : s .count < maxTasks = task-few _ _ _ t fine in
+      let size = taskSize (t .low) in
       let z : n ≡ 0 = task-first _ _ _ t fine in
       record {
         records = left;
@@ -216,21 +253,32 @@ module _ (f : List ℕ) (s : TaskSet) (n before at : ℕ) (i : Scanning f s n be
         rest =
             here
             ∙ read-next left state at (drop at f) (taskRecord t) (sym e) _ (task-taken state t (sym (task-fault-here t) ∙ fine))
-            ∙ ap (readFrom left (record { charge = s .charge; tasks = tasksIn s ++ (t ∷ []); releases = state .releases; before = before }) (at + 17)) (drop-drop 17 at f)
-            ∙ ap (λ q. readFrom left q (at + 17) (drop (at + 17) f)) (state-task t low z);
-        offset = omega (arith, i .offset, offset-none f (startIn s) n z, offset-none f (startIn (withTask t)) n z);
-        far = omega (arith, i .far);
+            ∙ ap (readFrom left (record { charge = s .charge; tasks = tasksIn s ++ (t ∷ []); releases = state .releases; before = before }) (at + size))
+            (drop-drop size at f)
+            ∙ ap (λ q. readFrom left q (at + size) (drop (at + size) f)) (state-task t room-here z);
+        offset = omega (arith, i .offset, start-more t room-here, offset-none f (startIn s) n z, offset-none f (startIn (withTask t)) n z);
+        far = omega (arith, i .far, start-more t room-here);
+        begins = omega (arith, i .offset, start-more t room-here, offset-none f (startIn s) n z);
         stand = λ r l. absurd (omega arith);
         within = room f at (taskRecord t) (i .within) e;
         few-tasks = omega arith;
         tasks-long = simp length-set (i .tasks-long);
-        padded = padded-more t low;
+        padded = padded-more t room-here;
       }
+
+  pub scan-task-next
+      : (t : Task) (size : ℕ) → taskRecord t ≡ recordOf (drop at f) → none ≡ faultAt at (taskFault (s .charge) (s .count) n t) → size ≡ taskSize (t .low)
+      → Scanning f (withTask t) n before (at + size) (at + size)
+  scan-task-next t size e a z = rw z (task-next t e a)
+
+  -- there is an entry for it
+  pub scan-task-room : (t : Task) → none ≡ faultAt at (taskFault (s .charge) (s .count) n t) → (s .count < maxTasks) × (length (s .tasks) ≡ maxTasks)
+  scan-task-room t a = (task-few _ _ _ t (faultless-of at _ a), i .tasks-long)
 
   -- a release more
   pub scan-job-next
       : (w : Width) (j : Job) → releaseRecord w (releaseOf j) ≡ recordOf (drop at f) → none ≡ faultAt at (listFault (viewOf s) n before w (releaseOf j))
-      → Scanning f s (n + 1) (j .tick) (at + releaseSize w)
+      → Scanning f s (n + 1) (j .tick) start (at + releaseSize w)
   unfolding sizeOf
   scan-job-next w j e a =
       let fine = faultless-of at _ a in
@@ -247,6 +295,7 @@ module _ (f : List ℕ) (s : TaskSet) (n before at : ℕ) (i : Scanning f s n be
             (sym (releases-more f (startIn s) n at w (releaseOf j) (i .offset) e));
         offset = offset-more f (startIn s) n at w (releaseOf j) (i .offset) e;
         far = omega (arith, i .far, size-low w);
+        begins = i .begins;
         stand = stand-more f (startIn s) n at w (releaseOf j) (i .offset) e (i .stand);
         within = room f at (releaseRecord w (releaseOf j)) (i .within) e;
         few-tasks = i .few-tasks;
@@ -270,35 +319,36 @@ module _ (f : List ℕ) (s : TaskSet) (n before at : ℕ) (i : Scanning f s n be
   scan-end e h g = sym (at-last e h ∙ ap (afterEnd state (at + 1)) (drop-of-length-le f g))
 
   pub scan-says
-      : (r : Scanned) → r ≡ record { answer = Fine; tasks = s; releases = n } → endRecord ≡ recordOf (drop at f) → 1 ≤ s .count → length f ≤ at + 1 → ScanSays f r
+      : (r : Scanned) → r ≡ record { answer = Fine; tasks = s; releases = n; start = start } → endRecord ≡ recordOf (drop at f) → 1 ≤ s .count → length f ≤ at + 1 → ScanSays f r
   unfolding readSheet
   scan-says r q e h g =
       rw q
       (record {
         answer = scan-end e h g;
-        sheet = set-of-tasks s in-array (i .padded) ∙ ap readSheet (scan-end e h g);
+        sheet = λ x d. set-of-tasks s in-array (i .padded) ∙ ap readSheet (scan-end e h g);
         few-tasks = i .few-tasks;
+        begins = i .begins;
         inside = omega (arith, i .far, i .within);
         stand = i .stand;
         none-refused = λ q d. never-both _ q (scan-end e h g ∙ d);
       })
 
--- a refusal of the scan
-pub scan-refuses : (f : List ℕ) (k p : ℕ) (r : Scanned) → Refuses k p r → refused (record { number = k; place = p }) ≡ decode f → ScanSays f r
-unfolding readSheet setWith
-scan-refuses f k p r h e =
-    record {
-      answer = ap (answerWith (fileIn f r)) (h .answer) ∙ e;
-      sheet = h .sheet ∙ ap readSheet e;
-      few-tasks = omega (arith, ap (λ s. s .count) (h .sheet));
-      inside = omega (arith, ap (λ s. s .count) (h .sheet), ap (λ s. chargeBytes (s .charge)) (h .sheet), no-charge-bytes);
-      stand = λ q l. absurd (omega (arith, h .no-release));
-      none-refused = λ q d. h .no-release;
-    }
+  -- a refusal of the scan
+  pub scan-refuses : (k p : ℕ) (r : Scanned) → Refuses k p s start r → refused (record { number = k; place = p }) ≡ decode f → ScanSays f r
+  scan-refuses k p r h e =
+      record {
+        answer = ap (answerWith (fileIn f r)) (h .answer) ∙ e;
+        sheet = λ x d. never-both x (record { number = k; place = p }) (sym d ∙ sym e);
+        few-tasks = omega (arith, ap (λ t. t .count) (h .tasks), i .few-tasks);
+        begins = h .begin ∙ i .begins ∙ sym (ap startIn (h .tasks));
+        inside = omega (arith, ap startIn (h .tasks), i .far, i .within);
+        stand = λ q l. absurd (omega (arith, h .no-release));
+        none-refused = λ q d. h .no-release;
+      }
 
 -- where the scan begins
-pub scan-begins : (f : List ℕ) (s : TaskSet) → s ≡ setOf [] → Scanning f s 0 0 0
-unfolding decode setWith tasksIn releasesAt table offsetOf chargeBytes
+pub scan-begins : (f : List ℕ) (s : TaskSet) → s ≡ setOf [] → Scanning f s 0 0 0 0
+unfolding decode setWith tasksIn releasesAt table offsetOf chargeBytes tasksBytes sum
 scan-begins f s e =
     rw e
     (record {
@@ -307,6 +357,7 @@ scan-begins f s e =
       rest = refl;
       offset = refl;
       far = omega (arith, no-charge-bytes);
+      begins = refl;
       stand = λ r l. absurd (omega arith);
       within = omega arith;
       few-tasks = omega arith;

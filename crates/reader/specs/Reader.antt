@@ -1,5 +1,5 @@
 -- What the reader's structs and answers mean.
-use Prim.Native.Nat.{ℕ, zero, suc, _+_, _*_, _≤_, _<_}
+use Prim.Native.Nat.{ℕ, zero, suc, _+_, _≤_, _<_}
 use mathlib.Core.Path.{_≡_}
 use mathlib.Core.List.{List, [], map}
 use lib.ListN.{length, take, drop}
@@ -11,23 +11,25 @@ use Rattle.model.specs.Tasks.{Release, noRelease}
 use Rattle.model.specs.Refusal.{Refusal, Answer, refused, answered}
 use Rattle.taskset.specs.declared.Checked.{Checked}
 use Rattle.taskset.specs.declared.Checked.the-variants.{Fine, Refused}
-use Rattle.fileformat.specs.Records.{Width, short, long, Record, broken, taskRecord, releaseRecord, chargeRecord, endRecord, recordOf, sizeOf}
+use Rattle.fileformat.specs.Records.{Width, short, long, Record, broken, wrongMark, taskRecord, releaseRecord, chargeRecord, endRecord, recordOf, sizeOf}
 use Rattle.fileformat.specs.File.{File, decode}
 use Rattle.taskset.specs.declared.TaskSet.{TaskSet}
-use Rattle.fileformat.specs.FileCalls.{tasksIn, setOf, chargeBytes, readCall, readCount, readSheet, readColumn}
+use Rattle.taskset.specs.TaskSet.{viewOf}
+use Rattle.fileformat.specs.FileCalls.{tasksIn, sheetBytes, readCall, readCount, readSheet, readColumn}
 use Rattle.reader.specs.declared.Job.{Job}
 use Rattle.reader.specs.declared.Scanned.{Scanned}
 use Rattle.reader.specs.declared.ReadOutcome.{ReadOutcome}
 use Rattle.reader.specs.declared.ReadOutcome.the-variants.{Read, Refused as Halted}
 use Rattle.reader.specs.declared.ReadAnswer.{ReadAnswer}
 use Rattle.reader.specs.declared.Found.{Found}
-use Rattle.reader.specs.declared.Found.the-variants.{Broken, OfTask, OfRelease, OfLongRelease, OfCharge, End}
+use Rattle.reader.specs.declared.Found.the-variants.{Broken, WrongMark, OfTask, OfRelease, OfLongRelease, OfCharge, End}
 
 abbrev pub releaseOf : Job → Release
 releaseOf j = record { task = j .task; tick = j .tick; cost = j .cost }
 
 abbrev pub recordIn : Found → Record
 recordIn (Broken n) = broken n
+recordIn WrongMark = wrongMark
 recordIn (OfTask t) = taskRecord t
 recordIn (OfRelease j) = releaseRecord short (releaseOf j)
 recordIn (OfLongRelease j) = releaseRecord long (releaseOf j)
@@ -45,6 +47,7 @@ offsetOf f start (suc r) = offsetOf f start r + sizeOf (recordThere f (offsetOf 
 -- the release of a release record
 unfoldable pub releaseIn : Record → Release
 releaseIn (broken n) = noRelease
+releaseIn wrongMark = noRelease
 releaseIn (taskRecord t) = noRelease
 releaseIn (releaseRecord w r) = r
 releaseIn (chargeRecord c) = noRelease
@@ -90,25 +93,28 @@ answerWith x (Refused n p) = refused (record { number = n; place = p })
 
 -- where the releases of a file begin: after the charge and the tasks of its sheet
 abbrev pub startIn : TaskSet → ℕ
-startIn s = chargeBytes (s .charge) + 17 * s .count
+startIn s = sheetBytes (viewOf s)
 
 -- what a scan found: its charge and tasks, and the releases whose records follow theirs
 abbrev pub fileIn : List ℕ → Scanned → File
 fileIn f r = record { charge = r .tasks .charge; tasks = tasksIn (r .tasks); releases = releasesAt f (startIn (r .tasks)) (r .releases) }
 
--- what a scan promises: its answer is the file's, charge and tasks are its sheet, the records that follow theirs are releases, and a refusal has none
+-- what a scan promises: its answer is the file's, charge and tasks are those of a file that is accepted, and the records that follow theirs, from the offset given on,
+-- are releases; a refusal has none
 pub record ScanSays (f : List ℕ) (r : Scanned) : Type 0 where
   pub answer : answerWith (fileIn f r) (r .answer) ≡ decode f
-  pub sheet : r .tasks ≡ readSheet (decode f)
+  pub sheet : (x : File) → decode f ≡ answered x → r .tasks ≡ readSheet (decode f)
   pub few-tasks : r .tasks .count ≤ maxTasks
+  pub begins : r .start ≡ startIn (r .tasks)
   pub inside : startIn (r .tasks) ≤ length f
   pub stand : AreReleases f (startIn (r .tasks)) (r .releases)
   pub none-refused : (q : Refusal) → decode f ≡ refused q → r .releases ≡ 0
 
--- a refusal of a scan
-pub record Refuses (number place : ℕ) (r : Scanned) : Type 0 where
+-- a refusal of a scan, with the tasks met and the offset after them
+pub record Refuses (number place : ℕ) (s : TaskSet) (start : ℕ) (r : Scanned) : Type 0 where
   pub answer : r .answer ≡ Refused number place
-  pub sheet : r .tasks ≡ setOf []
+  pub tasks : r .tasks ≡ s
+  pub begin : r .start ≡ start
   pub no-release : r .releases ≡ 0
 
 -- the answer of a read

@@ -10,6 +10,8 @@ ghost use Prim.Native.Nat.{_≤_, _<_, _+_, _*_};
 ghost use lib.ListN.{length, drop};
 ghost use Rattle.model.specs.Tasks.{Tasks};
 ghost use Rattle.taskset.specs.TaskSet.{refusalIn};
+ghost use mathlib.Core.List.{[], _∷_};
+ghost use Rattle.model.specs.Refusal.{firstOf};
 ghost use Rattle.model.specs.Checks.{faultAt};
 ghost use Rattle.fileformat.specs.Numbers.{field};
 ghost use Rattle.fileformat.specs.Records.{widthIn, bodySize, taskFrom, releaseFrom, recordOf};
@@ -23,9 +25,11 @@ pub struct Job {
     pub cost: u32,
 }
 
-// The record at an offset, or what is wrong with it. The tick of a long release record (kind 4) has eight bytes.
+// The record at an offset, or what is wrong with it: a number, or that the last byte of a kind 6 record is not 0. The tick of a long release
+// record (kind 4) has eight bytes.
 pub enum Found {
     Broken { number: u32 },
+    WrongMark,
     OfTask { task: Task },
     OfRelease { job: Job },
     OfLongRelease { job: Job },
@@ -33,11 +37,12 @@ pub enum Found {
     End,
 }
 
-// What the scan of a whole file gives: a refusal and no task, or the tasks with the charge and the number of releases.
+// What the scan of a whole file gives: a refusal, or the tasks with the charge, the number of releases and the offset at which they start.
 pub struct Scanned {
     pub answer: Checked,
     pub tasks: TaskSet,
     pub releases: usize,
+    pub start: usize,
 }
 
 // The number of the four bytes at an offset, the low byte first.
@@ -62,10 +67,10 @@ fn wide_number_at(f: &[u8], at: usize) -> u64
     low + 4294967296 * high
 }
 
-// The body of a task record.
-fn task_at(f: &[u8], at: usize) -> Task
+// The numbers of a task record, given its mark.
+fn task_at(f: &[u8], at: usize, low: bool) -> Task
     requires { ⌜ at + 16 ≤ length (now f) ⌝ }
-    ensures { λ r. ⌜ r ≡ taskFrom (drop at (now (f .entry))) ⌝ }
+    ensures { λ r. ⌜ r ≡ taskFrom low (drop at (now (f .entry))) ⌝ }
 {
     let period = number_at(f, at);
     let jitter = number_at(f, at + 4);
@@ -76,6 +81,7 @@ fn task_at(f: &[u8], at: usize) -> Task
         jitter: jitter,
         cost: cost,
         deadline: deadline,
+        low: low,
     }
 }
 
@@ -125,7 +131,7 @@ fn record_at(f: &[u8], at: usize) -> Found
             if left < 17 {
                 return Found::Broken { number: 2 };
             }
-            let task = task_at(f, at + 1);
+            let task = task_at(f, at + 1, false);
             return Found::OfTask { task: task };
         }
         return Found::Broken { number: 1 };
@@ -145,6 +151,16 @@ fn record_at(f: &[u8], at: usize) -> Found
             return Found::Broken { number: 2 };
         }
         return Found::OfCharge { charge: f[at + 1] };
+    }
+    if kind == 6 {
+        if left < 18 {
+            return Found::Broken { number: 2 };
+        }
+        if f[at + 17] != 0 {
+            return Found::WrongMark;
+        }
+        let task = task_at(f, at + 1, true);
+        return Found::OfTask { task: task };
     }
     Found::Broken { number: 1 }
 }
@@ -185,11 +201,10 @@ fn check_job(releases: usize, at: usize, before: u64, most: u32, long: bool, j: 
     Checked::Fine
 }
 
-// A refusal of the scan.
-fn refused(number: u32, place: usize) -> Scanned
-    ensures { λ r. ⌜ Refuses number place r ⌝ }
+// A refusal of the scan, with the tasks that it has met and the offset after them.
+fn halted(number: u32, place: usize, tasks: TaskSet, start: usize) -> Scanned
+    ensures { λ r. ⌜ Refuses number place tasks start r ⌝ }
 {
-    let tasks = entries::no_tasks();
     Scanned {
         answer: Checked::Refused {
             number: number,
@@ -197,6 +212,7 @@ fn refused(number: u32, place: usize) -> Scanned
         },
         tasks: tasks,
         releases: 0,
+        start: start,
     }
 }
 
@@ -208,33 +224,41 @@ fn scan(f: &[u8]) -> Scanned
     let mut tasks = entries::no_tasks();
     let mut releases = 0;
     let mut before: u64 = 0;
+    let mut start = 0;
     let mut at = 0;
     loop {
         let r = record_at(f, at);
         match r {
-            Found::Broken { number } => return refused(number, at),
+            Found::Broken { number } => return halted(number, at, tasks, start),
+            Found::WrongMark => return halted(
+                entries::mark_fault(tasks.count, releases),
+                at,
+                tasks,
+                start,
+            ),
             Found::OfTask { task } => {
                 let n = tasks.count;
                 let k = entries::check_task(tasks.charge, n, releases, at, task);
                 if let Checked::Refused { number, place } = k {
-                    return refused(number, place);
+                    return halted(number, place, tasks, start);
                 }
                 tasks.tasks[n] = task;
                 tasks.count = n + 1;
-                at += 17;
+                at += entries::task_size(task.low);
+                start = at;
             }
             Found::OfRelease { job } => {
                 if tasks.count == 0 {
-                    return refused(5, at);
+                    return halted(5, at, tasks, start);
                 }
                 let i = job.task as usize;
                 if tasks.count <= i {
-                    return refused(7, at);
+                    return halted(7, at, tasks, start);
                 }
                 let own = tasks.tasks[i];
                 let k = check_job(releases, at, before, own.cost, false, job);
                 if let Checked::Refused { number, place } = k {
-                    return refused(number, place);
+                    return halted(number, place, tasks, start);
                 }
                 releases += 1;
                 before = job.tick;
@@ -242,16 +266,16 @@ fn scan(f: &[u8]) -> Scanned
             }
             Found::OfLongRelease { job } => {
                 if tasks.count == 0 {
-                    return refused(5, at);
+                    return halted(5, at, tasks, start);
                 }
                 let whose = job.task as usize;
                 if tasks.count <= whose {
-                    return refused(7, at);
+                    return halted(7, at, tasks, start);
                 }
                 let own = tasks.tasks[whose];
                 let k = check_job(releases, at, before, own.cost, true, job);
                 if let Checked::Refused { number, place } = k {
-                    return refused(number, place);
+                    return halted(number, place, tasks, start);
                 }
                 releases += 1;
                 before = job.tick;
@@ -260,22 +284,24 @@ fn scan(f: &[u8]) -> Scanned
             Found::OfCharge { charge } => {
                 let k = entries::check_charge(tasks.charge, tasks.count, releases, at, charge);
                 if let Checked::Refused { number, place } = k {
-                    return refused(number, place);
+                    return halted(number, place, tasks, start);
                 }
                 tasks.charge = charge;
                 at += 2;
+                start = at;
             }
             Found::End => {
                 if tasks.count == 0 {
-                    return refused(5, at);
+                    return halted(5, at, tasks, start);
                 }
                 if at + 1 < f.len() {
-                    return refused(11, at + 1);
+                    return halted(11, at + 1, tasks, start);
                 }
                 return Scanned {
                     answer: Checked::Fine,
                     tasks: tasks,
                     releases: releases,
+                    start: start,
                 };
             }
         }
@@ -386,25 +412,29 @@ fn put_columns(
     put_rest(f, start, count, shorts, task, tick, cost);
 }
 
+// The first of two refusals.
+fn first_refusal(a: Checked, b: Checked) -> Checked
+    ensures { λ r. ⌜ refusalIn r ≡ firstOf (refusalIn a ∷ refusalIn b ∷ []) ⌝ }
+{
+    if let Checked::Refused { number, place } = a {
+        return Checked::Refused {
+            number: number,
+            place: place,
+        };
+    }
+    b
+}
+
 // Reads a file: the sheet and, to the columns lent, its releases. The columns are checked (13) after the whole file; a refusal changes no slot.
 pub fn read(f: &[u8], task: &mut [u32], tick: &mut [u64], cost: &mut [u32]) -> ReadAnswer
     ensures { λ r. ⌜ ReadSays (now (f .entry)) (now (task .entry)) (now (tick .entry)) (now (cost .entry)) r (now (task .exit)) (now (tick .exit)) (now (cost .exit)) ⌝ }
 {
     let s = scan(f);
-    let answer = s.answer;
-    let tasks = s.tasks;
-    if let Checked::Refused { number, place } = answer {
-        return ReadAnswer {
-            outcome: ReadOutcome::Refused {
-                number: number,
-                place: place,
-            },
-            tasks: tasks,
-        };
-    }
     let count = s.releases;
     let room = releases::check_columns(count, task, tick, cost);
-    if let Checked::Refused { number, place } = room {
+    let answer = s.answer;
+    let k = first_refusal(answer, room);
+    if let Checked::Refused { number, place } = k {
         let none = entries::no_tasks();
         return ReadAnswer {
             outcome: ReadOutcome::Refused {
@@ -414,8 +444,9 @@ pub fn read(f: &[u8], task: &mut [u32], tick: &mut [u64], cost: &mut [u32]) -> R
             tasks: none,
         };
     }
-    let start = entries::sheet_size(tasks.charge, tasks.count);
+    let start = s.start;
     put_columns(f, start, count, task, tick, cost);
+    let tasks = s.tasks;
     ReadAnswer {
         outcome: ReadOutcome::Read { releases: count },
         tasks: tasks,

@@ -1,6 +1,7 @@
 -- Laws of written lines.
 use Prim.Native.Nat.{ℕ, _+_, _*_, _≤_}
 use mathlib.Core.Path.{_≡_, refl, _∙_}
+use mathlib.Core.Bool.{Bool, true, false}
 use mathlib.Core.List.{List, _++_}
 use native.Mathlib.Omega.{arith}
 use lib.ListN.{length}
@@ -9,7 +10,8 @@ use native.Mathlib.Nat.{mul-add}
 use Rattle.text.specs.Text.{Put, PutField, field, lines}
 use Rattle.text.proofs.TextLaws.{put-append, put-nothing, put-length}
 use Rattle.model.specs.Tasks.{Tasks}
-use Rattle.report.specs.Report.{choiceFields, choiceLine, choiceHeader, fitsLine, choiceText, runFields, runLine, runHeader, runText, refusedWord, atWord, refusalText}
+use Rattle.model.specs.Choice.{Scope, scopeIn}
+use Rattle.report.specs.Report.{choiceFields, choiceLine, choiceHeader, fitsLine, highOnlyLine, lastLine, choiceText, runFields, runLine, runHeader, runText, refusedWord, atWord, refusalText}
 use Rattle.report.specs.PutLine.{PutLine}
 
 -- a field, and what follows it
@@ -72,16 +74,29 @@ refusal-line n p l m1 r1 m2 r2 m3 r3 m4 r4 a b c d = record {
   long = d .long ∙ put-length m2 r2 atWord m3 r3 c ∙ b .long ∙ put-length l 0 refusedWord m1 r1 a;
 }
 
+-- a text of at most n bytes is a line of at most n bytes
+pub as-line : (n : ℕ) (l : List ℕ) (at : ℕ) (t m : List ℕ) (r : ℕ) → length t ≤ n → Put l at t m r → PutLine n l at t m r
+as-line n l at t m r h p = record { put = p; small = omega (arith, p .next); long = put-length l at t m r p }
+
+-- the last line of a choice is that of its scope
+pub high-last : (b : Bool) (l : List ℕ) (at : ℕ) (m : List ℕ) (r : ℕ) → b ≡ true → Put l at highOnlyLine m r → PutLine 10 l at (lastLine (scopeIn b)) m r
+unfolding lastLine
+high-last b l at m r e p = rw e (as-line 10 l at highOnlyLine m r (omega arith) p)
+
+pub plain-last : (b : Bool) (l : List ℕ) (at : ℕ) (m : List ℕ) (r : ℕ) → b ≡ false → Put l at fitsLine m r → PutLine 10 l at (lastLine (scopeIn b)) m r
+unfolding lastLine
+plain-last b l at m r e p = rw e (as-line 10 l at fitsLine m r (omega arith) p)
+
 -- the text of a choice: header, lines, the last line
 pub choice-page
-    : (s : Tasks) (ks ws l m1 : List ℕ) (r1 : ℕ) (m2 : List ℕ) (r2 : ℕ) (m3 : List ℕ) (r3 : ℕ)
-    → Put l 0 choiceHeader m1 r1 → PutLine 2464 m1 r1 (lines (choiceLine s ks ws) (s .count)) m2 r2 → Put m2 r2 fitsLine m3 r3
-    → PutLine 2560 l 0 (choiceText s ks ws) m3 r3
+    : (e : Scope) (s : Tasks) (ks ws l m1 : List ℕ) (r1 : ℕ) (m2 : List ℕ) (r2 : ℕ) (m3 : List ℕ) (r3 : ℕ)
+    → Put l 0 choiceHeader m1 r1 → PutLine 2464 m1 r1 (lines (choiceLine s ks ws) (s .count)) m2 r2 → PutLine 10 m2 r2 (lastLine e) m3 r3
+    → PutLine 2560 l 0 (choiceText e s ks ws) m3 r3
 unfolding choiceText
-choice-page s ks ws l m1 r1 m2 r2 m3 r3 a b c = record {
-  put = put-append l 0 choiceHeader m1 r1 _ m3 r3 a (put-append m1 r1 (lines (choiceLine s ks ws) (s .count)) m2 r2 fitsLine m3 r3 (b .put) c);
-  small = omega (arith, a .next, c .next);
-  long = put-length m2 r2 fitsLine m3 r3 c ∙ b .long ∙ put-length l 0 choiceHeader m1 r1 a;
+choice-page e s ks ws l m1 r1 m2 r2 m3 r3 a b c = record {
+  put = put-append l 0 choiceHeader m1 r1 _ m3 r3 a (put-append m1 r1 (lines (choiceLine s ks ws) (s .count)) m2 r2 (lastLine e) m3 r3 (b .put) (c .put));
+  small = omega (arith, a .next);
+  long = c .long ∙ b .long ∙ put-length l 0 choiceHeader m1 r1 a;
 }
 
 -- the text of a run: header, lines

@@ -3,6 +3,7 @@ use Prim.Native.Nat.{ℕ, _-_}
 use mathlib.Core.List.{List, [], _∷_, _++_}
 use lib.ListN.{getD}
 use Rattle.model.specs.Tasks.{Tasks}
+use Rattle.model.specs.Choice.{Scope, ordinary, high-only}
 use Rattle.text.specs.Text.{lineFeed, field, lines}
 
 -- a blank
@@ -18,6 +19,10 @@ choiceHeader =
 -- "fits" and a line feed
 abbrev pub fitsLine : List ℕ
 fitsLine = 102 ∷ 105 ∷ 116 ∷ 115 ∷ 10 ∷ []
+
+-- "high only" and a line feed
+abbrev pub highOnlyLine : List ℕ
+highOnlyLine = 104 ∷ 105 ∷ 103 ∷ 104 ∷ 32 ∷ 111 ∷ 110 ∷ 108 ∷ 121 ∷ 10 ∷ []
 
 -- "job task release ready finish response" and a line feed
 abbrev pub runHeader : List ℕ
@@ -43,9 +48,14 @@ unfoldable pub choiceLine : Tasks → List ℕ → List ℕ → ℕ → List ℕ
 choiceLine s kept worst i =
     choiceFields i (s .period i) (s .jitter i) (s .cost i) (s .deadline i) (getD kept i 0) (getD worst i 0)
 
+-- the last line of a choice: "fits" of the ordinary one, "high only" of the one of the high tasks alone
+unfoldable pub lastLine : Scope → List ℕ
+lastLine ordinary = fitsLine
+lastLine high-only = highOnlyLine
+
 -- what the first program, and the third, prints for a choice
-unfoldable pub choiceText : Tasks → List ℕ → List ℕ → List ℕ
-choiceText s kept worst = choiceHeader ++ (lines (choiceLine s kept worst) (s .count) ++ fitsLine)
+unfoldable pub choiceText : Scope → Tasks → List ℕ → List ℕ → List ℕ
+choiceText c s kept worst = choiceHeader ++ (lines (choiceLine s kept worst) (s .count) ++ lastLine c)
 
 -- six numbers on a line: place in the list, task, release, ready, finish, response
 unfoldable pub runFields : ℕ → ℕ → ℕ → ℕ → ℕ → ℕ → List ℕ

@@ -4,9 +4,10 @@ use taskset::TaskSet;
 ghost use mathlib.Core.Path.{_≡_};
 ghost use Prim.Native.Nat.{_+_, _≤_, _-_};
 ghost use lib.ListN.{length};
+ghost use Rattle.model.specs.Choice.{scopeIn};
 ghost use Rattle.taskset.specs.TaskSet.{viewOf};
 ghost use Rattle.text.specs.Text.{lines};
-ghost use Rattle.report.specs.Report.{choiceFields, choiceLine, choiceText, runFields, runLine, runText, refusalText};
+ghost use Rattle.report.specs.Report.{choiceFields, choiceLine, lastLine, choiceText, runFields, runLine, runText, refusalText};
 ghost use Rattle.report.specs.PutLine.{PutLine};
 
 // The line of one task: task, P, J, E, D, K, largest R.
@@ -72,14 +73,25 @@ fn put_tasks(out: &mut [u8], from: usize, s: TaskSet, kept: &[u32], worst: &[u32
     at
 }
 
-// What the first program prints for a choice.
-pub fn put_choice(out: &mut [u8], s: TaskSet, kept: &[u32], worst: &[u32]) -> usize
+// The last line of a choice: `high only` of one of the high tasks alone, `fits` of an ordinary one.
+fn put_last(out: &mut [u8], at: usize, high_only: bool) -> usize
+    requires { ⌜ at + 10 ≤ length (now out) ⌝ }
+    ensures { λ r. ⌜ PutLine 10 (now (out .entry)) at (lastLine (scopeIn «high_only»)) (now (out .exit)) r ⌝ }
+{
+    if high_only {
+        return text::put_bytes(out, at, b"high only\n");
+    }
+    text::put_bytes(out, at, b"fits\n")
+}
+
+// What the first program prints for a choice, an ordinary one or one of the high tasks alone.
+pub fn put_choice(out: &mut [u8], s: TaskSet, kept: &[u32], worst: &[u32], high_only: bool) -> usize
     requires { ⌜ (2560 ≤ length (now out)) × (s .count ≤ 32) × (s .count ≤ length (now kept)) × (s .count ≤ length (now worst)) ⌝ }
-    ensures { λ r. ⌜ PutLine 2560 (now (out .entry)) 0 (choiceText (viewOf s) (now (kept .entry)) (now (worst .entry))) (now (out .exit)) r ⌝ }
+    ensures { λ r. ⌜ PutLine 2560 (now (out .entry)) 0 (choiceText (scopeIn «high_only») (viewOf s) (now (kept .entry)) (now (worst .entry))) (now (out .exit)) r ⌝ }
 {
     let a = text::put_bytes(out, 0, b"task period jitter cost deadline keep worst\n");
     let b = put_tasks(out, a, s, kept, worst);
-    text::put_bytes(out, b, b"fits\n")
+    put_last(out, b, high_only)
 }
 
 // The response of a job.

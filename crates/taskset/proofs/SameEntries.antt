@@ -17,6 +17,7 @@ module _ (s s′ : TaskSet) (count : s .count ≡ s′ .count) (charge : s .char
         jitter = λ i l. ap (λ t. t .jitter) (entries i l);
         cost = λ i l. ap (λ t. t .cost) (entries i l);
         deadline = λ i l. ap (λ t. t .deadline) (entries i l);
+        low = λ i l. ap (λ t. t .low) (entries i l);
         charge = charge;
       }
 

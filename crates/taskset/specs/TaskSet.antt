@@ -1,5 +1,6 @@
 -- A task set as the definitions see it, and what an answer of a check means.
 use Prim.Native.Nat.{ℕ}
+use mathlib.Core.Bool.{false}
 use mathlib.Core.Option.{Option, none}
 use lib.ListN.{getD}
 use Rattle.model.specs.Tasks.{Tasks}
@@ -10,7 +11,7 @@ use Rattle.taskset.specs.declared.Checked.{Checked}
 use Rattle.taskset.specs.declared.Checked.the-variants.{Fine, Refused}
 
 abbrev pub noTask : Task
-noTask = record { period = 0; jitter = 0; cost = 0; deadline = 0 }
+noTask = record { period = 0; jitter = 0; cost = 0; deadline = 0; low = false }
 
 -- the entry of a task
 abbrev pub entryOf : TaskSet → ℕ → Task
@@ -24,6 +25,7 @@ viewOf s = record {
   jitter = λ i. entryOf s i .jitter;
   cost = λ i. entryOf s i .cost;
   deadline = λ i. entryOf s i .deadline;
+  low = λ i. entryOf s i .low;
   charge = s .charge;
 }
 

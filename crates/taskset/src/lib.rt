@@ -10,12 +10,13 @@ ghost use Rattle.taskset.specs.TaskSet.{viewOf, refusalIn};
 // "Pickup": the ticks from a job's ready tick to the first in which it may run. R(q) has as many more.
 pub const PICKUP: u64 = 1;
 
-// A task: period P, jitter J, cost E and deadline D.
+// A task: period P, jitter J, cost E and deadline D, and its mark: low, or high where it is not low.
 pub struct Task {
     pub period: u32,
     pub jitter: u32,
     pub cost: u32,
     pub deadline: u32,
+    pub low: bool,
 }
 
 // "Sheet": a count and 32 task entries, task 0 with the highest priority, and the charge S that each job takes beside its cost, 0 where

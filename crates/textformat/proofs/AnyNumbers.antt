@@ -13,9 +13,10 @@ use Rattle.model.proofs.CheckLaws.{in-range-yes, in-range-of, in-range-no}
 use Rattle.model.proofs.ChargeLaws.{entry-uncharged}
 use Rattle.taskset.specs.declared.Task.{Task}
 use Rattle.fileformat.specs.File.{taskFault}
+use Rattle.fileformat.specs.OldFiles.{AllHigh}
 use Rattle.fileformat.proofs.StepLaws.{task-same, task-ranged}
 use Rattle.textformat.specs.TextSheet.{loadFrom, load}
-use Rattle.textformat.specs.TextTrips.{cutAt, cut, inRecords, SameAsRecords}
+use Rattle.textformat.specs.TextTrips.{asHigh, cutAt, cut, inRecords, SameAsRecords}
 use Rattle.textformat.proofs.TextTrips.{lineOf, sheet-lines, line-fault, load-stop, task-line}
 use Rattle.textformat.proofs.RecordTrips.{AllFit, same-if-fit}
 
@@ -43,7 +44,7 @@ module _ (c : ℕ) (over : maxTime < c) where
       ∙ sym (entry-uncharged _ _ _ _))
 
   -- without a fault nothing was cut off
-  pub uncut : (n : ℕ) (t : Task) → taskFault 0 n 0 t ≡ none → cutAt c t ≡ t
+  pub uncut : (n : ℕ) (t : Task) → taskFault 0 n 0 t ≡ none → cutAt c t ≡ asHigh t
   uncut n t e =
       let r = task-ranged 0 n 0 t e in
       let p : min c (t .period) ≡ t .period = omega (arith, over, r .period-high) in
@@ -55,11 +56,11 @@ module _ (c : ℕ) (over : maxTime < c) where
   -- the lines of tasks whose numbers were cut are refused alike, or give the tasks
   pub same-load : (us ts : List Task) → loadFrom ts (map lineOf (map (cutAt c) us)) ≡ loadFrom ts (map lineOf us)
   same-load [] ts = refl
-  same-load (t ∷ us) ts = go (taskFault 0 (length ts) 0 t) refl (same-load us (ts ++ (t ∷ [])))
+  same-load (t ∷ us) ts = go (taskFault 0 (length ts) 0 t) refl (same-load us (ts ++ (asHigh t ∷ [])))
     where
       go
           : (o : Option ℕ) → taskFault 0 (length ts) 0 t ≡ o
-          → loadFrom (ts ++ (t ∷ [])) (map lineOf (map (cutAt c) us)) ≡ loadFrom (ts ++ (t ∷ [])) (map lineOf us)
+          → loadFrom (ts ++ (asHigh t ∷ [])) (map lineOf (map (cutAt c) us)) ≡ loadFrom (ts ++ (asHigh t ∷ [])) (map lineOf us)
           → loadFrom ts (lineOf (cutAt c t) ∷ map lineOf (map (cutAt c) us)) ≡ loadFrom ts (lineOf t ∷ map lineOf us)
       go (some k) f ih =
           load-stop ts (lineOf (cutAt c t)) _ k (line-fault (length ts) (cutAt c t) ∙ same-fault (length ts) t ∙ f)
@@ -73,9 +74,15 @@ cut-fits [] i h = absurd (omega arith)
 cut-fits (t ∷ ts) zero h = record { period = omega arith; jitter = omega arith; cost = omega arith; deadline = omega arith }
 cut-fits (t ∷ ts) (suc i) h = cut-fits ts i (omega arith)
 
+-- and their tasks are high
+cut-high : (ts : List Task) → AllHigh (map cut ts)
+cut-high [] i h = absurd (omega arith)
+cut-high (t ∷ ts) zero h = refl
+cut-high (t ∷ ts) (suc i) h = cut-high ts i (omega arith)
+
 -- a text answers as the file with the same numbers, as far as four bytes hold them
 pub same-as-records : SameAsRecords
 unfolding load
 same-as-records ts =
-    same-if-fit (map cut ts) (cut-fits ts)
+    same-if-fit (map cut ts) (cut-fits ts) (cut-high ts)
     ∙ ap inRecords (ap (loadFrom []) (sheet-lines (map cut ts)) ∙ same-load 4294967295 (omega arith) ts [] ∙ ap (loadFrom []) (sym (sheet-lines ts)))

@@ -5,7 +5,7 @@ use mathlib.Core.Bool.{false}
 use mathlib.Core.Option.{Option, some, none}
 use mathlib.Core.List.{List, [], _∷_, _++_, map, append-assoc, append-nil}
 use native.Mathlib.Omega.{arith}
-use lib.ListN.{length, getD, length-append}
+use lib.ListN.{length, getD, length-append, length-map}
 use lib.Seq.{append-snoc}
 use Rattle.model.specs.Refusal.{Refusal, refused, answered}
 use Rattle.taskset.specs.declared.Task.{Task}
@@ -14,7 +14,7 @@ use Rattle.fileformat.specs.File.{taskFault}
 use Rattle.fileformat.proofs.StepLaws.{end-early, end-fine}
 use Rattle.textformat.specs.Lines.{Line, linesOf}
 use Rattle.textformat.specs.TextSheet.{hasForm, lineFault, loadFrom, load, lineText, textOf}
-use Rattle.textformat.specs.TextTrips.{OtherForm, EarlierDecides}
+use Rattle.textformat.specs.TextTrips.{asHigh, OtherForm, EarlierDecides}
 use Rattle.textformat.proofs.TextTrips.{lineOf, text-lines, sheet-lines, line-fault, load-stop, load-none, load-end, task-line}
 
 -- the lines of the text of some tasks, and those after it
@@ -27,16 +27,16 @@ lines-after (t ∷ ts) rest =
 -- lines of tasks without a fault are taken, whatever follows them
 pub all-taken
     : (us ts : List Task) (l : List Line) → ((i : ℕ) → i < length us → taskFault 0 (length ts + i) 0 (getD us i noTask) ≡ none)
-    → loadFrom ts (map lineOf us ++ l) ≡ loadFrom (ts ++ us) l
+    → loadFrom ts (map lineOf us ++ l) ≡ loadFrom (ts ++ map asHigh us) l
 all-taken [] ts l h = ap (λ x. loadFrom x l) (sym (append-nil ts))
 all-taken (t ∷ us) ts l h =
     let a : length ts ≡ length ts + 0 = omega arith in
-    task-line ts t (map lineOf us ++ l) (ap (λ n. taskFault 0 n 0 t) a ∙ h 0 (omega arith)) ∙ all-taken us (ts ++ (t ∷ [])) l after
-    ∙ ap (λ x. loadFrom x l) (append-snoc ts t us)
+    task-line ts t (map lineOf us ++ l) (ap (λ n. taskFault 0 n 0 t) a ∙ h 0 (omega arith)) ∙ all-taken us (ts ++ (asHigh t ∷ [])) l after
+    ∙ ap (λ x. loadFrom x l) (append-snoc ts (asHigh t) (map asHigh us))
   where
-    after : (i : ℕ) → i < length us → taskFault 0 (length (ts ++ (t ∷ [])) + i) 0 (getD us i noTask) ≡ none
+    after : (i : ℕ) → i < length us → taskFault 0 (length (ts ++ (asHigh t ∷ [])) + i) 0 (getD us i noTask) ≡ none
     after i g =
-        let b : length (ts ++ (t ∷ [])) + i ≡ length ts + suc i = omega (arith, length-append ts (t ∷ [])) in
+        let b : length (ts ++ (asHigh t ∷ [])) + i ≡ length ts + suc i = omega (arith, length-append ts (asHigh t ∷ [])) in
         ap (λ n. taskFault 0 n 0 (getD us i noTask)) b ∙ h (suc i) (omega arith)
 
 -- a line of another form
@@ -48,7 +48,8 @@ other-line ts x l e = load-stop ts x l 16 (rw (lineFault, e))
 pub other-form : OtherForm
 unfolding load
 other-form ts rest x l h e f =
-    ap (loadFrom []) (lines-after ts rest ∙ ap (λ y. map lineOf ts ++ y) e) ∙ all-taken ts [] (x ∷ l) fine ∙ other-line ts x l f
+    ap (loadFrom []) (lines-after ts rest ∙ ap (λ y. map lineOf ts ++ y) e) ∙ all-taken ts [] (x ∷ l) fine ∙ other-line (map asHigh ts) x l f
+    ∙ ap (λ n. refused (record { number = 16; place = n })) (length-map ts asHigh)
   where
     fine : (i : ℕ) → i < length ts → taskFault 0 (0 + i) 0 (getD ts i noTask) ≡ none
     fine i g = let a : 0 + i ≡ i = omega arith in ap (λ n. taskFault 0 n 0 (getD ts i noTask)) a ∙ h i g
@@ -65,11 +66,11 @@ refused-stays
     : (us ts : List Task) (l : List Line) (r : Refusal) → loadFrom ts (map lineOf us) ≡ refused r → (r .number ≡ 5 → ⊥)
     → loadFrom ts (map lineOf us ++ l) ≡ refused r
 refused-stays [] ts l r e h = absurd (h (end-refused ts r e))
-refused-stays (t ∷ us) ts l r e h = go (taskFault 0 (length ts) 0 t) refl (refused-stays us (ts ++ (t ∷ [])) l r)
+refused-stays (t ∷ us) ts l r e h = go (taskFault 0 (length ts) 0 t) refl (refused-stays us (ts ++ (asHigh t ∷ [])) l r)
   where
     go
         : (o : Option ℕ) → taskFault 0 (length ts) 0 t ≡ o
-        → (loadFrom (ts ++ (t ∷ [])) (map lineOf us) ≡ refused r → (r .number ≡ 5 → ⊥) → loadFrom (ts ++ (t ∷ [])) (map lineOf us ++ l) ≡ refused r)
+        → (loadFrom (ts ++ (asHigh t ∷ [])) (map lineOf us) ≡ refused r → (r .number ≡ 5 → ⊥) → loadFrom (ts ++ (asHigh t ∷ [])) (map lineOf us ++ l) ≡ refused r)
         → loadFrom ts (lineOf t ∷ (map lineOf us ++ l)) ≡ refused r
     go (some k) f ih =
         let g = line-fault (length ts) t ∙ f in

@@ -1,6 +1,6 @@
 -- Texts and sheets, both ways: the line of a task, the text of a sheet, and what is loaded.
 use Prim.Native.Nat.{ℕ, suc, _+_, _≤_, _<_}
-use mathlib.Core.Path.{_≡_, refl, sym, ap, _∙_}
+use mathlib.Core.Path.{_≡_, refl, sym, ap, ap₂, _∙_}
 use mathlib.Core.Bool.{Bool, true, false}
 use mathlib.Core.Option.{Option, some, none}
 use mathlib.Core.List.{List, [], _∷_, _++_, map, append-assoc, append-nil, tail-eq-of-cons-eq}
@@ -17,13 +17,14 @@ use Rattle.model.proofs.CheckLaws.{both, in-range-yes, valid-of, valid-passes}
 use Rattle.model.proofs.ChargeLaws.{entry-uncharged}
 use Rattle.taskset.specs.declared.Task.{Task}
 use Rattle.fileformat.specs.File.{sheetOf, taskFault, endFault}
-use Rattle.fileformat.proofs.StepLaws.{Ranged, task-numbers, task-few, task-ranged, end-early, end-fine}
+use Rattle.fileformat.specs.OldFiles.{AllHigh}
+use Rattle.fileformat.proofs.StepLaws.{Ranged, task-same, task-numbers, task-few, task-ranged, end-early, end-fine}
 use Rattle.fileformat.proofs.RoundTrips.{never-answered, AllRanged, all-more}
 use Rattle.text.specs.Text.{lineFeed, decimal, field}
 use Rattle.textformat.specs.Numerals.{isDigit, allDigits, isNumeral, valueFrom, value}
 use Rattle.textformat.specs.Lines.{comma, Line, lastLine, linesFrom, linesOf, fieldsFrom, fieldsOf}
 use Rattle.textformat.specs.TextSheet.{allNumerals, isFour, hasForm, taskOf, taskIn, lineFault, loadFrom, load, lineText, textOf}
-use Rattle.textformat.specs.TextTrips.{FieldsInOrder, TextLoads, LoadedIsText, LoadedIsValid, FormIsText, TextHasForm, lineBytes, linesText}
+use Rattle.textformat.specs.TextTrips.{FieldsInOrder, asHigh, TextLoads, HighIsSame, LoadedIsHigh, LoadedIsText, LoadedIsValid, FormIsText, TextHasForm, lineBytes, linesText}
 use Rattle.textformat.proofs.NumeralLaws.{numeral-digits, numeral-decimal, value-decimal, decimal-value}
 use Rattle.textformat.proofs.LineLaws.{Without, without-append, digits-without, line-first, lines-join, field-first, field-alone, commas, fields-join}
 
@@ -130,8 +131,8 @@ unfolding hasForm isFour allNumerals
 line-formed t =
     rw (line-fields t, numeral-decimal (t .period), numeral-decimal (t .jitter), numeral-decimal (t .cost), numeral-decimal (t .deadline))
 
--- .. and gives the task
-pub line-gives : (t : Task) → taskIn (lineOf t) ≡ t
+-- .. and gives the high task with its numbers
+pub line-gives : (t : Task) → taskIn (lineOf t) ≡ asHigh t
 unfolding taskIn taskOf
 line-gives t =
     ap taskOf (line-fields t) ∙ rw (value-decimal (t .period), value-decimal (t .jitter), value-decimal (t .cost), value-decimal (t .deadline))
@@ -140,7 +141,7 @@ line-gives t =
 pub text-lines : (t : Task) (l : List ℕ) → linesOf (lineText t ++ l) ≡ lineOf t ∷ linesOf l
 text-lines t l = ap linesOf (line-text t l) ∙ line-first (fieldsText t) l (line-without t)
 
--- the line of any task is one line of the form, and gives the task
+-- the line of any task is one line of the form, and gives the high task with its numbers
 pub text-has-form : TextHasForm
 unfolding linesOf linesFrom lastLine
 text-has-form t = record {
@@ -159,7 +160,7 @@ sheet-lines (t ∷ l) = text-lines t (textOf l) ∙ ap (λ x. lineOf t ∷ x) (s
 -- what is wrong with the line of a task is what is wrong with the task
 pub line-fault : (n : ℕ) (t : Task) → lineFault n (lineOf t) ≡ taskFault 0 n 0 t
 unfolding lineFault
-line-fault n t = rw (lineFault, line-formed t, line-gives t)
+line-fault n t = rw (lineFault, line-formed t, line-gives t) (task-same 0 n 0 (asHigh t) t refl)
 
 -- one line of the load: a fault stops it at the line's number; without one the task is taken
 module _ (ts : List Task) (x : Line) (l : List Line) where
@@ -182,7 +183,8 @@ module _ (ts : List Task) where
   load-end e = rw (loadFrom, e)
 
 -- the line of a task without a fault is taken
-pub task-line : (ts : List Task) (t : Task) (l : List Line) → taskFault 0 (length ts) 0 t ≡ none → loadFrom ts (lineOf t ∷ l) ≡ loadFrom (ts ++ (t ∷ [])) l
+pub task-line
+    : (ts : List Task) (t : Task) (l : List Line) → taskFault 0 (length ts) 0 t ≡ none → loadFrom ts (lineOf t ∷ l) ≡ loadFrom (ts ++ (asHigh t ∷ [])) l
 task-line ts t l e = load-next ts (lineOf t) l (line-fault (length ts) t ∙ e) ∙ ap (λ x. loadFrom (ts ++ (x ∷ [])) l) (line-gives t)
 
 -- a task within its limits has no fault, where there is room for it
@@ -190,14 +192,15 @@ pub task-clear : (n : ℕ) (t : Task) → n < maxTasks → Ranged t → taskFaul
 task-clear n t l h = task-numbers 0 n 0 t refl l ∙ entry-uncharged _ _ _ _ ∙ rw (in-range-yes _ _ _ _ h)
 
 loads-tasks
-    : (l ts : List Task) → AllRanged l → length ts + length l ≤ maxTasks → 1 ≤ length ts + length l → loadFrom ts (map lineOf l) ≡ answered (ts ++ l)
+    : (l ts : List Task) → AllRanged l → length ts + length l ≤ maxTasks → 1 ≤ length ts + length l → loadFrom ts (map lineOf l) ≡ answered (ts ++ map asHigh l)
 loads-tasks [] ts h c s = load-end ts (end-fine (length ts) (omega arith)) ∙ ap answered (sym (append-nil ts))
 loads-tasks (t ∷ l) ts h c s =
     task-line ts t (map lineOf l) (task-clear (length ts) t (omega arith) (h 0 (omega arith)))
-    ∙ loads-tasks l (ts ++ (t ∷ [])) (λ i g. h (suc i) (omega arith)) (omega (arith, length-append ts (t ∷ []))) (omega (arith, length-append ts (t ∷ [])))
-    ∙ ap answered (append-snoc ts t l)
+    ∙ loads-tasks l (ts ++ (asHigh t ∷ [])) (λ i g. h (suc i) (omega arith)) (omega (arith, length-append ts (asHigh t ∷ [])))
+    (omega (arith, length-append ts (asHigh t ∷ [])))
+    ∙ ap answered (append-snoc ts (asHigh t) (map asHigh l))
 
--- the text of a valid sheet loads to that sheet
+-- the text of a valid sheet loads to that sheet with each task high
 pub text-loads : TextLoads
 unfolding load
 text-loads ts h =
@@ -270,7 +273,25 @@ loads-valid ts l us (takes vs x m ws k n) r f =
     loads-valid (vs ++ (taskIn x ∷ [])) m ws n (all-more Ranged vs (taskIn x) r (task-ranged 0 _ 0 (taskIn x) (k .fine)))
     (omega (arith, length-append vs (taskIn x ∷ []), task-few 0 _ 0 (taskIn x) (k .fine)))
 
--- what is loaded is within document 01's limits
+-- a high task is the high task with its numbers
+pub task-high : (t : Task) → t .low ≡ false → asHigh t ≡ t
+task-high t e = ap (λ b. record { period = t .period; jitter = t .jitter; cost = t .cost; deadline = t .deadline; low = b }) (sym e)
+
+pub high-same : HighIsSame
+high-same [] h = refl
+high-same (t ∷ ts) h = ap₂ (λ u us. u ∷ us) (task-high t (h 0 (omega arith))) (high-same ts (λ i g. h (suc i) (omega arith)))
+
+loads-high : (ts : List Task) (l : List Line) (us : List Task) → Loads ts l us → AllHigh ts → AllHigh us
+unfolding taskIn taskOf
+loads-high ts l us (ends vs h) r = r
+loads-high ts l us (takes vs x m ws k n) r = loads-high (vs ++ (taskIn x ∷ [])) m ws n (all-more (λ t. t .low ≡ false) vs (taskIn x) r refl)
+
+-- what is loaded is high ..
+pub loaded-high : LoadedIsHigh
+unfolding load
+loaded-high text ts e = loads-high [] (linesOf text) ts (loads-of [] (linesOf text) ts e) (λ i l. absurd (omega arith))
+
+-- .. and within document 01's limits
 pub loaded-valid : LoadedIsValid
 unfolding load
 loaded-valid text ts e =

@@ -27,13 +27,14 @@ isFour fields = eqb (length fields) 4 && allNumerals fields
 unfoldable pub hasForm : Line → Bool
 hasForm x = x .ended && isFour (fieldsOf (x .bytes))
 
--- the task of four fields
+-- the task of four fields; it is high
 unfoldable pub taskOf : List (List ℕ) → Task
 taskOf fields = record {
   period = value (getD fields 0 []);
   jitter = value (getD fields 1 []);
   cost = value (getD fields 2 []);
   deadline = value (getD fields 3 []);
+  low = false;
 }
 
 -- the task of a line

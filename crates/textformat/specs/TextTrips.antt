@@ -12,19 +12,31 @@ use Rattle.model.specs.Refusal.{Refusal, Answer, refused, answered}
 use Rattle.model.specs.Checks.{checkTasks}
 use Rattle.taskset.specs.declared.Task.{Task}
 use Rattle.taskset.specs.TaskSet.{noTask}
+use Rattle.fileformat.specs.OldFiles.{AllHigh}
 use Rattle.fileformat.specs.File.{File, sheetOf, taskFault, encode, decode}
 use Rattle.text.specs.Text.{lineFeed}
 use Rattle.textformat.specs.Lines.{Line, linesOf}
 use Rattle.textformat.specs.TextSheet.{hasForm, taskIn, load, lineText, textOf}
 
--- `fields-in-order`: "6,5,2,7" and a line feed is the task with P 6, J 5, E 2, D 7
+-- `fields-in-order`: "6,5,2,7" and a line feed is the high task with P 6, J 5, E 2, D 7
 abbrev pub FieldsInOrder : Type 0
 FieldsInOrder =
-    load (54 ∷ 44 ∷ 53 ∷ 44 ∷ 50 ∷ 44 ∷ 55 ∷ 10 ∷ []) ≡ answered (record { period = 6; jitter = 5; cost = 2; deadline = 7 } ∷ [])
+    load (54 ∷ 44 ∷ 53 ∷ 44 ∷ 50 ∷ 44 ∷ 55 ∷ 10 ∷ []) ≡ answered (record { period = 6; jitter = 5; cost = 2; deadline = 7; low = false } ∷ [])
 
--- `text-loads`: the text of every valid sheet loads to that sheet
+-- the high task with the same numbers
+abbrev pub asHigh : Task → Task
+asHigh t = record { period = t .period; jitter = t .jitter; cost = t .cost; deadline = t .deadline; low = false }
+
+-- `text-loads`: the text of every valid sheet loads to that sheet with each task high, so a sheet of high tasks to that sheet (`high-same`)
 abbrev pub TextLoads : Type 0
-TextLoads = (ts : List Task) → checkTasks (sheetOf ts) ≡ none → load (textOf ts) ≡ answered ts
+TextLoads = (ts : List Task) → checkTasks (sheetOf ts) ≡ none → load (textOf ts) ≡ answered (map asHigh ts)
+
+abbrev pub HighIsSame : Type 0
+HighIsSame = (ts : List Task) → AllHigh ts → map asHigh ts ≡ ts
+
+-- `loaded-high`: every task that is loaded is high
+abbrev pub LoadedIsHigh : Type 0
+LoadedIsHigh = (text : List ℕ) (ts : List Task) → load text ≡ answered ts → AllHigh ts
 
 -- `loaded-is-text`: an accepted text is the text of its sheet, byte for byte
 abbrev pub LoadedIsText : Type 0
@@ -57,12 +69,12 @@ lineBytes x = elim (x .ended) [ true ↦ x .bytes ++ (lineFeed ∷ []) | false �
 abbrev pub FormIsText : Type 0
 FormIsText = (x : Line) → hasForm x ≡ true → lineBytes x ≡ lineText (taskIn x)
 
--- `text-has-form`: the line of a task of any numbers is one line, has the form and gives the task
+-- `text-has-form`: the line of a task of any numbers is one line, has the form and gives the high task with those numbers
 pub record HasForm (t : Task) : Type 0 where
   pub line : Line
   pub alone : linesOf (lineText t) ≡ line ∷ []
   pub formed : hasForm line ≡ true
-  pub task : taskIn line ≡ t
+  pub task : taskIn line ≡ asHigh t
 
 abbrev pub TextHasForm : Type 0
 TextHasForm = (t : Task) → HasForm t
@@ -95,9 +107,9 @@ tasksAlone ts = record { charge = 0; tasks = ts; releases = [] }
 abbrev pub LoadedIsRead : Type 0
 LoadedIsRead = (text : List ℕ) (ts : List Task) → load text ≡ answered ts → decode (encode (tasksAlone ts)) ≡ answered (tasksAlone ts)
 
--- a task whose numbers are cut at c: a larger one counts as c
+-- the high task whose numbers are those of a task cut at c: a larger one counts as c
 abbrev pub cutAt : ℕ → Task → Task
-cutAt c t = record { period = min c (t .period); jitter = min c (t .jitter); cost = min c (t .cost); deadline = min c (t .deadline) }
+cutAt c t = record { period = min c (t .period); jitter = min c (t .jitter); cost = min c (t .cost); deadline = min c (t .deadline); low = false }
 
 -- at the largest number that four bytes hold, which is over every limit
 abbrev pub cut : Task → Task

@@ -1,5 +1,6 @@
 // Runs the stored cases of arrival count, verdict and choice, and prints a line for each: the answer, and every slot of the lent columns that the
 // choice writes.
+use choice::ChoiceAnswer;
 use demand::ArrivalAnswer;
 use taskset::TaskSet;
 use verdict::VerdictAnswer;
@@ -53,7 +54,7 @@ fn print_verdict(answer: VerdictAnswer) {
 }
 
 // A case of the arrival count: task and t; then the kept jitters.
-fn arrival_case(head: &[u32; 136]) {
+fn arrival_case(head: &[u32; 168]) {
     let set = cases::task_set(head);
     let mut kept = [0u32; 64];
     let keeps = cases::read_column(&mut kept);
@@ -62,12 +63,21 @@ fn arrival_case(head: &[u32; 136]) {
 }
 
 // A case of the verdict: task; then the kept jitters.
-fn verdict_case(head: &[u32; 136]) {
+fn verdict_case(head: &[u32; 168]) {
     let set = cases::task_set(head);
     let mut kept = [0u32; 64];
     let keeps = cases::read_column(&mut kept);
     let answer = verdict::verdict(set, cases::index(head[1]), &kept[..keeps]);
     print_verdict(answer);
+}
+
+// Prints what the choice answers.
+fn print_choice(answer: ChoiceAnswer) {
+    match answer {
+        ChoiceAnswer::Ordinary => cases::print_words(b"fits"),
+        ChoiceAnswer::HighOnly => cases::print_words(b"high only"),
+        ChoiceAnswer::Refused { number, place } => cases::print_refusal(number, place),
+    }
 }
 
 // Calls the choice, and prints the answer and the columns lent.
@@ -83,13 +93,13 @@ fn choice_call(set: TaskSet, kept: &mut [u32], worst: &mut [u32])
         ⌝ }
 {
     let answer = choice::choose(set, kept, worst);
-    cases::print_checked(answer);
+    print_choice(answer);
     cases::print_column(kept);
     cases::print_column(worst);
 }
 
 // A case of the choice: the columns of kept jitters and of worst values.
-fn choice_case(head: &[u32; 136]) {
+fn choice_case(head: &[u32; 168]) {
     let set = cases::task_set(head);
     let mut kept = [0u32; 64];
     let keeps = cases::read_column(&mut kept);
@@ -103,7 +113,7 @@ fn one() -> bool {
     if !cases::next_case() {
         return false;
     }
-    let mut head = [0u32; 136];
+    let mut head = [0u32; 168];
     cases::read_column(&mut head);
     if head[0] == 0 {
         arrival_case(&head);

@@ -118,7 +118,7 @@ fn write_call(set: TaskSet, count: usize, task: &[u32], tick: &[u64], cost: &[u3
 }
 
 // A case of the write: count of releases; then tasks, ticks, costs and the bytes.
-fn write_case(head: &[u32; 136]) {
+fn write_case(head: &[u32; 168]) {
     let set = cases::task_set(head);
     let count = cases::index(head[1]);
     let mut task = [0u32; 1056];
@@ -170,7 +170,7 @@ fn one() -> bool {
     if !cases::next_case() {
         return false;
     }
-    let mut head = [0u32; 136];
+    let mut head = [0u32; 168];
     cases::read_column(&mut head);
     if head[0] == 0 {
         read_case();

@@ -88,7 +88,7 @@ fn jump_call(
 
 // A case: 0 for both runs, 1 for the run that jumps alone; count of releases; then kept jitters, tasks, ticks, costs, and the columns of ready and
 // finish ticks.
-fn run_case(head: &[u32; 136]) {
+fn run_case(head: &[u32; 168]) {
     let set = cases::task_set(head);
     let count = cases::index(head[1]);
     let mut kept = [0u32; 64];
@@ -135,7 +135,7 @@ fn one() -> bool {
     if !cases::next_case() {
         return false;
     }
-    let mut head = [0u32; 136];
+    let mut head = [0u32; 168];
     cases::read_column(&mut head);
     run_case(&head);
     cases::end_line();

@@ -56,7 +56,7 @@ fn one() -> bool {
     if !cases::next_case() {
         return false;
     }
-    let mut head = [0u32; 136];
+    let mut head = [0u32; 168];
     cases::read_column(&mut head);
     if head[0] == 0 {
         load_case();

@@ -22,7 +22,7 @@ fn print_trace(answer: TraceAnswer) {
 }
 
 // A case of the trace check: count of releases; then the columns of tasks, ticks and costs.
-fn trace_case(head: &[u32; 136]) {
+fn trace_case(head: &[u32; 168]) {
     let set = cases::task_set(head);
     let count = cases::index(head[1]);
     let mut task = [0u32; 1056];
@@ -59,7 +59,7 @@ fn ready_call(
 }
 
 // A case of the ready ticks: count of releases; then kept jitters, tasks, ticks, costs and the column of ready ticks.
-fn ready_case(head: &[u32; 136]) {
+fn ready_case(head: &[u32; 168]) {
     let set = cases::task_set(head);
     let count = cases::index(head[1]);
     let mut kept = [0u32; 64];
@@ -88,7 +88,7 @@ fn one() -> bool {
     if !cases::next_case() {
         return false;
     }
-    let mut head = [0u32; 136];
+    let mut head = [0u32; 168];
     cases::read_column(&mut head);
     if head[0] == 0 {
         trace_case(&head);

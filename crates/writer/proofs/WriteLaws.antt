@@ -1,5 +1,5 @@
 -- Laws of a write: which refusal comes first, and what stands in the lent bytes afterwards.
-use Prim.Native.Nat.{ℕ, suc, _+_, _*_, _≤_, _<_}
+use Prim.Native.Nat.{ℕ, suc, _+_, _≤_, _<_}
 use mathlib.Core.Path.{_≡_, refl, sym, ap, ap₂, _∙_}
 use mathlib.Core.Option.{none}
 use mathlib.Core.List.{List, [], _∷_, _++_, append-assoc}
@@ -16,9 +16,10 @@ use Rattle.model.proofs.CheckLaws.{valid-of, count-of, slots-short, slots-next,
 use Rattle.model.proofs.TraceLaws.{trace-of}
 use Rattle.model.proofs.OrderLaws.{accepted-of, answers, refuses, column-kept, column-written}
 use Rattle.releases.proofs.ReleaseLaws.{Columns, length-releases, release-at}
-use Rattle.fileformat.specs.File.{encode}
-use Rattle.fileformat.specs.FileCalls.{tasksIn, chargeBytes, listBytes, bytesNeeded, writeInputs, fileOf}
-use Rattle.fileformat.proofs.SheetLaws.{length-tasks}
+use Rattle.fileformat.specs.File.{sheetWith, encode}
+use Rattle.fileformat.specs.FileCalls.{tasksIn, chargeBytes, tasksBytes, sheetBytes, listBytes, bytesNeeded, writeInputs, fileOf}
+use Rattle.fileformat.proofs.TaskSizeLaws.{tasks-bytes-same}
+use Rattle.fileformat.proofs.SheetLaws.{length-tasks, same-sheet}
 use Rattle.fileformat.proofs.RoundTrips.{chargePart, length-charge-part, taskPart, releasePart, encode-parts, length-encode, length-task-part, length-release-part}
 use Rattle.writer.specs.declared.WriteAnswer.the-variants.{Written, Refused}
 use Rattle.writer.specs.Writer.{stored, sheetPart, part, Rising, WriteSays}
@@ -26,16 +27,16 @@ use Rattle.writer.proofs.StoreLaws.{stored-at, stored-one, stored-all}
 use Rattle.writer.proofs.PartLaws.{bytes-joined}
 
 -- the bytes that a write needs
-abbrev pub bytesLent : ℕ → ℕ → List Release → ℕ → Lent
-bytesLent charge tasks l room = record { needed = bytesNeeded charge tasks l; slots = room }
+abbrev pub bytesLent : Tasks → List Release → ℕ → Lent
+bytesLent s l room = record { needed = bytesNeeded s l; slots = room }
 
 -- 13 for the bytes, `start` being those of the sheet and `size` those of the releases
-module _ (charge tasks start size : ℕ) (l : List Release) (room : ℕ) (b : start ≡ chargeBytes charge + 17 * tasks) (e : size ≡ listBytes l) where
-  pub bytes-short : room ≤ start + size → refuse 13 (start + size + 1) ≡ checkSlots (bytesLent charge tasks l room ∷ [])
+module _ (s : Tasks) (start size : ℕ) (l : List Release) (room : ℕ) (b : start ≡ sheetBytes s) (e : size ≡ listBytes l) where
+  pub bytes-short : room ≤ start + size → refuse 13 (start + size + 1) ≡ checkSlots (bytesLent s l room ∷ [])
   unfolding bytesNeeded
   bytes-short h = ap₂ (λ a k. refuse 13 (a + k + 1)) b e ∙ slots-short _ _ (omega (arith, b, e))
 
-  pub bytes-long : start + size < room → none ≡ checkSlots (bytesLent charge tasks l room ∷ [])
+  pub bytes-long : start + size < room → none ≡ checkSlots (bytesLent s l room ∷ [])
   unfolding bytesNeeded
   bytes-long h = slots-none ∙ sym (slots-next _ _ (omega (arith, b, e)))
 
@@ -50,7 +51,7 @@ pub record WriteFits (s : TaskSet) (n : ℕ) (task tick cost : List ℕ) (room :
   pub few-tasks : s .count ≤ maxTasks
   pub few-releases : n ≤ maxReleases
   pub columns : Columns n task tick cost
-  pub bytes : chargeBytes (s .charge) + 17 * s .count + listBytes (releasesOf n task tick cost) < room
+  pub bytes : sheetBytes (viewOf s) + listBytes (releasesOf n task tick cost) < room
   pub rising : Rising n tick
 
 pub write-fits
@@ -61,7 +62,7 @@ write-fits s n task tick cost room e =
     let t = slot-of _ _ (a .lent) in
     let k = slot-of _ _ (t .1) in
     let c = slot-of _ _ (k .1) in
-    let b = slot-of (bytesLent (s .charge) (s .count) (releasesOf n task tick cost) room) [] (c .1) in
+    let b = slot-of (bytesLent (viewOf s) (releasesOf n task tick cost) room) [] (c .1) in
     record {
       few-tasks = valid-of (viewOf s) (sym (a .tasks)) .few-tasks;
       few-releases = count-of n (a .count);
@@ -94,19 +95,24 @@ module _ (s : TaskSet) (n : ℕ) (task tick cost out : List ℕ) where
 
   -- where the releases begin, and where they end
   abbrev start : ℕ
-  start = chargeBytes (s .charge) + 17 * s .count
+  start = sheetBytes (viewOf s)
 
   abbrev end : ℕ
   end = start + listBytes list
 
   module _ (h : s .count ≤ length (s .tasks)) where
+    tasks-long : tasksBytes (sheetWith (s .charge) (tasksIn s)) (length (tasksIn s)) ≡ tasksBytes (viewOf s) (s .count)
+    tasks-long =
+        ap (tasksBytes (sheetWith (s .charge) (tasksIn s))) (length-tasks s h)
+        ∙ sym (tasks-bytes-same (viewOf s) (sheetWith (s .charge) (tasksIn s)) (same-sheet s h) (s .count) (omega arith))
+
     long : length (encode (fileOf s n task tick cost)) ≡ end + 1
-    long = length-encode (fileOf s n task tick cost) ∙ ap (λ a. chargeBytes (s .charge) + 17 * a + listBytes list + 1) (length-tasks s h)
+    long = length-encode (fileOf s n task tick cost) ∙ ap (λ a. chargeBytes (s .charge) + a + listBytes list + 1) tasks-long
 
     sheet-long : length (sheetPart s) ≡ start
     sheet-long =
         length-append (chargePart (s .charge)) (taskPart (tasksIn s))
-        ∙ ap₂ _+_ (length-charge-part (s .charge)) (length-task-part (tasksIn s) ∙ ap (λ k. 17 * k) (length-tasks s h))
+        ∙ ap₂ _+_ (length-charge-part (s .charge)) (length-task-part (s .charge) (tasksIn s) ∙ tasks-long)
 
     parts : (sheetPart s ++ releasePart list) ++ (3 ∷ []) ≡ encode (fileOf s n task tick cost)
     parts =

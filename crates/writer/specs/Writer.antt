@@ -9,8 +9,10 @@ use Rattle.model.specs.Checks.{refusalOf, answerOf}
 use Rattle.model.specs.Limits.{maxShortTick}
 use Rattle.model.specs.Tasks.{Release}
 use Rattle.model.specs.Calls.{releasesOf, columnAfter}
+use Rattle.taskset.specs.declared.Task.{Task}
 use Rattle.taskset.specs.declared.TaskSet.{TaskSet}
 use Rattle.taskset.specs.TaskSet.{viewOf}
+use Rattle.fileformat.specs.Numbers.{bytesOf}
 use Rattle.fileformat.specs.Records.{Width, taskRecord, widthFor}
 use Rattle.fileformat.specs.File.{chargeRecords, joined, encode}
 use Rattle.fileformat.specs.FileCalls.{tasksIn, writeInputs, fileOf}
@@ -20,6 +22,10 @@ use Rattle.writer.specs.declared.WriteAnswer.the-variants.{Written, Refu
 -- some bytes, with others stored from an offset on
 unfoldable pub stored : List ℕ → ℕ → List ℕ → List ℕ
 stored = sets
+
+-- the bytes of the four numbers of a task
+abbrev pub numberBytes : Task → List ℕ
+numberBytes t = bytesOf 4 (t .period) ++ (bytesOf 4 (t .jitter) ++ (bytesOf 4 (t .cost) ++ bytesOf 4 (t .deadline)))
 
 -- the bytes of a sheet: those of its charge and of its tasks
 abbrev pub sheetPart : TaskSet → List ℕ

@@ -6,17 +6,17 @@ ghost use mathlib.Core.Path.{_≡_};
 ghost use mathlib.Core.Bool.{true};
 ghost use mathlib.Core.Option.{none};
 ghost use mathlib.Core.List.{List, _∷_, map};
-ghost use Prim.Native.Nat.{ℕ, _≤_, _+_, _*_, _%_};
+ghost use Prim.Native.Nat.{ℕ, _≤_, _+_, _%_};
 ghost use lib.ListN.{length};
 ghost use Rattle.model.specs.Calls.{releasesOf};
 ghost use Rattle.releases.specs.Releases.{release};
 ghost use Rattle.fileformat.specs.Numbers.{bytesOf};
-ghost use Rattle.fileformat.specs.Records.{widthIn, taskRecord, taskBytes, releaseBytes, releaseSize, widthFor, writtenRecord};
+ghost use Rattle.fileformat.specs.Records.{widthIn, taskRecord, taskSize, taskBytes, releaseBytes, releaseSize, widthFor, writtenRecord};
 ghost use Rattle.fileformat.specs.File.{chargeRecords, joined};
 ghost use Rattle.model.specs.Checks.{refusalOf};
 ghost use Rattle.taskset.specs.TaskSet.{viewOf, refusalIn};
-ghost use Rattle.fileformat.specs.FileCalls.{tasksIn, chargeBytes, listBytes, writeInputs};
-ghost use Rattle.writer.specs.Writer.{stored, sheetPart, part, Alike, Rising, Cut, WriteSays};
+ghost use Rattle.fileformat.specs.FileCalls.{tasksIn, chargeBytes, tasksBytes, sheetBytes, listBytes, writeInputs};
+ghost use Rattle.writer.specs.Writer.{stored, numberBytes, sheetPart, part, Alike, Rising, Cut, WriteSays};
 
 // The answer of a write: the number of bytes written, or document 01's number and place.
 pub enum WriteAnswer {
@@ -54,16 +54,29 @@ fn put_wide_number(out: &mut [u8], at: usize, n: u64)
     put_number(out, at + 4, (n / 4294967296) as u32);
 }
 
-// Writes a task record.
-fn put_task(out: &mut [u8], at: usize, t: Task)
+// Writes the kind and the four numbers of a task record.
+fn put_numbers(out: &mut [u8], at: usize, kind: u8, t: Task)
     requires { ⌜ at + 17 ≤ length (now out) ⌝ }
-    ensures { λ _. ⌜ now (out .exit) ≡ stored (now (out .entry)) at (taskBytes t) ⌝ }
+    ensures { λ _. ⌜ now (out .exit) ≡ stored (now (out .entry)) at (kind ∷ numberBytes t) ⌝ }
 {
-    out[at] = 1;
+    out[at] = kind;
     put_number(out, at + 1, t.period);
     put_number(out, at + 5, t.jitter);
     put_number(out, at + 9, t.cost);
     put_number(out, at + 13, t.deadline);
+}
+
+// Writes a task record: kind 1, or kind 6 with a last byte 0 where the task is low.
+fn put_task(out: &mut [u8], at: usize, t: Task)
+    requires { ⌜ at + taskSize (t .low) ≤ length (now out) ⌝ }
+    ensures { λ _. ⌜ now (out .exit) ≡ stored (now (out .entry)) at (taskBytes t) ⌝ }
+{
+    if t.low {
+        put_numbers(out, at, 6, t);
+        out[at + 17] = 0;
+        return;
+    }
+    put_numbers(out, at, 1, t);
 }
 
 // Writes the kind and the task number with which a release record begins.
@@ -150,10 +163,11 @@ fn put_charge(out: &mut [u8], charge: u8)
     out[1] = charge;
 }
 
-// Writes the task records of a sheet from an offset on.
-fn put_tasks(out: &mut [u8], from: usize, s: TaskSet)
-    requires { ⌜ (s .count ≤ 32) × (from + 17 * s .count ≤ length (now out)) × (s .count ≤ length (s .tasks)) ⌝ }
-    ensures { λ _. ⌜ now (out .exit) ≡ stored (now (out .entry)) from (joined (map taskRecord (tasksIn s))) ⌝ }
+// Writes the task records of a sheet from an offset on; the answer is the offset after them.
+fn put_tasks(out: &mut [u8], from: usize, s: TaskSet) -> usize
+    requires { ⌜ (s .count ≤ 32) × (from + tasksBytes (viewOf s) (s .count) ≤ length (now out)) × (s .count ≤ length (s .tasks)) ⌝ }
+    ensures bytes { λ _. ⌜ now (out .exit) ≡ stored (now (out .entry)) from (joined (map taskRecord (tasksIn s))) ⌝ }
+    ensures end { λ r. ⌜ r ≡ from + tasksBytes (viewOf s) (s .count) ⌝ }
 {
     let count = s.count;
     let mut at = from;
@@ -161,18 +175,20 @@ fn put_tasks(out: &mut [u8], from: usize, s: TaskSet)
     while i < count {
         let t = s.tasks[i];
         put_task(out, at, t);
-        at += 17;
+        at += entries::task_size(t.low);
         i += 1;
     }
+    at
 }
 
-// Writes the records of a sheet: its charge and its tasks.
-fn put_sheet(out: &mut [u8], s: TaskSet)
-    requires { ⌜ (s .count ≤ 32) × (chargeBytes (s .charge) + 17 * s .count ≤ length (now out)) × (s .count ≤ length (s .tasks)) ⌝ }
-    ensures { λ _. ⌜ now (out .exit) ≡ stored (now (out .entry)) 0 (sheetPart s) ⌝ }
+// Writes the records of a sheet, its charge and its tasks; the answer is the offset after them.
+fn put_sheet(out: &mut [u8], s: TaskSet) -> usize
+    requires { ⌜ (s .count ≤ 32) × (sheetBytes (viewOf s) ≤ length (now out)) × (s .count ≤ length (s .tasks)) ⌝ }
+    ensures bytes { λ _. ⌜ now (out .exit) ≡ stored (now (out .entry)) 0 (sheetPart s) ⌝ }
+    ensures end { λ r. ⌜ r ≡ sheetBytes (viewOf s) ⌝ }
 {
     put_charge(out, s.charge);
-    put_tasks(out, entries::charge_size(s.charge), s);
+    put_tasks(out, entries::charge_size(s.charge), s)
 }
 
 // Writes the release records of a list from a place up to another, all of one kind; the answer is the offset after them.
@@ -246,7 +262,7 @@ pub fn check_write(
         return long;
     };
     let listed = releases::check_releases(s, count, task, tick, cost);
-    let sized = entries::sheet_size(s.charge, s.count);
+    let sized = entries::sheet_size(s);
     let end = sized + list_size(count, tick, is_fine(listed));
     if room <= end {
         return Checked::Refused {
@@ -275,9 +291,8 @@ pub fn write(
             place: place,
         };
     }
-    put_sheet(out, s);
+    let start = put_sheet(out, s);
     let shorts = short_count(count, tick);
-    let start = entries::sheet_size(s.charge, s.count);
     let middle = put_part(out, start, 0, shorts, false, task, tick, cost);
     let end = put_part(out, middle, shorts, count, true, task, tick, cost);
     out[end] = 3;

@@ -8,12 +8,11 @@ use lib.Seq.{length-take-le}
 use denote.Ref.{now}
 use borrow.Author.Needs.{needs}
 use Rattle.model.specs.Checks.{checkTasks}
-use Rattle.model.specs.Choice.{choice}
 use Rattle.taskset.specs.TaskSet.{viewOf}
 use Rattle.fileformat.specs.RoundTrips.{decidingBytes}
 use Rattle.report.specs.Report.{refusalText}
 use Rattle.report.proofs.ReportLaws.{wider}
-use Rattle.answers.specs.Answers.{chosenText, chooseText}
+use Rattle.answers.specs.Answers.{sheetText, chooseText}
 use Rattle.answers.proofs.AnswerLaws.{choose-printed}
 use Rattle.answers.proofs.ReplayLaws.{halts, holds}
 use Rattle.answers.proofs.choose_text.Statement.{statement}
@@ -39,7 +38,7 @@ abbrev zeros : List ℕ
 zeros = replicate 1024 0
 
 -- a file that was refused
-small : (c : tie.After-outcome) → c .outcome .given .0 .1 .0 ≤ 14883
+small : (c : tie.After-outcome) → c .outcome .given .0 .1 .0 ≤ 14915
 small c =
     halts (bytes (halted c)) zeros zeros zeros (omega arith) (omega arith) (omega arith) _ _ _ (c .outcome .given .1) (halted c .read .ensures .outcome) .small
 
@@ -55,8 +54,7 @@ set c =
     (r .read .ensures .sheet) (r .read .ensures .task-column) (r .read .ensures .tick-column) (r .read .ensures .cost-column) .sheet
 
 choices : (c : tie.After-enum-told)
-    → chosenText (viewOf (c .before .before .before .before .before .before .read .result .tasks))
-    (choice (viewOf (c .before .before .before .before .before .before .read .result .tasks)))
+    → sheetText (viewOf (c .before .before .before .before .before .before .read .result .tasks))
     ≡ chooseText (bytes (c .before .before .before .before .before .before))
 choices c =
     let r : tie.After-read = c .before .before .before .before .before .before in

@@ -1,11 +1,16 @@
 use Rattle.report.proofs.ReportLaws.{wider}
 use Prim.Native.Nat.{ℕ, _≤_}
-use mathlib.Core.Path.{sym}
+use mathlib.Core.Path.{_≡_, sym, ap}
 use mathlib.Core.List.{List}
 use native.Mathlib.Omega.{arith}
 use lib.ListN.{replicate}
 use Rattle.model.proofs.CheckLaws.{valid-of}
+use Rattle.model.specs.Choice.{Scope, ordinary, high-only}
+use Rattle.model.specs.Refusal.{answered}
 use Rattle.taskset.specs.TaskSet.{viewOf}
+use Rattle.choice.specs.Choices.{scopeTold}
+use Rattle.report.specs.Report.{choiceText}
+use Rattle.answers.specs.Answers.{sheetText}
 use Rattle.answers.proofs.SaidLaws.{Refusing, refusing, chosen-said}
 use borrow.Author.Needs.{needs}
 use Rattle.answers.proofs.put_chosen.Statement.{statement}
@@ -32,6 +37,14 @@ unfit
 unfit c =
     refusing (viewOf (start (made c) .args .s)) zeros zeros (start (made c) .pre .0) (few (made c)) (few (made c)) _ _ _ (c .c .given .1)
     (made c .choose .ensures .0)
+
+-- a choice was made, and this is which of the two
+said
+    : (r : tie.After-choose) (x : Scope) → scopeTold (r .choose .result) ≡ answered x
+    → choiceText x (viewOf (start r .args .s)) (r .choose .last .1 .0) (r .choose .last .1 .1 .0) ≡ sheetText (viewOf (start r .args .s))
+said r x e =
+    chosen-said (viewOf (start r .args .s)) zeros zeros (start r .pre .0) (few r) (few r) _ x _ _ e
+    (r .choose .ensures .0) (r .choose .ensures .1 .0) (r .choose .ensures .1 .1)
 
 slice-aggregate-choose : tie.Need-slice-aggregate-choose
 slice-aggregate-choose c = search needs
@@ -65,6 +78,20 @@ put-choice-requires c κs =
     let r : tie.After-choose = c .before .before .before .before .before .before .before in
     omega (arith, few r, r .choose .kept .1 .0, r .choose .kept .1 .1 .0)
 
+enum-told-2 : tie.Need-enum-told-2
+enum-told-2 c = search needs
+
+slice-aggregate-put-choice-3 : tie.Need-slice-aggregate-put-choice-3
+slice-aggregate-put-choice-3 c = search needs
+
+slice-aggregate-put-choice-4 : tie.Need-slice-aggregate-put-choice-4
+slice-aggregate-put-choice-4 c = search needs
+
+put-choice-requires-2 : tie.Need-put-choice-requires-2
+put-choice-requires-2 c κs =
+    let r : tie.After-choose = c .before .before .before .before .before .before .before in
+    omega (arith, few r, r .choose .kept .1 .0, r .choose .kept .1 .1 .0)
+
 same-length : tie.Need-same-length
 same-length c = search needs
 
@@ -75,12 +102,19 @@ same-length-2 : tie.Need-same-length-2
 same-length-2 c = search needs
 
 returns-2 : tie.Need-returns-2
+unfolding scopeTold
 returns-2 c =
     let r : tie.After-choose = c .before .before .before .before .before .before .before .before .before .before in
-    rw
-    (chosen-said (viewOf (start r .args .s)) zeros zeros (start r .pre .0) (few r) (few r) _ _ _ (c .before .before .before .before .before .before .enum-told .given .1)
-    (r .choose .ensures .0) (r .choose .ensures .1 .0) (r .choose .ensures .1 .1))
-    at (c .before .before .put-choice .ensures)
+    rw (said r ordinary (ap scopeTold (c .before .before .before .before .before .before .enum-told .given .1))) at (c .before .before .put-choice .ensures)
+
+same-length-3 : tie.Need-same-length-3
+same-length-3 c = search needs
+
+returns-3 : tie.Need-returns-3
+unfolding scopeTold
+returns-3 c =
+    let r : tie.After-choose = c .before .before .before .before .before .before .before .before .before .before in
+    rw (said r high-only (ap scopeTold (c .before .before .before .before .before .before .enum-told2 .given .1))) at (c .before .before .put-choice2 .ensures)
 
 pub put-chosen-spec : {M : Type 1} → statement M
 put-chosen-spec =
@@ -96,7 +130,13 @@ put-chosen-spec =
     slice-aggregate-put-choice
     slice-aggregate-put-choice-2
     put-choice-requires
+    enum-told-2
+    slice-aggregate-put-choice-3
+    slice-aggregate-put-choice-4
+    put-choice-requires-2
     same-length
     returns
     same-length-2
-    returns-2)
+    returns-2
+    same-length-3
+    returns-3)

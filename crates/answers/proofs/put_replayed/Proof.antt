@@ -1,15 +1,17 @@
 use Rattle.report.proofs.ReportLaws.{wider}
 use Prim.Native.Nat.{ℕ, _≤_}
-use mathlib.Core.Path.{sym}
+use mathlib.Core.Path.{_≡_, sym, ap}
 use mathlib.Core.List.{List}
 use native.Mathlib.Omega.{arith}
 use lib.ListN.{length, replicate}
 use Rattle.taskset.specs.TaskSet.{viewOf}
 use denote.Ref.{now}
-use Rattle.model.specs.Choice.{choice}
+use Rattle.model.specs.Choice.{Scope, ordinary, high-only, choice}
+use Rattle.model.specs.Refusal.{answered}
 use Rattle.model.specs.Calls.{keptColumn}
 use Rattle.model.proofs.CheckLaws.{valid-of}
-use Rattle.answers.proofs.SaidLaws.{Refusing, refusing, keeping, zeros-rest}
+use Rattle.choice.specs.Choices.{scopeTold}
+use Rattle.answers.proofs.SaidLaws.{Refusing, refusing, Keeping, keeping, zeros-rest}
 use borrow.Author.Needs.{needs}
 use Rattle.answers.proofs.put_replayed.Statement.{statement}
 use Rattle.answers.proofs.put_replayed.Tie as tie
@@ -36,6 +38,15 @@ unfit c =
     refusing (viewOf (start (made c) .args .s)) zeros zeros (start (made c) .pre .0 .sheet) (few (made c)) (few (made c)) _ _ _ (c .c .given .1)
     (made c .choose .ensures .0)
 
+-- a choice was made, whichever of the two it is
+keeps
+    : (r : tie.After-choose) (x : Scope) (e : scopeTold (r .choose .result) ≡ answered x)
+    → Keeping (viewOf (start r .args .s)) zeros zeros (start r .pre .0 .sheet) (few r) (few r) (r .choose .result) x
+    (r .choose .last .1 .0) (r .choose .last .1 .1 .0) e (r .choose .ensures .0)
+keeps r x e =
+    keeping (viewOf (start r .args .s)) zeros zeros (start r .pre .0 .sheet) (few r) (few r) _ x _ (r .choose .last .1 .1 .0) e
+    (r .choose .ensures .0) (zeros-rest 32 (length (keptColumn (choice (viewOf (start r .args .s)))))) (r .choose .ensures .1 .0)
+
 slice-aggregate-choose : tie.Need-slice-aggregate-choose
 slice-aggregate-choose c = search needs
 
@@ -61,14 +72,22 @@ slice-aggregate-put-ran : tie.Need-slice-aggregate-put-ran
 slice-aggregate-put-ran c = search needs
 
 put-ran-requires : tie.Need-put-ran-requires
+unfolding scopeTold
 put-ran-requires c κs =
     let r : tie.After-choose = c .before .before .before .before .before .before in
-    let s : tie.Start = start r in (
-      keeping (viewOf (s .args .s)) zeros zeros (s .pre .0 .sheet) (few r) (few r) _ _ (r .choose .last .1 .1 .0) (c .before .before .enum-told .given .1)
-          (r .choose .ensures .0) (zeros-rest 32 (length (keptColumn (choice (viewOf (s .args .s)))))) (r .choose .ensures .1 .0) .kept-ok,
-      s .pre .0,
-      s .pre .1,
-    )
+    (keeps r ordinary (ap scopeTold (c .before .before .enum-told .given .1)) .kept-ok, start r .pre .0, start r .pre .1)
+
+enum-told-2 : tie.Need-enum-told-2
+enum-told-2 c = search needs
+
+slice-aggregate-put-ran-2 : tie.Need-slice-aggregate-put-ran-2
+slice-aggregate-put-ran-2 c = search needs
+
+put-ran-requires-2 : tie.Need-put-ran-requires-2
+unfolding scopeTold
+put-ran-requires-2 c κs =
+    let r : tie.After-choose = c .before .before .before .before .before .before in
+    (keeps r high-only (ap scopeTold (c .before .before .enum-told2 .given .1)) .kept-ok, start r .pre .0, start r .pre .1)
 
 same-length : tie.Need-same-length
 same-length c = search needs
@@ -84,15 +103,27 @@ same-length-2 : tie.Need-same-length-2
 same-length-2 c = search needs
 
 returns-2 : tie.Need-returns-2
+unfolding scopeTold
 returns-2 c =
     let r : tie.After-choose = c .before .before .before .before .before .before .before .before .before in
     let s : tie.Start = start r in
     rw
-    (keeping (viewOf (s .args .s)) zeros zeros (s .pre .0 .sheet) (few r) (few r) _ _ (r .choose .last .1 .1 .0)
-    (c .before .before .before .before .before .enum-told .given .1)
-    (r .choose .ensures .0) (zeros-rest 32 (length (keptColumn (choice (viewOf (s .args .s)))))) (r .choose .ensures .1 .0)
+    (keeps r ordinary (ap scopeTold (c .before .before .before .before .before .enum-told .given .1))
     .list-text (s .args .n) (now (s .args .task)) (now (s .args .tick)) (now (s .args .cost)))
     at (c .before .before .put-ran .ensures)
+
+same-length-3 : tie.Need-same-length-3
+same-length-3 c = search needs
+
+returns-3 : tie.Need-returns-3
+unfolding scopeTold
+returns-3 c =
+    let r : tie.After-choose = c .before .before .before .before .before .before .before .before .before in
+    let s : tie.Start = start r in
+    rw
+    (keeps r high-only (ap scopeTold (c .before .before .before .before .before .enum-told2 .given .1))
+    .list-text (s .args .n) (now (s .args .task)) (now (s .args .tick)) (now (s .args .cost)))
+    at (c .before .before .put-ran2 .ensures)
 
 pub put-replayed-spec : {M : Type 1} → statement M
 put-replayed-spec =
@@ -107,7 +138,12 @@ put-replayed-spec =
     enum-told
     slice-aggregate-put-ran
     put-ran-requires
+    enum-told-2
+    slice-aggregate-put-ran-2
+    put-ran-requires-2
     same-length
     returns
     same-length-2
-    returns-2)
+    returns-2
+    same-length-3
+    returns-3)

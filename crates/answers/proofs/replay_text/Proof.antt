@@ -38,7 +38,7 @@ abbrev zeros : List ℕ
 zeros = replicate 1024 0
 
 -- a file that was refused
-small : (c : tie.After-outcome) → c .outcome .given .0 .1 .0 ≤ 14883
+small : (c : tie.After-outcome) → c .outcome .given .0 .1 .0 ≤ 14915
 small c =
     halts (bytes (halted c)) zeros zeros zeros (omega arith) (omega arith) (omega arith) _ _ _ (c .outcome .given .1) (halted c .read .ensures .outcome) .small
 

@@ -8,10 +8,10 @@ use Rattle.choice.proofs.choices_of.Statement.{statement}
 use Rattle.choice.proofs.choices_of.Tie as tie
 
 abbrev Inv-loop : tie.InvT-loop
-Inv-loop s loads periods count highs lows keep₀ worst₀ evaluations₀ i₀ keep worst evaluations i = Choosing s loads periods keep worst evaluations i
+Inv-loop partial s loads periods count highs lows keep₀ worst₀ evaluations₀ i₀ keep worst evaluations i = Choosing partial s loads periods keep worst evaluations i
 
 abbrev μ-loop : tie.MeasureT-loop
-μ-loop s loads periods count highs lows keep₀ worst₀ evaluations₀ i₀ keep worst evaluations i = count - i
+μ-loop partial s loads periods count highs lows keep₀ worst₀ evaluations₀ i₀ keep worst evaluations i = count - i
 
 columns-of-requires : tie.Need-columns-of-requires Inv-loop μ-loop
 columns-of-requires c κs = c .pre
@@ -28,7 +28,7 @@ factors-of-requires c κs = copied-periods _ _ _ _ (c .before .before .before .b
 loop-holds : tie.Need-loop-holds Inv-loop μ-loop
 loop-holds c =
     let copied = c .before .before .before .before .before .before in
-    choosing-none _ _ _ (copied .before .pre) (copied .columns-of .ensures)
+    choosing-none _ _ _ _ (copied .before .pre) (copied .columns-of .ensures)
 
 mul-own : tie.Need-mul-own Inv-loop μ-loop
 mul-own c = omega arith
@@ -36,27 +36,30 @@ mul-own c = omega arith
 element-copy-out-own : tie.Need-element-copy-out-own Inv-loop μ-loop
 element-copy-out-own c = omega arith
 
-slice-aggregate-least-keep : tie.Need-slice-aggregate-least-keep Inv-loop μ-loop
-slice-aggregate-least-keep c = search needs
+is-spared-requires : tie.Need-is-spared-requires Inv-loop μ-loop
+is-spared-requires c κs = search needs
 
-slice-aggregate-least-keep-2 : tie.Need-slice-aggregate-least-keep-2 Inv-loop μ-loop
-slice-aggregate-least-keep-2 c = search needs
+slice-aggregate-keep-for : tie.Need-slice-aggregate-keep-for Inv-loop μ-loop
+slice-aggregate-keep-for c = search needs
 
-slice-aggregate-least-keep-3 : tie.Need-slice-aggregate-least-keep-3 Inv-loop μ-loop
-slice-aggregate-least-keep-3 c = search needs
+slice-aggregate-keep-for-2 : tie.Need-slice-aggregate-keep-for-2 Inv-loop μ-loop
+slice-aggregate-keep-for-2 c = search needs
 
-slice-aggregate-least-keep-4 : tie.Need-slice-aggregate-least-keep-4 Inv-loop μ-loop
-slice-aggregate-least-keep-4 c = search needs
+slice-aggregate-keep-for-3 : tie.Need-slice-aggregate-keep-for-3 Inv-loop μ-loop
+slice-aggregate-keep-for-3 c = search needs
 
-slice-aggregate-least-keep-5 : tie.Need-slice-aggregate-least-keep-5 Inv-loop μ-loop
-slice-aggregate-least-keep-5 c = search needs
+slice-aggregate-keep-for-4 : tie.Need-slice-aggregate-keep-for-4 Inv-loop μ-loop
+slice-aggregate-keep-for-4 c = search needs
 
-least-keep-requires : tie.Need-least-keep-requires Inv-loop μ-loop
-least-keep-requires c κs =
-    let head = c .before .before .before .before .before .before .before in
+slice-aggregate-keep-for-5 : tie.Need-slice-aggregate-keep-for-5 Inv-loop μ-loop
+slice-aggregate-keep-for-5 c = search needs
+
+keep-for-requires : tie.Need-keep-for-requires Inv-loop μ-loop
+keep-for-requires c κs =
+    let head = c .before .before .before .before .before .before .before .before in
     let f = head .loop .inv in
-    let below = c .before .before .before .before .before .before .loop-test .taken in (
-      choosing-walk _ _ _ _ _ _ _ f below,
+    let below = c .before .before .before .before .before .before .before .loop-test .taken in (
+      choosing-walk _ _ _ _ _ _ _ _ f below,
       factored _ _ _ _ _ (head .before .before .before .factors-of .ensures) (omega (arith, f .valid .few-tasks)) (omega (arith, below)),
     )
 
@@ -68,9 +71,9 @@ enum-told c = search needs
 
 returns : tie.Need-returns Inv-loop μ-loop
 returns c =
-    choosing-unfit _ _ _ _ _ _ _ (c .before .before .before .before .before .before .before .before .before .before .loop .inv)
-    (c .before .before .before .before .before .before .before .before .before .loop-test .taken)
-    (rw (c .enum-told .given .1) at (c .before .before .least-keep .ensures))
+    let spared = c .before .before .before .before .before .before .before .before in
+    choosing-unfit _ _ _ _ _ _ _ _ (spared .before .before .before .loop .inv) (spared .before .before .loop-test .taken) _ (spared .is-spared .ensures)
+    (rw (c .enum-told .given .1) at (c .before .before .keep-for .ensures))
 
 mul-keep : tie.Need-mul-keep Inv-loop μ-loop
 mul-keep c = omega arith
@@ -86,12 +89,13 @@ array-write-worst c = omega arith
 
 add-evaluations : tie.Need-add-evaluations Inv-loop μ-loop
 add-evaluations c =
-    let head = c .before .before .before .before .before .before .before .before .before .before .before in
-    let below = c .before .before .before .before .before .before .before .before .before .before .loop-test .taken in
+    let spared = c .before .before .before .before .before .before .before .before .before in
+    let f = spared .before .before .before .loop .inv in
     omega (
       arith,
-      head .loop .inv .valid .few-tasks,
-      choosing-few _ _ _ _ _ _ _ (head .loop .inv) below _ _ _ _ (rw (c .before .least .given .1) at (c .before .before .before .least-keep .ensures)),
+      f .valid .few-tasks,
+      choosing-few _ _ _ _ _ _ _ _ f (spared .before .before .loop-test .taken) _ _ _ _ _ (spared .is-spared .ensures)
+          (rw (c .before .least .given .1) at (c .before .before .before .keep-for .ensures)),
     )
 
 add-i : tie.Need-add-i Inv-loop μ-loop
@@ -102,12 +106,12 @@ loop-less c = omega arith
 
 loop-again : tie.Need-loop-again Inv-loop μ-loop
 loop-again c =
-    choosing-next _ _ _ _ _ _ _ (c .before .before .before .before .before .before .before .before .before .before .before .loop .inv)
-    (c .before .before .before .before .before .before .before .before .before .before .loop-test .taken) _ _ _ _
-    (rw (c .before .least .given .1) at (c .before .before .before .least-keep .ensures))
+    let spared = c .before .before .before .before .before .before .before .before .before in
+    choosing-next _ _ _ _ _ _ _ _ (spared .before .before .before .loop .inv) (spared .before .before .loop-test .taken) _ _ _ _ _ (spared .is-spared .ensures)
+    (rw (c .before .least .given .1) at (c .before .before .before .keep-for .ensures))
 
 returns-2 : tie.Need-returns-2 Inv-loop μ-loop
-returns-2 c = choosing-all _ _ _ _ _ _ _ (c .before .loop .inv) (c .loop-test .left)
+returns-2 c = choosing-all _ _ _ _ _ _ _ _ (c .before .loop .inv) (c .loop-test .left)
 
 pub choices-of-spec : {M : Type 1} → statement M
 choices-of-spec =
@@ -122,12 +126,13 @@ choices-of-spec =
     loop-holds
     mul-own
     element-copy-out-own
-    slice-aggregate-least-keep
-    slice-aggregate-least-keep-2
-    slice-aggregate-least-keep-3
-    slice-aggregate-least-keep-4
-    slice-aggregate-least-keep-5
-    least-keep-requires
+    is-spared-requires
+    slice-aggregate-keep-for
+    slice-aggregate-keep-for-2
+    slice-aggregate-keep-for-3
+    slice-aggregate-keep-for-4
+    slice-aggregate-keep-for-5
+    keep-for-requires
     enum-known-least
     enum-told
     returns

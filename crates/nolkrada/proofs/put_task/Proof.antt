@@ -1,7 +1,7 @@
--- Four stores, one after the other.
+-- Five stores, one after the other.
 use native.Mathlib.Omega.{arith}
 use lib.ListN.{length-set}
-use Rattle.nolkrada.proofs.FileLaws.{four-set}
+use Rattle.nolkrada.proofs.FileLaws.{five-set}
 use borrow.Author.Needs.{needs}
 use Rattle.nolkrada.proofs.put_task.Statement.{statement}
 use Rattle.nolkrada.proofs.put_task.Tie as tie
@@ -39,11 +39,23 @@ mul-sheet-4 c = search needs
 slice-write-sheet-4 : tie.Need-slice-write-sheet-4
 slice-write-sheet-4 c = simp length-set (omega arith)
 
+mark-number-requires : tie.Need-mark-number-requires
+mark-number-requires c κs = search needs
+
+add-sheet-4 : tie.Need-add-sheet-4
+add-sheet-4 c = search needs
+
+mul-sheet-5 : tie.Need-mul-sheet-5
+mul-sheet-5 c = search needs
+
+slice-write-sheet-5 : tie.Need-slice-write-sheet-5
+slice-write-sheet-5 c = simp length-set (omega arith)
+
 same-length : tie.Need-same-length
 same-length c = search needs
 
 returns : tie.Need-returns
-returns c = four-set (c .args .sheet .now) (c .args .at) _ _ _ _
+returns c = rw (← (c .mark-number .ensures)) (five-set (c .before .before .args .sheet .now) (c .before .before .args .at) _ _ _ _ _)
 
 pub put-task-spec : {M : Type 1} → statement M
 put-task-spec =
@@ -60,5 +72,9 @@ put-task-spec =
     add-sheet-3
     mul-sheet-4
     slice-write-sheet-4
+    mark-number-requires
+    add-sheet-4
+    mul-sheet-5
+    slice-write-sheet-5
     same-length
     returns)

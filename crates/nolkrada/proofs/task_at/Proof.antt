@@ -1,4 +1,4 @@
--- Four numbers make an entry.
+-- Five numbers make an entry.
 use Rattle.nolkrada.specs.Interface.{taskAt}
 use borrow.Author.Needs.{needs}
 use Rattle.nolkrada.proofs.task_at.Statement.{statement}
@@ -37,6 +37,15 @@ add-number-at-3 c = search needs
 number-at-requires-4 : tie.Need-number-at-requires-4
 number-at-requires-4 c κs = search needs
 
+mul-number-at-5 : tie.Need-mul-number-at-5
+mul-number-at-5 c = search needs
+
+add-number-at-4 : tie.Need-add-number-at-4
+add-number-at-4 c = search needs
+
+number-at-requires-5 : tie.Need-number-at-requires-5
+number-at-requires-5 c κs = search needs
+
 returns : tie.Need-returns
 unfolding taskAt
 returns c = cc
@@ -56,4 +65,7 @@ task-at-spec =
     mul-number-at-4
     add-number-at-3
     number-at-requires-4
+    mul-number-at-5
+    add-number-at-4
+    number-at-requires-5
     returns)

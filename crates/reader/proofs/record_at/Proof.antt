@@ -1,7 +1,9 @@
 use mathlib.Core.Path.{refl}
+use mathlib.Core.Bool.{true, false}
 use native.Mathlib.Omega.{arith}
 use Rattle.fileformat.specs.Records.{short, long}
-use Rattle.fileformat.proofs.OffsetLaws.{at-due, at-task-cut, at-task, at-release-cut, at-release, at-charge-cut, at-charge, at-end, at-unknown}
+use Rattle.fileformat.proofs.OffsetLaws.{at-due, at-task-cut, at-task, at-low-task, at-wrong-mark}
+use Rattle.fileformat.proofs.OffsetLaws.{at-release-cut, at-release, at-charge-cut, at-charge, at-end, at-unknown}
 use borrow.Author.Needs.{needs}
 use Rattle.reader.proofs.record_at.Statement.{statement}
 use Rattle.reader.proofs.record_at.Tie as tie
@@ -38,7 +40,7 @@ returns-3 c =
 returns-4 : tie.Need-returns-4
 returns-4 c =
     let s = start (c .before .before .before .before) in
-    at-task-cut (s .args .f .now) (s .args .at) (omega arith) (omega arith) (omega arith)
+    at-task-cut (s .args .f .now) (s .args .at) false (omega arith) (omega arith) (omega arith)
 
 add-task-at : tie.Need-add-task-at
 add-task-at c = search needs
@@ -54,7 +56,8 @@ returns-5 c =
 returns-6 : tie.Need-returns-6
 returns-6 c =
     let s = start (c .before .before .before) in
-    at-unknown (s .args .f .now) (s .args .at) (omega arith) (λ e. omega arith) (λ e. omega arith) (λ e. omega arith) (λ e. omega arith) (λ e. omega arith)
+    at-unknown (s .args .f .now) (s .args .at) (omega arith) (λ e. omega arith) (λ e. omega arith) (λ e. omega arith) (λ e. omega arith)
+    (λ e. omega arith) (λ e. omega arith)
 
 returns-7 : tie.Need-returns-7
 returns-7 c =
@@ -82,11 +85,11 @@ returns-10 c =
     let s = start (c .before .before .before .before .before) in
     at-charge-cut (s .args .f .now) (s .args .at) (omega arith) (omega arith) (omega arith)
 
-add-t20 : tie.Need-add-t20
-add-t20 c = search needs
+add-t21 : tie.Need-add-t21
+add-t21 c = search needs
 
-shared-slice-read-t22 : tie.Need-shared-slice-read-t22
-shared-slice-read-t22 c = search needs
+shared-slice-read-t23 : tie.Need-shared-slice-read-t23
+shared-slice-read-t23 c = search needs
 
 returns-11 : tie.Need-returns-11
 returns-11 c =
@@ -95,8 +98,36 @@ returns-11 c =
 
 returns-12 : tie.Need-returns-12
 returns-12 c =
-    let s = start (c .before .before .before .before) in
-    at-unknown (s .args .f .now) (s .args .at) (omega arith) (λ e. omega arith) (λ e. omega arith) (λ e. omega arith) (λ e. omega arith) (λ e. omega arith)
+    let s = start (c .before .before .before .before .before .before) in
+    at-task-cut (s .args .f .now) (s .args .at) true (omega arith) (omega arith) (omega arith)
+
+add-if14 : tie.Need-add-if14
+add-if14 c = search needs
+
+shared-slice-read-if14 : tie.Need-shared-slice-read-if14
+shared-slice-read-if14 c = search needs
+
+returns-13 : tie.Need-returns-13
+returns-13 c =
+    let s = start (c .before .before .before .before .before .before .before .before) in
+    at-wrong-mark (s .args .f .now) (s .args .at) (omega arith) (omega arith) (omega arith) (λ e. omega arith)
+
+add-task-at-2 : tie.Need-add-task-at-2
+add-task-at-2 c = search needs
+
+task-at-requires-2 : tie.Need-task-at-requires-2
+task-at-requires-2 c κs = search needs
+
+returns-14 : tie.Need-returns-14
+returns-14 c =
+    let s = start (c .before .before .before .before .before .before .before .before .before) in
+    at-low-task (s .args .f .now) (s .args .at) _ (omega arith) (omega arith) (omega arith) (omega arith) (c .task-at2 .ensures)
+
+returns-15 : tie.Need-returns-15
+returns-15 c =
+    let s = start (c .before .before .before .before .before) in
+    at-unknown (s .args .f .now) (s .args .at) (omega arith) (λ e. omega arith) (λ e. omega arith) (λ e. omega arith) (λ e. omega arith)
+    (λ e. omega arith) (λ e. omega arith)
 
 pub record-at-spec : {M : Type 1} → statement M
 record-at-spec =
@@ -120,7 +151,14 @@ record-at-spec =
     job-at-requires-2
     returns-9
     returns-10
-    add-t20
-    shared-slice-read-t22
+    add-t21
+    shared-slice-read-t23
     returns-11
-    returns-12)
+    returns-12
+    add-if14
+    shared-slice-read-if14
+    returns-13
+    add-task-at-2
+    task-at-requires-2
+    returns-14
+    returns-15)

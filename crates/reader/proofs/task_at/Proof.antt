@@ -26,7 +26,7 @@ number-at-requires-4 c κs = search needs
 
 returns : tie.Need-returns
 returns c =
-    task-fields _ _ _ _ _ _ (c .before .before .before .number-at .ensures) (c .before .before .number-at2 .ensures) (c .before .number-at3 .ensures)
+    task-fields _ _ _ _ _ _ _ (c .before .before .before .number-at .ensures) (c .before .before .number-at2 .ensures) (c .before .number-at3 .ensures)
     (c .number-at4 .ensures)
 
 pub task-at-spec : {M : Type 1} → statement M

@@ -13,19 +13,16 @@ put-bytes-requires c κs = omega arith
 put-tasks-requires : tie.Need-put-tasks-requires
 put-tasks-requires c κs = omega arith
 
-slice-aggregate-put-bytes-2 : tie.Need-slice-aggregate-put-bytes-2
-slice-aggregate-put-bytes-2 c = search needs
-
-put-bytes-requires-2 : tie.Need-put-bytes-requires-2
-put-bytes-requires-2 c κs = omega arith
+put-last-requires : tie.Need-put-last-requires
+put-last-requires c κs = omega arith
 
 same-length : tie.Need-same-length
 same-length c = search needs
 
 returns : tie.Need-returns
 returns c =
-    choice-page _ _ _ _ _ _ _ _ _ _ (c .before .before .before .before .before .before .before .before .before .before .before .put-bytes .ensures)
-    (c .before .before .before .before .before .before .before .put-tasks .ensures) (c .before .before .put-bytes2 .ensures)
+    choice-page _ _ _ _ _ _ _ _ _ _ _ (c .before .before .before .before .before .before .before .before .before .before .put-bytes .ensures)
+    (c .before .before .before .before .before .before .put-tasks .ensures) (c .before .before .put-last .ensures)
 
 pub put-choice-spec : {M : Type 1} → statement M
 put-choice-spec =
@@ -34,7 +31,6 @@ put-choice-spec =
     slice-aggregate-put-bytes
     put-bytes-requires
     put-tasks-requires
-    slice-aggregate-put-bytes-2
-    put-bytes-requires-2
+    put-last-requires
     same-length
     returns)

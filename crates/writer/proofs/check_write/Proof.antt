@@ -1,5 +1,5 @@
 -- Each check decides where those before it pass.
-use Prim.Native.Nat.{_+_, _*_, _≤_}
+use Prim.Native.Nat.{_≤_}
 use mathlib.Core.Path.{_≡_, sym, ap, _∙_}
 use mathlib.Core.Option.{some, none}
 use mathlib.Core.List.{List, [], _∷_}
@@ -12,8 +12,9 @@ use Rattle.model.proofs.CheckLaws.{valid-of, count-of, slots-first, slots-rest}
 use Rattle.model.proofs.OrderLaws.{no-single, no-kept, no-unfit, refused-tasks, refused-count, refused-slots, releases-decide}
 use Rattle.taskset.specs.TaskSet.{viewOf, refusalIn}
 use Rattle.releases.proofs.ReleaseLaws.{Columns, columns-of, length-releases}
-use Rattle.fileformat.specs.FileCalls.{chargeBytes, listBytes}
+use Rattle.fileformat.specs.FileCalls.{sheetBytes, listBytes}
 use Rattle.fileformat.proofs.WidthLaws.{list-high}
+use Rattle.fileformat.proofs.TaskSizeLaws.{tasks-bytes-high}
 use Rattle.fileformat.proofs.RoundTrips.{charge-bytes-high}
 use Rattle.writer.proofs.WriteLaws.{rising-of, bytesLent, bytes-short, bytes-long}
 use Rattle.writer.proofs.check_write.Statement.{statement}
@@ -23,7 +24,7 @@ abbrev columnsAt : tie.Start → List Lent
 columnsAt c = lends (c .args .count) (c .args .task .now) ∷ lends (c .args .count) (c .args .tick .now) ∷ lends (c .args .count) (c .args .cost .now) ∷ []
 
 abbrev bytesAt : tie.Start → List Lent
-bytesAt c = bytesLent (c .args .s .charge) (c .args .s .count) (releasesOf (c .args .count) (c .args .task .now) (c .args .tick .now) (c .args .cost .now)) (c .args .room) ∷ []
+bytesAt c = bytesLent (viewOf (c .args .s)) (releasesOf (c .args .count) (c .args .task .now) (c .args .tick .now) (c .args .cost .now)) (c .args .room) ∷ []
 
 -- the checks that passed
 sheet-fine : (c : tie.After-enum-told) → none ≡ checkTasks (viewOf (c .before .before .before .before .before .before .args .s))
@@ -124,11 +125,13 @@ size-small c =
     let a = start (passed c) .args in
     omega (arith, size-is c, list-high (list c), length-releases (a .count) (a .task .now) (a .tick .now) (a .cost .now), few-releases (passed c))
 
-sheet-is : (c : tie.After-list-size) → let s = start (passed c) .args .s in c .before .before .sheet-size .result ≡ chargeBytes (s .charge) + 17 * s .count
+sheet-is : (c : tie.After-list-size) → c .before .before .sheet-size .result ≡ sheetBytes (viewOf (start (passed c) .args .s))
 sheet-is c = c .before .before .sheet-size .ensures
 
-sheet-small : (c : tie.After-list-size) → c .before .before .sheet-size .result ≤ 546
-sheet-small c = let s = start (passed c) .args .s in omega (arith, sheet-is c, charge-bytes-high (s .charge), few-tasks (passed c))
+sheet-small : (c : tie.After-list-size) → c .before .before .sheet-size .result ≤ 578
+sheet-small c =
+    let s = start (passed c) .args .s in
+    omega (arith, sheet-is c, charge-bytes-high (s .charge), tasks-bytes-high (viewOf s) (s .count), few-tasks (passed c))
 
 add-end : tie.Need-add-end
 add-end c = omega (arith, sheet-small c, size-small c)
@@ -142,7 +145,7 @@ returns-4 c =
     let k = passed l in
     let a = start k in
     refused-slots _ _ (sheet-fine (k .before .before .before .before .before .before)) (no-single _) (count-fine (k .before .before .before))
-    (bytes-short (a .args .s .charge) (a .args .s .count) (l .before .before .sheet-size .result) (l .list-size .result) (list l) (a .args .room) (sheet-is l) (size-is l)
+    (bytes-short (viewOf (a .args .s)) (l .before .before .sheet-size .result) (l .list-size .result) (list l) (a .args .room) (sheet-is l) (size-is l)
     (omega arith) ∙ sym (slots-rest (columnsAt a) (bytesAt a) (columns-fine k)))
 
 returns-5 : tie.Need-returns-5
@@ -152,7 +155,7 @@ returns-5 c =
     let a = start k in
     l .before .before .before .check-releases .ensures
     ∙ releases-decide _ (sheet-fine (k .before .before .before .before .before .before)) (no-single _) (count-fine (k .before .before .before))
-    (bytes-long (a .args .s .charge) (a .args .s .count) (l .before .before .sheet-size .result) (l .list-size .result) (list l) (a .args .room) (sheet-is l) (size-is l)
+    (bytes-long (viewOf (a .args .s)) (l .before .before .sheet-size .result) (l .list-size .result) (list l) (a .args .room) (sheet-is l) (size-is l)
     (omega arith) ∙ sym (slots-rest (columnsAt a) (bytesAt a) (columns-fine k)))
     (no-kept _) no-unfit
 

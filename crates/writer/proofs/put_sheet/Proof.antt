@@ -26,17 +26,20 @@ put-tasks-requires c κs =
 same-length : tie.Need-same-length
 same-length c =
     let t = c .before .before in
-    omega (arith, stored-long _ _ _ _ (t .put-tasks .ensures), stored-long _ _ _ _ (charged (t .before) .put-charge .ensures))
+    omega (arith, stored-long _ _ _ _ (t .put-tasks .ensures .0), stored-long _ _ _ _ (charged (t .before) .put-charge .ensures))
 
 returns : tie.Need-returns
 returns c =
     let t = c .before .before in
     let k = charged (t .before) in
     let a = k .before .before .before .args in
-    t .put-tasks .ensures
-    ∙ ap (λ x. stored x (t .before .charge-size .result) (taskPart (tasksIn (a .s)))) (k .put-charge .ensures)
-    ∙ stored-at (a .out .now) (chargePart (a .s .charge)) (taskPart (tasksIn (a .s))) 0 (t .before .charge-size .result)
-    (omega (arith, t .before .charge-size .ensures, length-charge-part (a .s .charge)))
+    let z = t .before .charge-size in (
+      t .put-tasks .ensures .0
+          ∙ ap (λ x. stored x (z .result) (taskPart (tasksIn (a .s)))) (k .put-charge .ensures)
+          ∙ stored-at (a .out .now) (chargePart (a .s .charge)) (taskPart (tasksIn (a .s))) 0 (z .result)
+          (omega (arith, z .ensures, length-charge-part (a .s .charge))),
+      omega (arith, t .put-tasks .ensures .1, z .ensures),
+    )
 
 pub put-sheet-spec : {M : Type 1} → statement M
 put-sheet-spec = tie.close (tie.spec put-charge-requires charge-size-requires put-tasks-requires same-length returns)

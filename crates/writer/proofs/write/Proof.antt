@@ -1,5 +1,5 @@
 -- A write that is not refused has room for the tasks, the releases and the end record, one after the other.
-use Prim.Native.Nat.{_+_, _*_, _≤_, _<_}
+use Prim.Native.Nat.{_+_, _≤_}
 use mathlib.Core.Path.{_≡_, sym, ap, _∙_}
 use mathlib.Core.Option.{none}
 use native.Mathlib.Omega.{arith}
@@ -8,9 +8,10 @@ use lib.ListN.{length, length-set, length-map}
 use Rattle.model.specs.Checks.{refusalOf}
 use Rattle.model.specs.Calls.{releasesOf}
 use Rattle.taskset.specs.TaskSet.{viewOf, refusalIn}
-use Rattle.fileformat.specs.FileCalls.{chargeBytes, listBytes, writeInputs}
+use Rattle.fileformat.specs.FileCalls.{sheetBytes, listBytes, writeInputs}
 use Rattle.releases.proofs.ReleaseLaws.{length-releases}
 use Rattle.fileformat.proofs.WidthLaws.{list-high}
+use Rattle.fileformat.proofs.TaskSizeLaws.{tasks-bytes-high}
 use Rattle.fileformat.proofs.RoundTrips.{charge-bytes-high}
 use Rattle.writer.specs.Writer.{part}
 use Rattle.writer.proofs.StoreLaws.{stored-long}
@@ -44,7 +45,7 @@ told c = tasked c .before .before
 
 -- the short records are written, and the long ones
 abbrev cut : tie.After-put-part-arg → tie.After-short-count
-cut c = c .before .before
+cut c = c .before
 
 abbrev shorts : tie.After-put-part-arg2 → tie.After-put-part
 shorts c = c .before .before .before
@@ -61,19 +62,19 @@ split : (c : tie.After-short-count) → let a = start (told c) .args in listByte
 split c = let a = start (told c) .args in bytes-split (a .task .now) (a .tick .now) (a .cost .now) (c .short-count .result) (a .count) (c .short-count .ensures .within)
 
 -- where the releases begin
-sized : (c : tie.After-put-part-arg) → let s = start (told (cut c)) .args .s in c .before .sheet-size .result ≡ chargeBytes (s .charge) + 17 * s .count
-sized c = c .before .sheet-size .ensures
+sized : (c : tie.After-short-count) → tasked c .put-sheet .result ≡ sheetBytes (viewOf (start (told c) .args .s))
+sized c = tasked c .put-sheet .ensures .1
 
 -- where the file ends
 end-is
-    : (c : tie.After-slice-known4) → let a = start (told (known c)) .args in longs c .put-part2 .result ≡ chargeBytes (a .s .charge) + 17 * a .s .count + listBytes
+    : (c : tie.After-slice-known4) → let a = start (told (known c)) .args in longs c .put-part2 .result ≡ sheetBytes (viewOf (a .s)) + listBytes
     (releasesOf (a .count) (a .task .now) (a .tick .now) (a .cost .now))
 end-is c =
-    omega (arith, longs c .put-part2 .ensures .1, shorts (longs c .before) .put-part .ensures .1, sized (shorts (longs c .before) .before), split (known c))
+    omega (arith, longs c .put-part2 .ensures .1, shorts (longs c .before) .put-part .ensures .1, sized (known c), split (known c))
 
 -- the lent bytes are as many as before
 long-one : (c : tie.After-put-part-arg2) → length (shorts c .put-part .last .0) ≡ length (start (told (cut (shorts c .before))) .args .out .now)
-long-one c = stored-long _ _ _ _ (shorts c .put-part .ensures .0) ∙ stored-long _ _ _ _ (tasked (cut (shorts c .before)) .put-sheet .ensures)
+long-one c = stored-long _ _ _ _ (shorts c .put-part .ensures .0) ∙ stored-long _ _ _ _ (tasked (cut (shorts c .before)) .put-sheet .ensures .0)
 
 long : (c : tie.After-slice-known4) → length (longs c .put-part2 .last .0) ≡ length (start (told (known c)) .args .out .now)
 long c = stored-long _ _ _ _ (longs c .put-part2 .ensures .0) ∙ long-one (longs c .before)
@@ -97,15 +98,12 @@ put-sheet-requires c κs = (fits (c .before) .few-tasks, omega (arith, fits (c .
 short-count-requires : tie.Need-short-count-requires
 short-count-requires c κs = fits (c .before .before .before .before) .columns .tick-long
 
-sheet-size-requires : tie.Need-sheet-size-requires
-sheet-size-requires c κs = fits (told c) .few-tasks
-
 put-part-requires : tie.Need-put-part-requires
 put-part-requires c κs =
     let k = cut c in
     let f = fits (told k) in
     let w = k .short-count .ensures .within in (
-      omega (arith, f .bytes, split k, sized c, stored-long _ _ _ _ (tasked k .put-sheet .ensures)),
+      omega (arith, f .bytes, split k, sized k, stored-long _ _ _ _ (tasked k .put-sheet .ensures .0)),
       omega arith,
       omega (arith, w, f .columns .task-long),
       omega (arith, w, f .columns .tick-long),
@@ -117,7 +115,7 @@ put-part-requires-2 : tie.Need-put-part-requires-2
 put-part-requires-2 c κs =
     let k = cut (shorts c .before) in
     let f = fits (told k) in (
-      omega (arith, f .bytes, split k, shorts c .put-part .ensures .1, sized (shorts c .before), long-one c),
+      omega (arith, f .bytes, split k, shorts c .put-part .ensures .1, sized k, long-one c),
       k .short-count .ensures .within,
       f .columns .task-long,
       f .columns .tick-long,
@@ -133,7 +131,16 @@ add-t14 c =
     let f = fits (told (known c)) in
     let a = start (told (known c)) .args in
     let l = releasesOf (a .count) (a .task .now) (a .tick .now) (a .cost .now) in
-    omega (arith, end-is c, charge-bytes-high (a .s .charge), f .few-tasks, f .few-releases, list-high l, length-releases (a .count) (a .task .now) (a .tick .now) (a .cost .now))
+    omega (
+      arith,
+      end-is c,
+      charge-bytes-high (a .s .charge),
+      tasks-bytes-high (viewOf (a .s)) (a .s .count),
+      f .few-tasks,
+      f .few-releases,
+      list-high l,
+      length-releases (a .count) (a .task .now) (a .tick .now) (a .cost .now),
+    )
 
 same-length : tie.Need-same-length
 same-length c = omega (arith, length-set (longs c .put-part2 .last .0) (longs c .put-part2 .result) 3, long c)
@@ -143,9 +150,9 @@ returns-2 c =
     let k = known c in
     let t = told k in
     let p = shorts (longs c .before) .put-part .ensures in
-    write-done _ _ _ _ _ _ (in-array t) _ _ _ _ (accepted t) (tasked k .put-sheet .ensures)
+    write-done _ _ _ _ _ _ (in-array t) _ _ _ _ (accepted t) (tasked k .put-sheet .ensures .0)
     (stored-both _ _ _ _ _ _ _ _ _ _ (k .short-count .ensures .within) (p .0) (p .1) (longs c .put-part2 .ensures .0))
-    (sized (shorts (longs c .before) .before)) (end-is c) (fits t .bytes)
+    (sized k) (end-is c) (fits t .bytes)
 
 pub write-spec : {M : Type 1} → statement M
 write-spec =
@@ -157,7 +164,6 @@ write-spec =
     enum-told
     put-sheet-requires
     short-count-requires
-    sheet-size-requires
     put-part-requires
     put-part-requires-2
     slice-write-out
