@@ -15,9 +15,9 @@ mod same_method;
 mod sheets;
 mod timing;
 
-use generator::{legal_list_for, list_for, numbers_of, Random, SHEET_NUMBERS};
+use generator::{frame_numbers_of, legal_list_for, list_for, numbers_of, Random, SHEET_NUMBERS};
 use reference::{Budget, Release, Sheet, Task, MAX_SHORT_TICK, MAX_TICK};
-use sheets::{charged, full_sheet, high_only_sheet, light_sheet, long_walk, longest, short_periods, CHARGE, LONGEST};
+use sheets::{charged, full_sheet, high_only_sheet, light_sheet, long_walk, longest, seventy_sheet, short_periods, three_of_four, CHARGE, LONGEST};
 use std::hint::black_box;
 use std::ops::Range;
 use timing::medians;
@@ -129,7 +129,7 @@ impl Searches {
     }
     fn choice(&mut self, name: &str, sheet: &Sheet) {
         let (mut kept, mut worst) = ([0u32; 32], [0u32; 32]);
-        let counted = same_method::choice(&sheet.tasks, sheet.charge, &mut kept, &mut worst).ok();
+        let counted = same_method::choice(&sheet.tasks, sheet.charge, None, &mut kept, &mut worst).ok();
         let times = time_choice(sheet);
         let (evaluations, over) = evaluations_of(sheet, &kept, 0..sheet.count);
         assert_eq!(counted, Some((false, evaluations)));
@@ -153,7 +153,7 @@ impl Searches {
 /// A choice of the high tasks alone. The evaluations of the ordinary one before it are told by no verdict, so that it has no row among those.
 fn high_only_line(name: &str, sheet: &Sheet) {
     let (mut kept, mut worst) = ([0u32; 32], [0u32; 32]);
-    let (high_only, evaluations) = same_method::choice(&sheet.tasks, sheet.charge, &mut kept, &mut worst).ok().unwrap();
+    let (high_only, evaluations) = same_method::choice(&sheet.tasks, sheet.charge, None, &mut kept, &mut worst).ok().unwrap();
     let judged = (0..sheet.count).filter(|&i| !sheet.task(i).low);
     let counted = judged.map(|i| evaluations_of(sheet, &kept, i..i + 1).0).sum::<u64>();
     assert_eq!((high_only, evaluations), (true, counted));
@@ -165,26 +165,26 @@ fn evaluations_of(sheet: &Sheet, kept: &[u32], tasks: Range<usize>) -> (u64, u64
     let numbers = numbers_of(sheet);
     tasks.fold((0, 0), |(evaluations, over), i| {
         let mut answer = [0u64; 4];
-        assert_eq!(library::verdict(&numbers, sheet.count as u32, sheet.charge, i as u32, kept, &mut answer), 0);
+        assert_eq!(library::verdict(&numbers, sheet.count as u32, sheet.charge, &[], i as u32, kept, &mut answer), 0);
         (evaluations + answer[3], over + answer[3] * i as u64)
     })
 }
 
 /// Archive, same method and reference, in microseconds.
 fn time_verdict(sheet: &Sheet, kept: &[u32], task: usize) -> Vec<f64> {
-    let numbers = numbers_of(sheet);
+    let (numbers, row, frame) = (numbers_of(sheet), frame_numbers_of(&sheet.frame), sheet.frame.as_ref());
     let count = sheet.count as u32;
     let mut answer = [0u64; 4];
-    assert_eq!(library::verdict(&numbers, count, sheet.charge, task as u32, kept, &mut answer), 0);
-    assert_eq!(same_method::verdict(&sheet.tasks, sheet.charge, task, kept).unwrap(), answer);
+    assert_eq!(library::verdict(&numbers, count, sheet.charge, &row, task as u32, kept, &mut answer), 0);
+    assert_eq!(same_method::verdict(&sheet.tasks, sheet.charge, frame, task, kept).unwrap(), answer);
     medians(&mut [
         &mut || {
             let mut a = [0u64; 4];
-            black_box(library::verdict(black_box(&numbers), count, sheet.charge, task as u32, black_box(kept), &mut a));
+            black_box(library::verdict(black_box(&numbers), count, sheet.charge, black_box(&row), task as u32, black_box(kept), &mut a));
             black_box(a);
         },
         &mut || {
-            black_box(same_method::verdict(black_box(&sheet.tasks), sheet.charge, task, black_box(kept)).is_ok());
+            black_box(same_method::verdict(black_box(&sheet.tasks), sheet.charge, black_box(frame), task, black_box(kept)).is_ok());
         },
         &mut || {
             black_box(reference::verdict(black_box(sheet), task, black_box(kept), &mut Budget::of(u64::MAX)).is_ok());
@@ -193,21 +193,22 @@ fn time_verdict(sheet: &Sheet, kept: &[u32], task: usize) -> Vec<f64> {
 }
 
 fn time_choice(sheet: &Sheet) -> Vec<f64> {
-    let numbers = numbers_of(sheet);
+    let (numbers, row, frame) = (numbers_of(sheet), frame_numbers_of(&sheet.frame), sheet.frame.as_ref());
     let count = sheet.count as u32;
     let (mut k, mut w) = ([0u32; 32], [0u32; 32]);
     let (mut k2, mut w2) = ([0u32; 32], [0u32; 32]);
     let mut answer = [0u64; 1];
-    assert_eq!(library::choice(&numbers, count, sheet.charge, &mut k, &mut w, &mut answer), 0);
-    let (high_only, _) = same_method::choice(&sheet.tasks, sheet.charge, &mut k2, &mut w2).ok().unwrap();
+    assert_eq!(library::choice(&numbers, count, sheet.charge, &row, &mut k, &mut w, &mut answer), 0);
+    let (high_only, _) = same_method::choice(&sheet.tasks, sheet.charge, frame, &mut k2, &mut w2).ok().unwrap();
     assert_eq!((k, w, answer[0]), (k2, w2, high_only as u64));
     medians(&mut [
         &mut || {
             let lent = (black_box(&mut k), black_box(&mut w), black_box(&mut answer));
-            black_box(library::choice(black_box(&numbers), count, sheet.charge, lent.0, lent.1, lent.2));
+            black_box(library::choice(black_box(&numbers), count, sheet.charge, black_box(&row), lent.0, lent.1, lent.2));
         },
         &mut || {
-            black_box(same_method::choice(black_box(&sheet.tasks), sheet.charge, black_box(&mut k2), black_box(&mut w2)).is_ok());
+            let lent = (black_box(&mut k2), black_box(&mut w2));
+            black_box(same_method::choice(black_box(&sheet.tasks), sheet.charge, black_box(frame), lent.0, lent.1).is_ok());
         },
         &mut || {
             black_box(reference::choice(black_box(sheet), 32, 32, &mut Budget::of(u64::MAX)).is_ok());
@@ -255,19 +256,19 @@ fn time_ready(l: &List) -> Vec<f64> {
 }
 
 fn time_run(l: &List) -> Vec<f64> {
-    let numbers = numbers_of(&l.sheet);
+    let (numbers, row, frame) = (numbers_of(&l.sheet), frame_numbers_of(&l.sheet.frame), l.sheet.frame.as_ref());
     let (mut a, mut b, mut c, mut d) = (vec![0u64; 1024], vec![0u64; 1024], vec![0u64; 1024], vec![0u64; 1024]);
-    assert_eq!(library::run(&numbers, 32, l.sheet.charge, &l.kept, l.n(), l.library(), &mut a, &mut b), 0);
-    assert!(same_method::run(&l.sheet.tasks, l.sheet.charge, &l.kept, l.n() as usize, l.same(), &mut c, &mut d).is_ok());
+    assert_eq!(library::run(&numbers, 32, l.sheet.charge, &row, &l.kept, l.n(), l.library(), &mut a, &mut b), 0);
+    assert!(same_method::run(&l.sheet.tasks, l.sheet.charge, frame, &l.kept, l.n() as usize, l.same(), &mut c, &mut d).is_ok());
     assert_eq!((&a, &b), (&c, &d));
     medians(&mut [
         &mut || {
             let lent = (black_box(&mut a), black_box(&mut b));
-            black_box(library::run(black_box(&numbers), 32, l.sheet.charge, &l.kept, l.n(), l.library(), lent.0, lent.1));
+            black_box(library::run(black_box(&numbers), 32, l.sheet.charge, black_box(&row), &l.kept, l.n(), l.library(), lent.0, lent.1));
         },
         &mut || {
             let (n, lent) = (l.n() as usize, (black_box(&mut c), black_box(&mut d)));
-            black_box(same_method::run(black_box(&l.sheet.tasks), l.sheet.charge, &l.kept, n, l.same(), lent.0, lent.1).is_ok());
+            black_box(same_method::run(black_box(&l.sheet.tasks), l.sheet.charge, frame, &l.kept, n, l.same(), lent.0, lent.1).is_ok());
         },
         &mut || {
             black_box(reference::run(black_box(&l.sheet), &l.kept, l.n() as usize, &l.reference(), 1024, 1024).is_ok());
@@ -276,20 +277,20 @@ fn time_run(l: &List) -> Vec<f64> {
 }
 
 fn time_jump(l: &List) -> Vec<f64> {
-    let numbers = numbers_of(&l.sheet);
+    let (numbers, row, frame) = (numbers_of(&l.sheet), frame_numbers_of(&l.sheet.frame), l.sheet.frame.as_ref());
     let (mut a, mut b, mut c, mut d) = (vec![0u64; 1024], vec![0u64; 1024], vec![0u64; 1024], vec![0u64; 1024]);
     let mut answer = [0u64; 1];
-    assert_eq!(library::jump(&numbers, 32, l.sheet.charge, &l.kept, l.n(), l.library(), &mut a, &mut b, &mut answer), 0);
-    assert_eq!(same_method::jump(&l.sheet.tasks, l.sheet.charge, &l.kept, l.n() as usize, l.same(), &mut c, &mut d).unwrap(), answer[0]);
+    assert_eq!(library::jump(&numbers, 32, l.sheet.charge, &row, &l.kept, l.n(), l.library(), &mut a, &mut b, &mut answer), 0);
+    assert_eq!(same_method::jump(&l.sheet.tasks, l.sheet.charge, frame, &l.kept, l.n() as usize, l.same(), &mut c, &mut d).unwrap(), answer[0]);
     assert_eq!((&a, &b), (&c, &d));
     medians(&mut [
         &mut || {
             let lent = (black_box(&mut a), black_box(&mut b), black_box(&mut answer));
-            black_box(library::jump(black_box(&numbers), 32, l.sheet.charge, &l.kept, l.n(), l.library(), lent.0, lent.1, lent.2));
+            black_box(library::jump(black_box(&numbers), 32, l.sheet.charge, black_box(&row), &l.kept, l.n(), l.library(), lent.0, lent.1, lent.2));
         },
         &mut || {
             let (n, lent) = (l.n() as usize, (black_box(&mut c), black_box(&mut d)));
-            black_box(same_method::jump(black_box(&l.sheet.tasks), l.sheet.charge, &l.kept, n, l.same(), lent.0, lent.1).is_ok());
+            black_box(same_method::jump(black_box(&l.sheet.tasks), l.sheet.charge, frame, &l.kept, n, l.same(), lent.0, lent.1).is_ok());
         },
         &mut || {
             black_box(reference::jump(black_box(&l.sheet), &l.kept, l.n() as usize, &l.reference(), 1024, 1024).is_ok());
@@ -379,6 +380,33 @@ fn line(name: &str, t: &[f64]) {
 fn head(first: &str) {
     println!("\n| {} | archive, µs | same method in Rust, µs | reference, µs | archive ÷ same | archive ÷ reference |", first);
     println!("|---|---|---|---|---|---|");
+}
+
+/// Verdicts, choices and runs with a frame of three of every four ticks, of one window and of 16, of a few ticks and of the most; and the same
+/// without a frame.
+fn with_frames() {
+    head("Frame");
+    let sheet = seventy_sheet();
+    let kept: Vec<u32> = sheet.tasks.iter().map(|t| t.j / 4).collect();
+    // half of each cost, since a part of the ticks is not ours
+    let list = |framed: &dyn Fn(Sheet) -> Sheet| {
+        let list = list_of(1024);
+        List { cost: list.cost.iter().map(|c| c.div_ceil(2)).collect(), sheet: framed(list.sheet.clone()), ..list }
+    };
+    line("verdict of task 31 of 32, no frame", &time_verdict(&sheet, &kept, 31));
+    line("choice of 32 tasks, no frame", &time_choice(&sheet));
+    line("run of 1,024 releases, no frame", &time_run(&list(&|s| s)));
+    line("jumping run of 1,024 releases, no frame", &time_jump(&list(&|s| s)));
+    for (ticks, windows) in [(1_000, 1), (1_000, 16), (10_000, 1), (10_000, 16)] {
+        let framed = |s: Sheet| s.framed(Some(three_of_four(ticks, windows)));
+        let what = format!("{windows} {} in {ticks} ticks", if windows == 1 { "window" } else { "windows" });
+        line(&format!("verdict of task 31 of 32, {what}"), &time_verdict(&framed(sheet.clone()), &kept, 31));
+        line(&format!("choice of 32 tasks, {what}"), &time_choice(&framed(sheet.clone())));
+        line(&format!("run of 1,024 releases, {what}"), &time_run(&list(&framed)));
+        line(&format!("jumping run of 1,024 releases, {what}"), &time_jump(&list(&framed)));
+    }
+    let two = |l: List| List { sheet: l.sheet.framed(Some(three_of_four(10_000, 16))), ..l };
+    line("jumping run of two releases, at 0 and 1,000,000,000,000,000", &time_jump(&two(two_releases(MAX_TICK))));
 }
 
 /// The calls at full size.
@@ -476,11 +504,17 @@ fn longest_verdicts(searches: &mut Searches) {
     }
 }
 
-/// Without an argument all tables; with `full` the first alone. Then the evaluations of the verdicts and choices timed.
+/// Without an argument all tables; with `full` the first and that of frames alone, with `frames` that of frames alone. Then the evaluations
+/// of the verdicts and choices timed without a frame.
 fn main() {
     let searches = &mut Searches::default();
+    let which = std::env::args().nth(1);
+    if which.as_deref() == Some("frames") {
+        return with_frames();
+    }
     full_size(searches);
-    if std::env::args().nth(1).as_deref() != Some("full") {
+    with_frames();
+    if which.as_deref() != Some("full") {
         growth(searches);
         longest_verdicts(searches);
     }

@@ -1,7 +1,8 @@
-//! Times verdict, choice, read and write of this archive and of an earlier one, whose functions were renamed, in one run. Each has its own
-//! declarations and its own rows of a sheet. Both must give the same, but for what only this one has: the marks, all of which are high, which
-//! of the two choices it is, and the evaluations of a verdict where the earlier one has none.
-//! With `four_numbers` the earlier one is of before R-9: a task has four numbers in a row, and a choice no answer.
+//! Times verdict, choice, both runs, read and write of this archive and of an earlier one, whose functions were renamed, in one run. Each has
+//! its own declarations and its own rows of a sheet. Both must give the same, but for what only this one has: the marks, all of which are
+//! high, which of the two choices it is, and the evaluations of a verdict where the earlier one has none. No call has a frame.
+//! With `four_numbers` the earlier one is of before R-9: a task has four numbers in a row, and a choice no answer. With `frameless` it is of
+//! before R-10: no call takes a frame.
 
 #[path = "../tests/outside/generator.rs"]
 #[allow(dead_code)]
@@ -21,9 +22,8 @@ use timing::medians;
 
 /// The calls of an archive that take the same in each: those of this one are declared in include/nolkrada.h.
 macro_rules! archive {
-    ($verdict:ident, $read:ident, $write:ident) => {
+    ($read:ident, $write:ident) => {
         extern "C" {
-            fn $verdict(_: *const u32, _: usize, _: u32, _: u8, _: u32, _: *const u32, _: usize, _: *mut u64, _: usize) -> u64;
             fn $read(
                 _: *const u8, _: usize, _: *mut u32, _: usize, _: *mut u32, _: usize, _: *mut u64, _: usize, _: *mut u32, _: usize,
                 _: *mut u64, _: usize,
@@ -36,18 +36,53 @@ macro_rules! archive {
     };
 }
 
-archive!(nolkrada_verdict, nolkrada_read, nolkrada_write);
-archive!(earlier_verdict, earlier_read, earlier_write);
+archive!(nolkrada_read, nolkrada_write);
+archive!(earlier_read, earlier_write);
 
+/// The calls that take a frame from R-10 on: an array and its length after the charge.
+macro_rules! framed {
+    ($verdict:ident, $choice:ident, $run:ident, $jump:ident) => {
+        extern "C" {
+            fn $verdict(
+                _: *const u32, _: usize, _: u32, _: u8, _: *const u32, _: usize, _: u32, _: *const u32, _: usize, _: *mut u64, _: usize,
+            ) -> u64;
+            fn $choice(
+                _: *const u32, _: usize, _: u32, _: u8, _: *const u32, _: usize, _: *mut u32, _: usize, _: *mut u32, _: usize,
+                _: *mut u64, _: usize,
+            ) -> u64;
+            fn $run(
+                _: *const u32, _: usize, _: u32, _: u8, _: *const u32, _: usize, _: *const u32, _: usize, _: u32, _: *const u32,
+                _: usize, _: *const u64, _: usize, _: *const u32, _: usize, _: *mut u64, _: usize, _: *mut u64, _: usize,
+            ) -> u64;
+            fn $jump(
+                _: *const u32, _: usize, _: u32, _: u8, _: *const u32, _: usize, _: *const u32, _: usize, _: u32, _: *const u32,
+                _: usize, _: *const u64, _: usize, _: *const u32, _: usize, _: *mut u64, _: usize, _: *mut u64, _: usize, _: *mut u64,
+                _: usize,
+            ) -> u64;
+        }
+    };
+}
+
+framed!(nolkrada_verdict, nolkrada_choice, nolkrada_run, nolkrada_jump);
+#[cfg(not(frameless))]
+framed!(earlier_verdict, earlier_choice, earlier_run, earlier_jump);
+
+#[cfg(frameless)]
 extern "C" {
-    fn nolkrada_choice(
-        _: *const u32, _: usize, _: u32, _: u8, _: *mut u32, _: usize, _: *mut u32, _: usize, _: *mut u64, _: usize,
-    ) -> u64;
+    fn earlier_verdict(_: *const u32, _: usize, _: u32, _: u8, _: u32, _: *const u32, _: usize, _: *mut u64, _: usize) -> u64;
     #[cfg(four_numbers)]
     fn earlier_choice(_: *const u32, _: usize, _: u32, _: u8, _: *mut u32, _: usize, _: *mut u32, _: usize) -> u64;
     #[cfg(not(four_numbers))]
     fn earlier_choice(
         _: *const u32, _: usize, _: u32, _: u8, _: *mut u32, _: usize, _: *mut u32, _: usize, _: *mut u64, _: usize,
+    ) -> u64;
+    fn earlier_run(
+        _: *const u32, _: usize, _: u32, _: u8, _: *const u32, _: usize, _: u32, _: *const u32, _: usize, _: *const u64, _: usize,
+        _: *const u32, _: usize, _: *mut u64, _: usize, _: *mut u64, _: usize,
+    ) -> u64;
+    fn earlier_jump(
+        _: *const u32, _: usize, _: u32, _: u8, _: *const u32, _: usize, _: u32, _: *const u32, _: usize, _: *const u64, _: usize,
+        _: *const u32, _: usize, _: *mut u64, _: usize, _: *mut u64, _: usize, _: *mut u64, _: usize,
     ) -> u64;
 }
 
@@ -81,10 +116,14 @@ impl Archive {
     fn verdict(self, numbers: &[u32], sheet: &Sheet, task: u32, kept: &[u32]) -> (u64, [u64; WORDS]) {
         let mut a = [LEFT; WORDS];
         let (rows, length, count, charge) = (numbers.as_ptr(), numbers.len(), sheet.count as u32, sheet.charge);
+        let (keep, keeps, words) = (kept.as_ptr(), kept.len(), a.as_mut_ptr());
         let code = unsafe {
             match self {
-                Earlier => earlier_verdict(rows, length, count, charge, task, kept.as_ptr(), kept.len(), a.as_mut_ptr(), WORDS),
-                Now => nolkrada_verdict(rows, length, count, charge, task, kept.as_ptr(), kept.len(), a.as_mut_ptr(), WORDS),
+                #[cfg(frameless)]
+                Earlier => earlier_verdict(rows, length, count, charge, task, keep, keeps, words, WORDS),
+                #[cfg(not(frameless))]
+                Earlier => earlier_verdict(rows, length, count, charge, rows, 0, task, keep, keeps, words, WORDS),
+                Now => nolkrada_verdict(rows, length, count, charge, rows, 0, task, keep, keeps, words, WORDS),
             }
         };
         (code, a)
@@ -95,17 +134,63 @@ impl Archive {
         let (mut k, mut w) = ([0u32; 32], [0u32; 32]);
         let (rows, length, count, charge) = (numbers.as_ptr(), numbers.len(), sheet.count as u32, sheet.charge);
         let mut which = [0u64; 1];
+        let (keep, worst, words) = (k.as_mut_ptr(), w.as_mut_ptr(), which.as_mut_ptr());
         let code = unsafe {
             match self {
                 #[cfg(four_numbers)]
-                Earlier => earlier_choice(rows, length, count, charge, k.as_mut_ptr(), 32, w.as_mut_ptr(), 32),
-                #[cfg(not(four_numbers))]
-                Earlier => earlier_choice(rows, length, count, charge, k.as_mut_ptr(), 32, w.as_mut_ptr(), 32, which.as_mut_ptr(), 1),
-                Now => nolkrada_choice(rows, length, count, charge, k.as_mut_ptr(), 32, w.as_mut_ptr(), 32, which.as_mut_ptr(), 1),
+                Earlier => earlier_choice(rows, length, count, charge, keep, 32, worst, 32),
+                #[cfg(all(frameless, not(four_numbers)))]
+                Earlier => earlier_choice(rows, length, count, charge, keep, 32, worst, 32, words, 1),
+                #[cfg(not(frameless))]
+                Earlier => earlier_choice(rows, length, count, charge, rows, 0, keep, 32, worst, 32, words, 1),
+                Now => nolkrada_choice(rows, length, count, charge, rows, 0, keep, 32, worst, 32, words, 1),
             }
         };
         assert_eq!(which, [0]);
         (code, k, w)
+    }
+
+    /// Code of the ticking run, from these columns with nothing kept, into the ticks of another.
+    fn run(self, numbers: &[u32], sheet: &Sheet, from: &Columns, to: &mut Columns) -> u64 {
+        let (rows, length, count, charge, n) = (numbers.as_ptr(), numbers.len(), sheet.count as u32, sheet.charge, from.n as u32);
+        let (keep, task, tick, cost) = (NONE.as_ptr(), from.task.as_ptr(), from.tick.as_ptr(), from.cost.as_ptr());
+        let (ready, finish) = (to.ready.as_mut_ptr(), to.tick.as_mut_ptr());
+        unsafe {
+            match self {
+                #[cfg(frameless)]
+                Earlier => earlier_run(rows, length, count, charge, keep, 32, n, task, 1024, tick, 1024, cost, 1024, ready, 1024, finish, 1024),
+                #[cfg(not(frameless))]
+                Earlier => {
+                    earlier_run(rows, length, count, charge, rows, 0, keep, 32, n, task, 1024, tick, 1024, cost, 1024, ready, 1024, finish, 1024)
+                }
+                Now => nolkrada_run(rows, length, count, charge, rows, 0, keep, 32, n, task, 1024, tick, 1024, cost, 1024, ready, 1024, finish, 1024),
+            }
+        }
+    }
+
+    /// Code and stops of the run that jumps, in the same way.
+    fn jump(self, numbers: &[u32], sheet: &Sheet, from: &Columns, to: &mut Columns) -> (u64, u64) {
+        let (rows, length, count, charge, n) = (numbers.as_ptr(), numbers.len(), sheet.count as u32, sheet.charge, from.n as u32);
+        let (keep, task, tick, cost) = (NONE.as_ptr(), from.task.as_ptr(), from.tick.as_ptr(), from.cost.as_ptr());
+        let (ready, finish) = (to.ready.as_mut_ptr(), to.tick.as_mut_ptr());
+        let mut stops = [0u64; 1];
+        let s = stops.as_mut_ptr();
+        let code = unsafe {
+            match self {
+                #[cfg(frameless)]
+                Earlier => {
+                    earlier_jump(rows, length, count, charge, keep, 32, n, task, 1024, tick, 1024, cost, 1024, ready, 1024, finish, 1024, s, 1)
+                }
+                #[cfg(not(frameless))]
+                Earlier => earlier_jump(
+                    rows, length, count, charge, rows, 0, keep, 32, n, task, 1024, tick, 1024, cost, 1024, ready, 1024, finish, 1024, s, 1,
+                ),
+                Now => nolkrada_jump(
+                    rows, length, count, charge, rows, 0, keep, 32, n, task, 1024, tick, 1024, cost, 1024, ready, 1024, finish, 1024, s, 1,
+                ),
+            }
+        };
+        (code, stops[0])
     }
 
     /// Code, counts and charge, into these columns.
@@ -142,7 +227,10 @@ impl Archive {
     }
 }
 
-/// What a read fills and a write takes: a sheet, and n releases.
+/// Nothing is kept in the runs.
+static NONE: [u32; 32] = [0; 32];
+
+/// What a read fills and a write takes: a sheet, and n releases. A run fills ready ticks, and finish ticks in place of the ticks.
 #[derive(Clone, PartialEq, Debug)]
 struct Columns {
     sheet: Vec<u32>,
@@ -150,11 +238,13 @@ struct Columns {
     task: Vec<u32>,
     tick: Vec<u64>,
     cost: Vec<u32>,
+    ready: Vec<u64>,
 }
 
 impl Columns {
     fn of(list: &[Release]) -> Columns {
-        let mut all = Columns { sheet: vec![0; SHEET_NUMBERS], n: list.len(), task: vec![0; 1024], tick: vec![0; 1024], cost: vec![0; 1024] };
+        let (sheet, task, tick, cost, ready) = (vec![0; SHEET_NUMBERS], vec![0; 1024], vec![0; 1024], vec![0; 1024], vec![0; 1024]);
+        let mut all = Columns { sheet, n: list.len(), task, tick, cost, ready };
         for (p, x) in list.iter().enumerate() {
             (all.task[p], all.tick[p], all.cost[p]) = (x.task, x.tick, x.cost);
         }
@@ -184,6 +274,28 @@ fn compare_choice(name: &str, sheet: &Sheet) {
     let after = || Now.choice(black_box(&new), sheet);
     assert_eq!(before(), after());
     line(name, &medians(&mut [&mut || { black_box(before()); }, &mut || { black_box(after()); }]));
+}
+
+/// The run that jumps, and the ticking one where so stated.
+fn compare_runs(name: &str, sheet: &Sheet, list: &[Release], ticking: bool) {
+    let (old, new, from) = (Earlier.numbers(sheet), Now.numbers(sheet), Columns::of(list));
+    let (mut a, mut b) = (Columns::of(&[]), Columns::of(&[]));
+    assert_eq!(Earlier.jump(&old, sheet, &from, &mut a), Now.jump(&new, sheet, &from, &mut b));
+    assert_eq!(a, b);
+    if ticking {
+        assert_eq!((Earlier.run(&old, sheet, &from, &mut a), Now.run(&new, sheet, &from, &mut b)), (0, 0));
+        assert_eq!(a, b);
+        let times = medians(&mut [
+            &mut || { black_box(Earlier.run(black_box(&old), sheet, &from, &mut a)); },
+            &mut || { black_box(Now.run(black_box(&new), sheet, &from, &mut b)); },
+        ]);
+        line(&format!("run of {name}"), &times);
+    }
+    let times = medians(&mut [
+        &mut || { black_box(Earlier.jump(black_box(&old), sheet, &from, &mut a)); },
+        &mut || { black_box(Now.jump(black_box(&new), sheet, &from, &mut b)); },
+    ]);
+    line(&format!("jumping run of {name}"), &times);
 }
 
 /// A read and a write of a file of high tasks.
@@ -250,6 +362,13 @@ fn main() {
         compare_verdict(&format!("verdict of the lowest of {}", n), &sheet, &quarter(&sheet), n - 1);
         compare_choice(&format!("choice of {}", n), &sheet);
     }
+    let (sheet, list) = file_of(1024, 0);
+    compare_runs("1,024 releases", &sheet, &list, true);
+    compare_runs("64 releases", &sheet, &list[..64], true);
+    let two = [list[0], Release { tick: MAX_TICK, ..list[1] }];
+    compare_runs("two releases, the second at the last tick", &sheet, &two, false);
+    let late = [Release { tick: 100_000_000, ..list[0] }];
+    compare_runs("one release at tick 100,000,000", &sheet, &late, true);
     for (name, n, first) in [("32 tasks", 0, 0), ("10,785 bytes", 1024, 0), ("14,881 bytes", 1024, MAX_TICK - 100_000)] {
         let (sheet, list) = file_of(n, first);
         compare_file(name, &sheet, &list);

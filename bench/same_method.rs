@@ -1,10 +1,11 @@
 //! The calls in plain Rust with the methods of the library: the search for W(q) by the list of R-8, one walk over q for the choice, which
 //! is made anew for the high tasks alone where it does not succeed, a shaper of two numbers for each task, a run tick by tick with one
 //! queue for each task, a run from one start or finish to the next, a reader in two passes, a writer in one, a loader that looks once at
-//! each byte.
+//! each byte. With a frame the search goes on from where our ticks reach the demand just found, at the starts where a gap begins, and a job's
+//! end is reckoned by counting windows.
 //! Each makes the checks of its call. Used as the measure of the archive's speed.
 
-use crate::reference::{Refusal, Task, HORIZON, MAX_RELEASES, MAX_SHORT_TICK, MAX_TASKS, MAX_TICK, MAX_TIME};
+use crate::reference::{Frame, Refusal, Task, HORIZON, MAX_FRAME, MAX_RELEASES, MAX_SHORT_TICK, MAX_TASKS, MAX_TICK, MAX_TIME, MAX_WINDOWS};
 
 type Checked = Result<(), Refusal>;
 
@@ -40,6 +41,28 @@ fn check_sheet(tasks: &[Task], charge: u8) -> Checked {
         if let Some(number) = task_fault(t, charge) {
             return refuse(number, i);
         }
+    }
+    Ok(())
+}
+
+fn check_frame(frame: Option<&Frame>) -> Checked {
+    let Some(f) = frame else {
+        return Ok(());
+    };
+    if f.ticks < 1 || f.ticks > MAX_FRAME {
+        return refuse(18, 17);
+    }
+    if f.count < 1 || f.count > MAX_WINDOWS {
+        return refuse(18, 16);
+    }
+    // one past the end of the window before
+    let mut least = 0u64;
+    for (k, &(first, length)) in f.windows[..f.count].iter().enumerate() {
+        let end = first as u64 + length as u64;
+        if length == 0 || end > f.ticks as u64 || (first as u64) < least {
+            return refuse(18, k);
+        }
+        least = end + 1;
     }
     Ok(())
 }
@@ -147,22 +170,105 @@ fn search(f: &Flat, kept: &[u32], n: usize, own: u64, once: u64) -> (u64, u64) {
     (t, tried)
 }
 
+/// A frame in columns: where each window begins, where it ends, and how many of ours come before it; how many windows there are, how many
+/// of ours a frame has, and its ticks. Without a frame one window of one tick.
+struct Windows {
+    first: [u64; 16],
+    end: [u64; 16],
+    before: [u64; 16],
+    count: usize,
+    ours: u64,
+    ticks: u64,
+    framed: bool,
+}
+
+impl Windows {
+    fn of(frame: Option<&Frame>) -> Windows {
+        let mut w = Windows { first: [0; 16], end: [0; 16], before: [0; 16], count: 1, ours: 1, ticks: 1, framed: false };
+        w.end[0] = 1;
+        if let Some(f) = frame {
+            (w.count, w.ours, w.ticks, w.framed) = (f.count, 0, f.ticks as u64, true);
+            for (k, &(first, length)) in f.windows[..f.count].iter().enumerate() {
+                (w.first[k], w.end[k], w.before[k]) = (first as u64, (first + length) as u64, w.ours);
+                w.ours += length as u64;
+            }
+        }
+        w
+    }
+
+    /// Our ticks before this one.
+    fn before(&self, tick: u64) -> u64 {
+        if !self.framed {
+            return tick;
+        }
+        let (frames, at) = (tick / self.ticks, tick % self.ticks);
+        let inside = (0..self.count).map(|k| at.min(self.end[k]).saturating_sub(self.first[k])).sum::<u64>();
+        frames * self.ours + inside
+    }
+
+    /// The tick after the n-th of ours, n at least 1.
+    fn after(&self, n: u64) -> u64 {
+        if !self.framed {
+            return n;
+        }
+        let (frames, rest) = ((n - 1) / self.ours, (n - 1) % self.ours);
+        let k = (0..self.count).rfind(|&k| self.before[k] <= rest).unwrap();
+        frames * self.ticks + self.first[k] + (rest - self.before[k]) + 1
+    }
+
+    /// Whether a tick is ours.
+    fn is_ours(&self, tick: u64) -> bool {
+        let at = tick % self.ticks;
+        (0..self.count).any(|k| self.first[k] <= at && at < self.end[k])
+    }
+}
+
+/// The search for W(q) with a frame: at each start where a gap begins, the largest.
+fn search_framed(f: &Flat, w: &Windows, kept: &[u32], n: usize, own: u64, once: u64) -> u64 {
+    let mut largest = 0;
+    for k in 0..w.count {
+        let start = w.end[k];
+        let gone = w.before[k] + (w.end[k] - w.first[k]);
+        let mut wanted = own + once;
+        let t = loop {
+            let t = w.after(gone + wanted) - start;
+            if t > HORIZON as u64 {
+                return t;
+            }
+            let d = own + above_load(f, kept, n, t as u32);
+            if d <= wanted {
+                break t;
+            }
+            wanted = d;
+        };
+        largest = largest.max(t);
+    }
+    largest
+}
+
+/// W(q), or a t over H, and how many t were tried without a frame.
+#[inline(always)]
+fn window(f: &Flat, w: &Windows, kept: &[u32], n: usize, own: u64, once: u64) -> (u64, u64) {
+    if w.framed { (search_framed(f, w, kept, n, own, once), 0) } else { search(f, kept, n, own, once) }
+}
+
 /// Kind, q, R and the number of evaluations, as the archive answers.
-pub fn verdict(tasks: &[Task], charge: u8, task: usize, kept: &[u32]) -> Result<[u64; 4], Refusal> {
+pub fn verdict(tasks: &[Task], charge: u8, frame: Option<&Frame>, task: usize, kept: &[u32]) -> Result<[u64; 4], Refusal> {
     check_sheet(tasks, charge)?;
+    check_frame(frame)?;
     if task >= tasks.len() {
         return refuse(14, task);
     }
     check_slots(kept.len(), tasks.len())?;
     check_kept(tasks, kept)?;
-    let f = flat(tasks, charge, task);
+    let (f, windows) = (flat(tasks, charge, task), Windows::of(frame));
     let t = tasks[task];
     let (p, j, d, k) = (t.p as i64, t.j as i64, t.d as i64, kept[task] as i64);
     let once = once_each(&f, task);
     let (mut worst, mut first) = (0i64, 0i64);
     let (mut q, mut evaluations) = (0i64, 0);
     loop {
-        let (w, tried) = search(&f, kept, task, (q as u64 + 1) * f.loads[task] as u64, once);
+        let (w, tried) = window(&f, &windows, kept, task, (q as u64 + 1) * f.loads[task] as u64, once);
         evaluations += tried;
         if w > HORIZON as u64 {
             return Ok([0, q as u64, 0, evaluations]);
@@ -183,21 +289,21 @@ pub fn verdict(tasks: &[Task], charge: u8, task: usize, kept: &[u32]) -> Result<
 }
 
 /// The least kept jitter at which a task fits, its largest R, and the evaluations, by one walk over q.
-fn least_keep(f: &Flat, kept: &[u32], i: usize, t: &Task) -> Option<(u32, u32, u64)> {
+fn least_keep(f: &Flat, w: &Windows, kept: &[u32], i: usize, t: &Task) -> Option<(u32, u32, u64)> {
     let (p, j, d) = (t.p as u64, t.j as u64, t.d as u64);
     let once = once_each(f, i);
     let (mut q, mut high, mut evaluations) = (0u64, 0u64, 0);
     loop {
-        let (w, tried) = search(f, kept, i, (q + 1) * f.loads[i] as u64, once);
+        let (t, tried) = window(f, w, kept, i, (q + 1) * f.loads[i] as u64, once);
         evaluations += tried;
-        let picked = w + PICKUP;
+        let picked = t + PICKUP;
         let base = q * p;
-        if w > HORIZON as u64 || d + base.saturating_sub(j) < picked {
+        if t > HORIZON as u64 || d + base.saturating_sub(j) < picked {
             return None;
         }
         high = high.max((picked + j).saturating_sub(base));
         let keep = high.saturating_sub(d);
-        if w <= ((q + 1) * p).saturating_sub(keep) {
+        if t <= ((q + 1) * p).saturating_sub(keep) {
             return Some((keep as u32, high.min(d) as u32, evaluations));
         }
         q += 1;
@@ -214,13 +320,13 @@ struct Pass {
 }
 
 /// The choice of all tasks, or of the high ones alone.
-fn pass(tasks: &[Task], f: &Flat, high_only: bool) -> Pass {
+fn pass(tasks: &[Task], f: &Flat, windows: &Windows, high_only: bool) -> Pass {
     let mut p = Pass { keeps: [0; 32], worsts: [0; 32], evaluations: 0, unfit: None };
     for (i, t) in tasks.iter().enumerate() {
         if high_only && t.low {
             continue;
         }
-        match least_keep(f, &p.keeps, i, t) {
+        match least_keep(f, windows, &p.keeps, i, t) {
             None => {
                 p.unfit = Some(i);
                 return p;
@@ -235,16 +341,19 @@ fn pass(tasks: &[Task], f: &Flat, high_only: bool) -> Pass {
 }
 
 /// The choice; returns whether it is that of the high tasks alone, and its evaluations without those of an ordinary one before it.
-pub fn choice(tasks: &[Task], charge: u8, kept: &mut [u32], worst: &mut [u32]) -> Result<(bool, u64), Refusal> {
+pub fn choice(
+    tasks: &[Task], charge: u8, frame: Option<&Frame>, kept: &mut [u32], worst: &mut [u32],
+) -> Result<(bool, u64), Refusal> {
     check_sheet(tasks, charge)?;
+    check_frame(frame)?;
     check_slots(kept.len(), tasks.len())?;
     check_slots(worst.len(), tasks.len())?;
-    let f = flat(tasks, charge, tasks.len());
-    let mut p = pass(tasks, &f, false);
+    let (f, windows) = (flat(tasks, charge, tasks.len()), Windows::of(frame));
+    let mut p = pass(tasks, &f, &windows, false);
     // without a low task both are the same
     let high_only = p.unfit.is_some() && tasks.iter().any(|t| t.low);
     if high_only {
-        p = pass(tasks, &f, true);
+        p = pass(tasks, &f, &windows, true);
     }
     if let Some(i) = p.unfit {
         return refuse(15, i);
@@ -256,8 +365,11 @@ pub fn choice(tasks: &[Task], charge: u8, kept: &mut [u32], worst: &mut [u32]) -
 
 // ---- Ready ticks and run -----------------------------------------------------------------------------------------------
 
-fn check_call(tasks: &[Task], charge: u8, kept: &[u32], n: usize, list: Columns, slots: usize) -> Checked {
+fn check_call(
+    tasks: &[Task], charge: u8, frame: Option<&Frame>, kept: &[u32], n: usize, list: Columns, slots: usize,
+) -> Checked {
     check_sheet(tasks, charge)?;
+    check_frame(frame)?;
     if n > MAX_RELEASES {
         return refuse(10, MAX_RELEASES);
     }
@@ -280,7 +392,7 @@ fn fill_ready(tasks: &[Task], kept: &[u32], n: usize, list: Columns, ready: &mut
 }
 
 pub fn ready(tasks: &[Task], charge: u8, kept: &[u32], n: usize, list: Columns, ready: &mut [u64]) -> Checked {
-    check_call(tasks, charge, kept, n, list, ready.len())?;
+    check_call(tasks, charge, None, kept, n, list, ready.len())?;
     fill_ready(tasks, kept, n, list, ready);
     Ok(())
 }
@@ -311,9 +423,9 @@ fn next_of(task: &[u32], n: usize, i: u32, from: usize) -> usize {
 }
 
 pub fn run(
-    tasks: &[Task], charge: u8, kept: &[u32], n: usize, list: Columns, ready: &mut [u64], finish: &mut [u64],
+    tasks: &[Task], charge: u8, frame: Option<&Frame>, kept: &[u32], n: usize, list: Columns, ready: &mut [u64], finish: &mut [u64],
 ) -> Checked {
-    check_call(tasks, charge, kept, n, list, ready.len().min(finish.len()))?;
+    check_call(tasks, charge, frame, kept, n, list, ready.len().min(finish.len()))?;
     fill_ready(tasks, kept, n, list, ready);
     let work_of = |p: usize| if p < n { list.cost[p] + charge as u32 } else { 0 };
     let (mut head, mut left) = ([n; 32], [0u32; 32]);
@@ -323,9 +435,10 @@ pub fn run(
     }
     let wake_of = |p: usize, ready: &[u64]| if p < n { ready[p] + PICKUP } else { u64::MAX };
     let may_run = |p: usize, ready: &[u64], t: u64| p < n && ready[p] + PICKUP <= t;
+    let windows = Windows::of(frame);
     let (mut t, mut wake) = (0u64, 0u64);
     loop {
-        if t >= wake {
+        if t >= wake && (!windows.framed || windows.is_ours(t)) {
             match (0..tasks.len()).find(|&i| may_run(head[i], ready, t)) {
                 None => {
                     wake = (0..tasks.len()).map(|i| wake_of(head[i], ready)).min().unwrap_or(u64::MAX);
@@ -353,9 +466,9 @@ const NEVER: u64 = u64::MAX;
 /// The run that jumps; returns its stops. Of each task: the oldest unfinished job with its start and the work that is left of it, and
 /// the first job whose start is to come with that start. `wake` is the least of the starts to come.
 pub fn jump(
-    tasks: &[Task], charge: u8, kept: &[u32], n: usize, list: Columns, ready: &mut [u64], finish: &mut [u64],
+    tasks: &[Task], charge: u8, frame: Option<&Frame>, kept: &[u32], n: usize, list: Columns, ready: &mut [u64], finish: &mut [u64],
 ) -> Result<u64, Refusal> {
-    check_call(tasks, charge, kept, n, list, ready.len().min(finish.len()))?;
+    check_call(tasks, charge, frame, kept, n, list, ready.len().min(finish.len()))?;
     fill_ready(tasks, kept, n, list, ready);
     let start_of = |p: usize, ready: &[u64]| if p < n { ready[p] + PICKUP } else { NEVER };
     let work_of = |p: usize| if p < n { list.cost[p] + charge as u32 } else { 0 };
@@ -366,6 +479,7 @@ pub fn jump(
         left[i] = work_of(head[i]);
     }
     let (mut coming, mut due) = (head, since);
+    let windows = Windows::of(frame);
     let (mut t, mut wake, mut stops) = (0u64, 0u64, 0u64);
     loop {
         if wake <= t {
@@ -389,9 +503,10 @@ pub fn jump(
                 t = wake;
             }
             Some(i) => {
-                let end = t + left[i] as u64;
+                let done = windows.before(t);
+                let end = windows.after(done + left[i] as u64);
                 if wake < end {
-                    left[i] = (end - wake) as u32;
+                    left[i] -= (windows.before(wake) - done) as u32;
                     t = wake;
                 } else {
                     finish[head[i]] = end;

@@ -1,6 +1,6 @@
 //! The sheets whose verdicts and choices are timed.
 
-use crate::reference::{Sheet, Task};
+use crate::reference::{Frame, Sheet, Task};
 
 /// n tasks with a load of about 95 in 100 whatever n is, full jitters of half a period and deadlines that all tasks meet.
 pub fn full_sheet(n: u32) -> Sheet {
@@ -62,5 +62,17 @@ pub fn short_periods() -> Sheet {
     let tasks: Vec<Task> = (full_sheet(32).tasks.iter().enumerate())
         .map(|(i, t)| if i % 4 == 3 { Task::high(11, 10, 1, 1_000_000) } else { Task { e: t.e / 4, ..*t } })
         .collect();
+    Sheet::of(&tasks)
+}
+
+/// A frame of so many ticks with so many windows, which take three of every four ticks.
+pub fn three_of_four(ticks: u32, windows: u32) -> Frame {
+    let part = ticks / windows;
+    Frame::of(ticks, &(0..windows).map(|k| (part * k, part * 3 / 4)).collect::<Vec<_>>())
+}
+
+/// 32 tasks with a load of about 70 in 100, so that they fit in such a frame.
+pub fn seventy_sheet() -> Sheet {
+    let tasks: Vec<Task> = full_sheet(32).tasks.iter().map(|t| Task { e: t.e * 14 / 19, ..*t }).collect();
     Sheet::of(&tasks)
 }

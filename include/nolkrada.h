@@ -9,10 +9,11 @@
  * Every call ends, but not always soon. A verdict or a choice takes microseconds on most sheets; where the tasks load the
  * processor whole or a little more, it may walk over millions of q: with 31 tasks (62,0,1,1000000) above (2,1,1,1000000), kept at
  * 1, the verdict of the lowest takes seconds, and so does the choice with 31 tasks (40,31,1,1000000) above (4,1,1,1000000), which
- * is refused with 15. A run goes tick by tick: some 0.4 s for each 1000000000 ticks up to the last finish, so that one release
- * near the last tick allowed makes nolkrada_run go on for days. Take nolkrada_jump for such lists. A run that jumps goes from one
- * ready or finish moment to the next: microseconds for a few releases, whatever their ticks, and below a millisecond for 1024.
- * docs/BENCHMARK.md has the figures; PLANNING A CHOICE says how to plan for a choice on a board.
+ * is refused with 15. With a frame each q takes one search for each window, at most 16, whatever the ticks of the frame are. A run
+ * goes tick by tick: some 0.4 s for each 1000000000 ticks up to the last finish, so that one release near the last tick allowed
+ * makes nolkrada_run go on for days. Take nolkrada_jump for such lists. A run that jumps goes from one ready or finish moment to the
+ * next: microseconds for a few releases, whatever their ticks, and below a millisecond for 1024. These figures are for calls without
+ * a frame. docs/BENCHMARK.md has all of them; PLANNING A CHOICE says how to plan for a choice on a board.
  *
  * WHAT A CALL RETURNS
  *   0 where it answered. Otherwise a refusal, number * 2^32 + place; nolkrada_number and nolkrada_place take it apart.
@@ -32,6 +33,19 @@
  *   A charge over 255 is not refused: charge is a uint8_t, and C cuts a larger number to its low byte, 256 to 0. A caller whose
  *   charge may be larger must check it before the call.
  *
+ * FRAME
+ *   Where the board lends the processor for a part of each frame only. frame, frame_length: the ticks of the frame, the count of its
+ *   windows, then the first tick and the length of window 0, of window 1, and so on. frame_length is the number of uint32_t: 0 for no
+ *   frame, otherwise normally 2 + 2 * count or NOLKRADA_FRAME_NUMBERS. Numbers past the end count as 0, and nothing past window 15 is
+ *   read. struct nolkrada_frame has the same layout: pass &frame.ticks and NOLKRADA_FRAME_NUMBERS.
+ *   ticks is 1 to 10000, count 1 to 16; each window is of at least one tick, inside the frame (first + length <= ticks), and starts
+ *   after the end of the one before: its first is over the first + length before it, so windows do not touch. Windows past the count
+ *   do not matter.
+ *   Ours are the ticks from first up to first + length, not including the latter, of each window; the frame repeats from tick 0. In
+ *   all other ticks nothing runs. Without a frame every tick is ours; a frame with one window over all its ticks gives the verdicts,
+ *   choices and runs of no frame.
+ *   nolkrada_verdict, nolkrada_choice, nolkrada_run and nolkrada_jump take a frame. No other call depends on it, and files have none.
+ *
  * KEPT JITTERS
  *   kept, kept_length: one K for each task of the sheet, 0 <= K <= J; a call looks at all of them.
  *
@@ -49,18 +63,22 @@
  *   task number, one byte; tick, eight; cost, four (14 bytes). Kind 3, end: no body.
  *
  * PROCESSOR
- *   In each tick the highest-priority task's oldest job runs, of the jobs that were ready before that tick and are unfinished: the
- *   kernel looks at the ready list at tick ends only, so a job may run from the tick after its ready tick (NOLKRADA_PICKUP). A job is
- *   finished when it has run for its cost plus the charge; the charge is taken once for each job, however often it is interrupted.
+ *   In each of our ticks the highest-priority task's oldest job runs, of the jobs that were ready before that tick and are
+ *   unfinished: the kernel looks at the ready list at tick ends only, so a job may run from the tick after its ready tick
+ *   (NOLKRADA_PICKUP). FRAME says which ticks are ours. A job is finished when it has run for its cost plus the charge; the charge is
+ *   taken once for each job, however often it is interrupted.
  *   Verdicts, choices and runs are about that processor. W(q) is the least t >= 1 with (q + 1) * (E + S) + (the sum over the tasks
- *   above of (E + S) * arrival count in t ticks) <= t, and R(q) = W(q) + 1 + max(x - K, min(0, x)) with x = J - q * P.
+ *   above of (E + S) * arrival count in t ticks) <= t, and R(q) = W(q) + 1 + max(x - K, min(0, x)) with x = J - q * P. With a frame
+ *   that t on the right side becomes our ticks among t ticks from a start, and W(q) is the largest of these least t over all starts
+ *   in the frame.
  *
  * PLANNING A CHOICE
- *   A verdict takes q = 0, 1, .. and finds each W(q) by a list of t. The first t is (q + 1) * (E + S) plus one E + S of each task
- *   above. The next is the demand in the t before it: (q + 1) * (E + S) + (the sum over the tasks above of (E + S) * arrival count
- *   in t ticks). The list ends where the demand equals t, or where t is over 10000000. Each t of it is one evaluation, a last one
- *   over 10000000 too.
- *   The fourth word of a verdict is the number of its evaluations, over all q that it took. It is at most 100000020000001.
+ *   This is about calls without a frame. A verdict takes q = 0, 1, .. and finds each W(q) by a list of t. The first t is
+ *   (q + 1) * (E + S) plus one E + S of each task above. The next is the demand in the t before it: (q + 1) * (E + S) + (the sum over
+ *   the tasks above of (E + S) * arrival count in t ticks). The list ends where the demand equals t, or where t is over 10000000.
+ *   Each t of it is one evaluation, a last one over 10000000 too.
+ *   The fourth word of a verdict is the number of its evaluations, over all q that it took. It is at most 100000020000001. With a
+ *   frame, also one that is all window, it is 0.
  *   For one q with W(q) up to 10000000 the list is at most as long as 1 + (the arrival counts of the tasks above in W(q) ticks,
  *   added up) - (the number of tasks above).
  *   The evaluations of an ordinary choice that succeeds are those of the verdicts of all tasks at the chosen kept jitters, added up.
@@ -99,9 +117,11 @@
  *   15  choice: no K fits; the first such task, of the high ones alone (see nolkrada_choice)
  *   16  load: a line that is not P,J,E,D and a line feed; the line
  *   17  E + S is over P or over D; the task (read: offset of the task's record)
+ *   18  frame: ticks not 1 to 10000; 17. Then count not 1 to 16; 16. Then the first window that is empty, ends over the ticks or does
+ *       not start after the end of the one before; the window. first + length is taken as a number, without wrapping
  * A line is its number in the text, from 0.
- * A call checks, in this order: the sheet (5, 4, then 6 and 17 of task 0, 6 and 17 of task 1, and so on), 14, 10, 13 (arrays by
- * task, then by release, then bytes, then `answer`), 12, the releases in order (7, 8, 9), 15. A read checks the whole file, record
+ * A call checks, in this order: the sheet (5, 4, then 6 and 17 of task 0, 6 and 17 of task 1, and so on), 18, 14, 10, 13 (arrays
+ * by task, then by release, then bytes, then `answer`), 12, the releases in order (7, 8, 9), 15. A read checks the whole file, record
  * by record and the lower number first, and then 13 (`sheet`, then task, tick and cost, then `answer`). A load checks the whole text,
  * line by line: 16, then 4, then 6 on a line, 5 where there is none; and then 13 (`sheet`, then `answer`).
  */
@@ -117,9 +137,9 @@ extern "C" {
 
 /* The version of this interface. The archive has no symbol for it: take header and archive of one build. */
 #define NOLKRADA_VERSION_MAJOR 0
-#define NOLKRADA_VERSION_MINOR 8
+#define NOLKRADA_VERSION_MINOR 9
 #define NOLKRADA_VERSION_PATCH 0
-#define NOLKRADA_VERSION "0.8.0"
+#define NOLKRADA_VERSION "0.9.0"
 
 /* Tasks of a sheet, numbers of a sheet that is read or loaded (P, J, E, D and mark of 32 tasks), releases of a list. */
 #define NOLKRADA_MAX_TASKS 32
@@ -130,8 +150,13 @@ extern "C" {
 /* The last tick of a release, and the last of one that is written as kind 2; later ones are written as kind 4. */
 #define NOLKRADA_MAX_TICK UINT64_C(1000000000000000)
 #define NOLKRADA_MAX_SHORT_TICK UINT64_C(1000000000)
-/* The largest finish: 1024 jobs, whose cost and charge are 1000000 together, released at the last tick. */
-#define NOLKRADA_MAX_FINISH UINT64_C(1000001024000001)
+/* Ticks and windows of a frame, and the numbers of one with all its windows. */
+#define NOLKRADA_MAX_FRAME 10000
+#define NOLKRADA_MAX_WINDOWS 16
+#define NOLKRADA_FRAME_NUMBERS 34
+/* The largest finish: 1024 jobs, whose cost and charge are 1000000 together, released at the last tick, with one tick of ours in each
+ * frame of 10000. Without a frame it is 1000001024000001. */
+#define NOLKRADA_MAX_FINISH UINT64_C(1010240000000001)
 /* Ticks from a job's ready tick to the first in which it may run. */
 #define NOLKRADA_PICKUP 1
 /* The most stops of a run that jumps: a ready tick plus 1 and a finish for each release. */
@@ -165,7 +190,18 @@ enum {
     NOLKRADA_REFUSED_NO_SUCH_TASK = 14,
     NOLKRADA_REFUSED_UNFIT = 15,
     NOLKRADA_REFUSED_LINE = 16,
-    NOLKRADA_REFUSED_CHARGE = 17
+    NOLKRADA_REFUSED_CHARGE = 17,
+    NOLKRADA_REFUSED_FRAME = 18
+};
+
+/* A frame as the calls take it, for callers that fill a struct: see FRAME. */
+struct nolkrada_frame {
+    uint32_t ticks;
+    uint32_t count;
+    struct {
+        uint32_t first;
+        uint32_t length;
+    } windows[NOLKRADA_MAX_WINDOWS];
 };
 
 /* The number and the place of a refusal. */
@@ -183,9 +219,10 @@ enum { NOLKRADA_HORIZON = 0, NOLKRADA_LATE = 1, NOLKRADA_FITS = 2 };
  * answer: 4 slots. NOLKRADA_HORIZON, q, 0, n: no W(q) up to 10000000 ticks, and nothing is claimed. NOLKRADA_LATE, q, R(q), n: some
  * legal list of releases makes a job of the task late. NOLKRADA_FITS, q, R, n: no job of the task is late in any list in which its
  * own releases keep its jitter, whatever the other tasks release; R is the largest response bound met and q the first that had it.
- * n is the number of evaluations, at least 1: see PLANNING A CHOICE.                              Refuses 5 4 6 17 14 13 12. */
-uint64_t nolkrada_verdict(const uint32_t *sheet, size_t sheet_length, uint32_t count, uint8_t charge, uint32_t task,
-                          const uint32_t *kept, size_t kept_length, uint64_t *answer, size_t answer_length);
+ * n is the number of evaluations, at least 1, and 0 with a frame: see PLANNING A CHOICE.       Refuses 5 4 6 17 18 14 13 12. */
+uint64_t nolkrada_verdict(const uint32_t *sheet, size_t sheet_length, uint32_t count, uint8_t charge, const uint32_t *frame,
+                          size_t frame_length, uint32_t task, const uint32_t *kept, size_t kept_length, uint64_t *answer,
+                          size_t answer_length);
 
 enum { NOLKRADA_ORDINARY = 0, NOLKRADA_HIGH_ONLY = 1 };
 
@@ -196,9 +233,10 @@ enum { NOLKRADA_ORDINARY = 0, NOLKRADA_HIGH_ONLY = 1 };
  * answer: 1 slot. NOLKRADA_ORDINARY: every task was judged, and no job of any task whose own releases keep its jitter is late,
  * whatever the other tasks release. NOLKRADA_HIGH_ONLY: the ordinary choice ended in 15, and this is the one with every low task kept
  * at 0 and not judged. The worst value of a low task is then 0, and nothing is promised about its lateness; no job of a high task
- * whose own releases keep its jitter is late, whatever all other tasks release.                  Refuses 5 4 6 17 13 15. */
-uint64_t nolkrada_choice(const uint32_t *sheet, size_t sheet_length, uint32_t count, uint8_t charge, uint32_t *kept,
-                         size_t kept_length, uint32_t *worst, size_t worst_length, uint64_t *answer, size_t answer_length);
+ * whose own releases keep its jitter is late, whatever all other tasks release.                Refuses 5 4 6 17 18 13 15. */
+uint64_t nolkrada_choice(const uint32_t *sheet, size_t sheet_length, uint32_t count, uint8_t charge, const uint32_t *frame,
+                         size_t frame_length, uint32_t *kept, size_t kept_length, uint32_t *worst, size_t worst_length,
+                         uint64_t *answer, size_t answer_length);
 
 /* Trace check: whether the releases keep the jitters of their tasks. The charge is checked and changes no answer.
  * answer: 2 slots. 0, 0: they do. 1, p: release p is the first that is too close to an earlier one of its task.
@@ -213,24 +251,25 @@ uint64_t nolkrada_ready(const uint32_t *sheet, size_t sheet_length, uint32_t cou
                         size_t kept_length, uint32_t n, const uint32_t *task, size_t task_length, const uint64_t *tick,
                         size_t tick_length, const uint32_t *cost, size_t cost_length, uint64_t *ready, size_t ready_length);
 
-/* Run: ready and finish tick of each job, from tick 0 with no earlier job. A job takes its cost plus the charge. Finish is the last
- * tick in which the job ran, plus 1; response is finish - tick. No finish is over NOLKRADA_MAX_FINISH. The time grows with the last
- * finish: see above.
- * ready, finish: n slots each, written.                                                Refuses 5 4 6 17 10 13 12 7 8 9. */
-uint64_t nolkrada_run(const uint32_t *sheet, size_t sheet_length, uint32_t count, uint8_t charge, const uint32_t *kept,
-                      size_t kept_length, uint32_t n, const uint32_t *task, size_t task_length, const uint64_t *tick,
-                      size_t tick_length, const uint32_t *cost, size_t cost_length, uint64_t *ready, size_t ready_length,
-                      uint64_t *finish, size_t finish_length);
+/* Run: ready and finish tick of each job, from tick 0 with no earlier job. A job takes its cost plus the charge, in our ticks. Finish
+ * is the last tick in which the job ran, plus 1; response is finish - tick. No finish is over NOLKRADA_MAX_FINISH. The time grows with
+ * the last finish: see above.
+ * ready, finish: n slots each, written.                                             Refuses 5 4 6 17 18 10 13 12 7 8 9. */
+uint64_t nolkrada_run(const uint32_t *sheet, size_t sheet_length, uint32_t count, uint8_t charge, const uint32_t *frame,
+                      size_t frame_length, const uint32_t *kept, size_t kept_length, uint32_t n, const uint32_t *task,
+                      size_t task_length, const uint64_t *tick, size_t tick_length, const uint32_t *cost, size_t cost_length,
+                      uint64_t *ready, size_t ready_length, uint64_t *finish, size_t finish_length);
 
-/* Run that jumps: the ready and finish ticks of nolkrada_run for every sheet and list and, where answer has its slot, its refusals.
- * It goes from one tick that is a ready tick plus 1 or a finish to the next, so its time grows with releases and tasks and not with
- * the ticks.
+/* Run that jumps: the ready and finish ticks of nolkrada_run for every sheet, frame and list and, where answer has its slot, its
+ * refusals. It goes from one tick that is a ready tick plus 1 or a finish to the next, so its time grows with releases, tasks and
+ * windows and not with the ticks.
  * ready, finish: n slots each, written. answer: 1 slot, the stops: how many different ticks are a ready tick plus 1 or a finish,
- * 0 without a release, at most NOLKRADA_MAX_STOPS.                                     Refuses 5 4 6 17 10 13 12 7 8 9. */
-uint64_t nolkrada_jump(const uint32_t *sheet, size_t sheet_length, uint32_t count, uint8_t charge, const uint32_t *kept,
-                       size_t kept_length, uint32_t n, const uint32_t *task, size_t task_length, const uint64_t *tick,
-                       size_t tick_length, const uint32_t *cost, size_t cost_length, uint64_t *ready, size_t ready_length,
-                       uint64_t *finish, size_t finish_length, uint64_t *answer, size_t answer_length);
+ * 0 without a release, at most NOLKRADA_MAX_STOPS.                                  Refuses 5 4 6 17 18 10 13 12 7 8 9. */
+uint64_t nolkrada_jump(const uint32_t *sheet, size_t sheet_length, uint32_t count, uint8_t charge, const uint32_t *frame,
+                       size_t frame_length, const uint32_t *kept, size_t kept_length, uint32_t n, const uint32_t *task,
+                       size_t task_length, const uint64_t *tick, size_t tick_length, const uint32_t *cost, size_t cost_length,
+                       uint64_t *ready, size_t ready_length, uint64_t *finish, size_t finish_length, uint64_t *answer,
+                       size_t answer_length);
 
 /* Read a file. Lend it whole, or its first NOLKRADA_READ_BYTES bytes.
  * sheet: NOLKRADA_SHEET_NUMBERS slots, all written; entries past the count are 0. task, tick, cost: a slot for each release,

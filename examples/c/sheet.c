@@ -26,6 +26,9 @@ static const uint32_t marked[] = {6, 5, 2, 6, HIGH, 8, 7, 2, 8, HIGH, 10, 0, 2, 
 /* The charge: ticks that each job takes besides its cost, for the switch to it. */
 #define NO_CHARGE 0
 
+/* No frame: every tick is ours. A length of 0, with any array. examples/c/frame.c has frames. */
+#define NO_FRAME sheet, 0
+
 /* Three releases: task 0 at tick 0, task 2 at tick 0, task 0 at tick 1, all of cost 2. */
 static const uint32_t task[] = {0, 2, 0};
 static const uint64_t tick[] = {0, 0, 1};
@@ -43,7 +46,7 @@ static int print_choice(const uint32_t *numbers, uint32_t *kept) {
     static const char *const which[] = {[NOLKRADA_ORDINARY] = "fits", [NOLKRADA_HIGH_ONLY] = "high only"};
     uint32_t worst[TASKS];
     uint64_t answer[1];
-    if (refused("choice", nolkrada_choice(numbers, LENGTH(sheet), TASKS, NO_CHARGE, kept, TASKS, worst, TASKS, answer, 1))) return 1;
+    if (refused("choice", nolkrada_choice(numbers, LENGTH(sheet), TASKS, NO_CHARGE, NO_FRAME, kept, TASKS, worst, TASKS, answer, 1))) return 1;
     printf("task keep worst\n");
     for (int i = 0; i < TASKS; i++) printf("%d %u %u\n", i, kept[i], worst[i]);
     printf("%s\n", which[answer[0]]);
@@ -53,7 +56,7 @@ static int print_choice(const uint32_t *numbers, uint32_t *kept) {
 static uint64_t print_verdict(const uint32_t *kept, uint32_t i) {
     static const char *const kinds[] = {[NOLKRADA_HORIZON] = "horizon", [NOLKRADA_LATE] = "late", [NOLKRADA_FITS] = "fits"};
     uint64_t answer[4];
-    const uint64_t code = nolkrada_verdict(sheet, LENGTH(sheet), TASKS, NO_CHARGE, i, kept, TASKS, answer, 4);
+    const uint64_t code = nolkrada_verdict(sheet, LENGTH(sheet), TASKS, NO_CHARGE, NO_FRAME, i, kept, TASKS, answer, 4);
     if (!refused("verdict", code))
         printf("task %u with kept jitter %u: %s, q %" PRIu64 ", R %" PRIu64 ", evaluations %" PRIu64 "\n", i, kept[i],
                kinds[answer[0]], answer[1], answer[2], answer[3]);
@@ -65,7 +68,7 @@ static uint64_t print_verdict(const uint32_t *kept, uint32_t i) {
 static int print_plan(const uint32_t *kept) {
     uint64_t answer[4], evaluations = 0, over = 0;
     for (uint32_t i = 0; i < TASKS; i++) {
-        if (refused("verdict", nolkrada_verdict(sheet, LENGTH(sheet), TASKS, NO_CHARGE, i, kept, TASKS, answer, 4))) return 1;
+        if (refused("verdict", nolkrada_verdict(sheet, LENGTH(sheet), TASKS, NO_CHARGE, NO_FRAME, i, kept, TASKS, answer, 4))) return 1;
         evaluations += answer[3];
         over += answer[3] * i;
     }
@@ -83,7 +86,7 @@ static int print_run(const uint32_t *kept) {
     if (refused("ready", nolkrada_ready(sheet, LENGTH(sheet), TASKS, NO_CHARGE, kept, TASKS, RELEASES, task, RELEASES, tick,
                                         RELEASES, cost, RELEASES, ready, RELEASES)))
         return 1;
-    if (refused("run", nolkrada_run(sheet, LENGTH(sheet), TASKS, NO_CHARGE, kept, TASKS, RELEASES, task, RELEASES, tick, RELEASES,
+    if (refused("run", nolkrada_run(sheet, LENGTH(sheet), TASKS, NO_CHARGE, NO_FRAME, kept, TASKS, RELEASES, task, RELEASES, tick, RELEASES,
                                     cost, RELEASES, ready, RELEASES, finish, RELEASES)))
         return 1;
     printf("job task release ready finish response\n");
@@ -97,7 +100,7 @@ static int print_run(const uint32_t *kept) {
 static int print_jump(const uint32_t *kept) {
     uint64_t ready[RELEASES], finish[RELEASES];
     uint64_t stops[1];
-    if (refused("jump", nolkrada_jump(sheet, LENGTH(sheet), TASKS, NO_CHARGE, kept, TASKS, RELEASES, task, RELEASES, tick, RELEASES,
+    if (refused("jump", nolkrada_jump(sheet, LENGTH(sheet), TASKS, NO_CHARGE, NO_FRAME, kept, TASKS, RELEASES, task, RELEASES, tick, RELEASES,
                                       cost, RELEASES, ready, RELEASES, finish, RELEASES, stops, 1)))
         return 1;
     printf("the last job finishes at %" PRIu64 "; the run that jumps made %" PRIu64 " stops\n", finish[RELEASES - 1], stops[0]);
@@ -109,7 +112,7 @@ static int print_months(const uint32_t *kept) {
     static const uint64_t later[] = {0, 0, UINT64_C(7776000000000)};
     uint64_t ready[RELEASES], finish[RELEASES];
     uint64_t stops[1];
-    if (refused("jump", nolkrada_jump(sheet, LENGTH(sheet), TASKS, NO_CHARGE, kept, TASKS, RELEASES, task, RELEASES, later, RELEASES,
+    if (refused("jump", nolkrada_jump(sheet, LENGTH(sheet), TASKS, NO_CHARGE, NO_FRAME, kept, TASKS, RELEASES, task, RELEASES, later, RELEASES,
                                       cost, RELEASES, ready, RELEASES, finish, RELEASES, stops, 1)))
         return 1;
     printf("released at %" PRIu64 " it finishes at %" PRIu64 "\n", later[RELEASES - 1], finish[RELEASES - 1]);
@@ -121,9 +124,9 @@ static int print_charge(const uint32_t *kept) {
     uint32_t keep[TASKS], worst[TASKS];
     uint64_t ready[RELEASES], finish[RELEASES];
     uint64_t stops[1], answer[1];
-    const uint64_t code = nolkrada_choice(sheet, LENGTH(sheet), TASKS, 1, keep, TASKS, worst, TASKS, answer, 1);
+    const uint64_t code = nolkrada_choice(sheet, LENGTH(sheet), TASKS, 1, NO_FRAME, keep, TASKS, worst, TASKS, answer, 1);
     printf("with a charge of 1 the choice is refused %u at %u\n", nolkrada_number(code), nolkrada_place(code));
-    if (refused("jump", nolkrada_jump(sheet, LENGTH(sheet), TASKS, 1, kept, TASKS, RELEASES, task, RELEASES, tick, RELEASES, cost,
+    if (refused("jump", nolkrada_jump(sheet, LENGTH(sheet), TASKS, 1, NO_FRAME, kept, TASKS, RELEASES, task, RELEASES, tick, RELEASES, cost,
                                       RELEASES, ready, RELEASES, finish, RELEASES, stops, 1)))
         return 1;
     printf("with a charge of 1 the jobs finish at %" PRIu64 ", %" PRIu64 " and %" PRIu64 "\n", finish[0], finish[1], finish[2]);

@@ -9,8 +9,8 @@ mod sums;
 
 use generator::*;
 use std::collections::BTreeSet;
-use reference::{add_release, add_task, Budget, Chosen, Judged, Refusal, Release, Sheet, Task, Verdict};
-use reference::{HORIZON, MAX_RELEASES, MAX_SHORT_TICK, MAX_TICK, MAX_TIME};
+use reference::{add_release, add_task, Budget, Chosen, Frame, Judged, Refusal, Release, Sheet, Supply, Task, Verdict};
+use reference::{HORIZON, MAX_FRAME, MAX_RELEASES, MAX_SHORT_TICK, MAX_TICK, MAX_TIME, MAX_WINDOWS};
 
 const SEED: u64 = 20_240_601;
 
@@ -63,12 +63,14 @@ fn around(r: &mut Random, needed: usize) -> usize {
     }
 }
 
-/// A sheet as it is passed, with kept jitters and a list. Each column has a length of its own.
+/// A sheet as it is passed, with a frame, which has no number where there is none, kept jitters and a list. Each column has a length of
+/// its own.
 #[derive(Clone)]
 struct Case {
     numbers: Vec<u32>,
     count: u32,
     charge: u8,
+    frame: Vec<u32>,
     kept: Vec<u32>,
     n: u32,
     task: Vec<u32>,
@@ -82,6 +84,7 @@ impl Case {
             numbers: given_numbers_of(r, sheet),
             count: sheet.count as u32,
             charge: sheet.charge,
+            frame: given_frame_of(r, &sheet.frame),
             kept: kept_for(r, sheet),
             n: list.len() as u32,
             task: list.iter().map(|x| x.task).collect(),
@@ -123,6 +126,23 @@ impl Case {
         }
     }
 
+    /// One number of the frame changed, or its row cut.
+    fn damage_frame(&mut self, r: &mut Random) {
+        let count = frame_of(&self.frame).map_or(0, |f| f.count.min(MAX_WINDOWS));
+        let at = r.within(0, 1 + 2 * count as u32) as usize;
+        match r.within(0, 3) {
+            0 => self.frame.truncate(r.within(0, self.frame.len() as u32) as usize),
+            1 => self.frame[at] = r.of(&FRAME_EDGES),
+            2 => self.frame[at] = self.frame[at].wrapping_add(1),
+            _ => self.frame[at] = self.frame[at].wrapping_sub(1),
+        }
+    }
+
+    /// The same case with this frame, whose row is as long as its windows need.
+    fn with_frame(&self, frame: Option<Frame>) -> Case {
+        Case { frame: frame_numbers_of(&frame), ..self.clone() }
+    }
+
     /// The same case with every mark high.
     fn all_high(&self) -> Case {
         let mut case = self.clone();
@@ -131,7 +151,7 @@ impl Case {
     }
 
     fn sheet(&self) -> Sheet {
-        sheet_of(&self.numbers, self.count, self.charge)
+        sheet_of(&self.numbers, self.count, self.charge).framed(frame_of(&self.frame))
     }
     fn reference_list(&self) -> reference::Columns<'_> {
         reference::Columns { task: &self.task, tick: &self.tick, cost: &self.cost }
@@ -140,7 +160,8 @@ impl Case {
         library::Columns { task: &self.task, tick: &self.tick, cost: &self.cost }
     }
     /// Whether a ticking run of the case, with so many slots of ready and finish ticks, is refused or goes through at most so many
-    /// ticks: no job is ready later than a largest period for each release after the last tick, and then all of them run at most.
+    /// ticks: no job is ready later than a largest period for each release after the last tick, and then all of them run at most, in our
+    /// ticks.
     fn ends_by(&self, slots: [usize; 2], ticks: u64) -> bool {
         let checked = reference::check_run(&self.sheet(), &self.kept, self.n as usize, &self.reference_list(), slots[0], slots[1]);
         let Ok(list) = checked else {
@@ -148,12 +169,14 @@ impl Case {
         };
         let period = self.sheet().tasks.iter().map(|t| t.p as u64).max().unwrap_or(0);
         let work: u64 = list.iter().map(|x| x.cost as u64 + self.charge as u64).sum();
-        list.last().map_or(0, |x| x.tick) + list.len() as u64 * period + 1 + work <= ticks
+        let supply = Supply::of(&self.sheet().frame);
+        let start = list.last().map_or(0, |x| x.tick) + list.len() as u64 * period + 1;
+        supply.after(supply.before(start as i64) + work as i64) as u64 <= ticks
     }
     fn show(&self) -> String {
         format!(
-            "sheet {:?} count {} charge {} kept {:?} n {} task {:?} tick {:?} cost {:?}",
-            self.numbers, self.count, self.charge, self.kept, self.n, self.task, self.tick, self.cost
+            "sheet {:?} count {} charge {} frame {:?} kept {:?} n {} task {:?} tick {:?} cost {:?}",
+            self.numbers, self.count, self.charge, self.frame, self.kept, self.n, self.task, self.tick, self.cost
         )
     }
 }
@@ -161,11 +184,18 @@ impl Case {
 #[derive(Default)]
 struct Tally {
     calls: [u64; 10],
-    refusals: [u64; 18],
-    /// How many of the calls were answered with a charge, and the charges; and how many with a low task.
+    refusals: [u64; 19],
+    /// How many of the calls were answered with a charge, and the charges; how many with a low task; and how many with a frame.
     charged: [u64; 10],
     charges: BTreeSet<u8>,
     marked: [u64; 10],
+    framed: [u64; 10],
+    /// The verdicts with a frame, by kind; and of each of UNLIKE how many were compared with that of no frame, and how many differ.
+    framed_verdicts: [u64; 3],
+    beside_none: [u64; 4],
+    unlike_none: [u64; 4],
+    /// The places at which a frame was refused.
+    frame_places: BTreeSet<u64>,
     /// How many choices with a low task ended in each of ENDS.
     ends: [u64; 4],
     /// Files that were refused with 6 for a last byte of kind 6 alone, by that byte.
@@ -199,7 +229,10 @@ const LISTS: [&str; 4] = ["a list of one", "a last t over H", "a first t over H"
 /// task at which the ordinary one ended or at another.
 const ENDS: [&str; 4] = ["ordinary", "high only", "15 at the same task", "15 at another task"];
 
-/// How often each of them has to come up.
+/// What of a sheet with a frame may differ from that without it.
+const UNLIKE: [&str; 4] = ["kinds of verdicts", "verdicts", "choices", "runs"];
+
+/// How often each end of a choice has to come up.
 const OFTEN: u64 = 2_000;
 
 impl Tally {
@@ -212,8 +245,11 @@ impl Tally {
         };
         self.ends[end] += 1;
     }
-    /// Notes the evaluations of a verdict.
+    /// Notes the evaluations of a verdict without a frame.
     fn judged(&mut self, case: &Case, task: u32, judged: &Judged) {
+        if !case.frame.is_empty() {
+            return;
+        }
         let begins = |q: i64| reference::tried(&case.sheet(), &case.kept, task as usize, q).take(2).collect::<Vec<i64>>();
         let one = matches!(begins(0)[..], [t] if t <= HORIZON);
         let over = match judged.verdict {
@@ -236,11 +272,15 @@ impl Tally {
             self.charges.insert(sheet.charge);
         }
         self.marked[call] += sheet.tasks.iter().any(|t| t.low) as u64;
+        self.framed[call] += sheet.frame.is_some() as u64;
     }
     fn note(&mut self, call: usize, expected: Option<Refusal>, got: u64, slots: bool, show: impl Fn() -> String) {
         self.calls[call] += 1;
         if let Some(r) = expected {
             self.refusals[r.number as usize] += 1;
+            if r.number == 18 {
+                self.frame_places.insert(r.place);
+            }
         }
         if got == code(expected) && slots {
             return;
@@ -313,9 +353,10 @@ fn compare_verdict(r: &mut Random, tally: &mut Tally, case: &Case, task: u32, bu
     });
     if let Ok(a) = expected {
         tally.verdicts[a[0] as usize] += 1;
+        tally.framed_verdicts[a[0] as usize] += !case.frame.is_empty() as u64;
         tally.answered(1, &case.sheet());
     }
-    let got = library::verdict(&case.numbers, case.count, case.charge, task, &case.kept, &mut answer.now);
+    let got = library::verdict(&case.numbers, case.count, case.charge, &case.frame, task, &case.kept, &mut answer.now);
     let same = answer.holds(expected.as_ref().ok().map(|a| &a[..]));
     tally.note(1, expected.err(), got, same, || format!("task {} answer {:?} {}", task, answer.now, case.show()));
 }
@@ -335,7 +376,7 @@ fn compare_choice_into(r: &mut Random, tally: &mut Tally, case: &Case, slots: [u
         return;
     };
     let expected = in_words(w, 1, given);
-    let got = library::choice(&case.numbers, case.count, case.charge, &mut kept.now, &mut worst.now, &mut answer.now);
+    let got = library::choice(&case.numbers, case.count, case.charge, &case.frame, &mut kept.now, &mut worst.now, &mut answer.now);
     if expected.is_ok() {
         tally.answered(2, &case.sheet());
     }
@@ -364,7 +405,7 @@ fn compare_choice_evaluations(tally: &mut Tally, case: &Case, chosen: &Chosen, b
     let (mut fit, mut sum) = (true, 0);
     for task in (0..sheet.count).filter(|&i| !(chosen.high_only && sheet.task(i).low)) {
         let mut answer = [0; 4];
-        let code = library::verdict(&case.numbers, case.count, case.charge, task as u32, &chosen.kept, &mut answer);
+        let code = library::verdict(&case.numbers, case.count, case.charge, &case.frame, task as u32, &chosen.kept, &mut answer);
         (fit, sum) = (fit && (code, answer[0], answer[2]) == (0, 2, chosen.worst[task] as u64), sum + answer[3]);
     }
     tally.added_up += 1;
@@ -414,7 +455,7 @@ fn compare_run(r: &mut Random, tally: &mut Tally, case: &Case, ticks: u64) {
     let (mut ready, mut finish) = (words(r, a), words(r, b));
     let expected = reference::run(&case.sheet(), &case.kept, case.n as usize, &case.reference_list(), a, b);
     let got = library::run(
-        &case.numbers, case.count, case.charge, &case.kept, case.n, case.library_list(), &mut ready.now, &mut finish.now,
+        &case.numbers, case.count, case.charge, &case.frame, &case.kept, case.n, case.library_list(), &mut ready.now, &mut finish.now,
     );
     let columns = expected.as_ref().ok();
     if columns.is_some() {
@@ -434,7 +475,7 @@ fn compare_jump(r: &mut Random, tally: &mut Tally, case: &Case) {
     let given = reference::jump(&case.sheet(), &case.kept, case.n as usize, &case.reference_list(), a, b);
     let expected = in_words(w, 1, given);
     let got = library::jump(
-        &case.numbers, case.count, case.charge, &case.kept, case.n, case.library_list(), &mut ready.now, &mut finish.now, &mut answer.now,
+        &case.numbers, case.count, case.charge, &case.frame, &case.kept, case.n, case.library_list(), &mut ready.now, &mut finish.now, &mut answer.now,
     );
     let jumped = expected.as_ref().ok();
     let stops = jumped.map(|j| [j.stops]);
@@ -466,10 +507,10 @@ fn compare_jump_with_run(r: &mut Random, tally: &mut Tally, case: &Case, ticks: 
     let (mut ready, mut finish, mut answer) = (words(r, a), words(r, b), words(r, 1));
     let (mut ticked_ready, mut ticked_finish) = (ready.held.clone(), finish.held.clone());
     let got = library::jump(
-        &case.numbers, case.count, case.charge, &case.kept, case.n, case.library_list(), &mut ready.now, &mut finish.now, &mut answer.now,
+        &case.numbers, case.count, case.charge, &case.frame, &case.kept, case.n, case.library_list(), &mut ready.now, &mut finish.now, &mut answer.now,
     );
     let ticked = library::run(
-        &case.numbers, case.count, case.charge, &case.kept, case.n, case.library_list(), &mut ticked_ready, &mut ticked_finish,
+        &case.numbers, case.count, case.charge, &case.frame, &case.kept, case.n, case.library_list(), &mut ticked_ready, &mut ticked_finish,
     );
     let same = got == ticked
         && (&ready.now, &finish.now) == (&ticked_ready, &ticked_finish)
@@ -684,7 +725,7 @@ fn check_reference_run(r: &mut Random, cases: u32) {
         let finish = reference::finish_ticks(sheet.charge, &list, &ready);
         assert_eq!(finish, reference::finish_ticks_by_tick(sheet.charge, &list, &ready));
         assert_eq!(finish, reference::finish_ticks_by_job(sheet.charge, &list, &ready));
-        let at_once = reference::finish_from(sheet.charge, &list, &ready);
+        let at_once = reference::finish_from(&None, sheet.charge, &list, &ready);
         assert_eq!(finish, at_once.iter().map(|t| t + 1).collect::<Vec<i64>>());
         assert_eq!(finish, reference::finish_ticks(0, &with_costs(&list, sheet.charge), &ready));
         let end = finish.iter().max().map_or(0, |&f| f);
@@ -841,9 +882,9 @@ fn compare_moved(tally: &mut Tally, case: &Case, later: &Case, by: u64) {
     let n = case.n as usize;
     let (mut ready, mut finish) = (vec![0; n], vec![0; n]);
     let (mut late_ready, mut late_finish) = (vec![0; n], vec![0; n]);
-    let ticked = library::run(&case.numbers, case.count, case.charge, &case.kept, case.n, case.library_list(), &mut ready, &mut finish);
+    let ticked = library::run(&case.numbers, case.count, case.charge, &case.frame, &case.kept, case.n, case.library_list(), &mut ready, &mut finish);
     let list = later.library_list();
-    let got = library::jump(&case.numbers, case.count, case.charge, &case.kept, case.n, list, &mut late_ready, &mut late_finish, &mut [0]);
+    let got = library::jump(&case.numbers, case.count, case.charge, &case.frame, &case.kept, case.n, list, &mut late_ready, &mut late_finish, &mut [0]);
     let moved = |ticks: &[u64]| ticks.iter().map(|t| t + by).collect::<Vec<u64>>();
     let same = ticked == 0 && (moved(&ready), moved(&finish)) == (late_ready, late_finish);
     tally.note(9, None, got, same, || format!("{} ticks later than {}", by, case.show()));
@@ -869,7 +910,7 @@ fn largest_finish(r: &mut Random, tally: &mut Tally) {
         let (mut ready, mut finish) = (words(r, 1024), words(r, 1024));
         if tick == MAX_SHORT_TICK {
             let got = library::run(
-                &case.numbers, case.count, case.charge, &case.kept, case.n, case.library_list(), &mut ready.now, &mut finish.now,
+                &case.numbers, case.count, case.charge, &case.frame, &case.kept, case.n, case.library_list(), &mut ready.now, &mut finish.now,
             );
             let same = ready.holds(Some(&expected.0)) && finish.holds(Some(&expected.1));
             tally.note(5, None, got, same, || format!("last ready {} finish {}", ready.now[1023], finish.now[1023]));
@@ -1389,10 +1430,12 @@ fn charge_law(r: &mut Random, tally: &mut Tally, cases: u32, releases: &[usize])
     }
 }
 
-/// The calls of two cases with as many tasks and releases: the same codes and slots. With the choice too, where so stated.
+/// The calls of two cases with as many tasks and releases: the same codes and slots. With the choice too, where so stated. Where one of
+/// them has a frame its number of evaluations is 0, and that of the other is not.
 fn compare_both(tally: &mut Tally, both: [&Case; 2], choices: bool) {
     let (tasks, n) = (both[0].count.min(40) as usize, both[0].n.min(1030) as usize);
     let ticks = both[0].ends_by([n, n], SOON) && tally.may_tick(both[0]);
+    let one_framed = both[0].frame.is_empty() != both[1].frame.is_empty();
     let mut same = |call: usize, [a, b]: [(u64, Vec<Vec<u64>>); 2]| {
         tally.note(call, None, 0, a == b, || format!("{:?} {}, and {:?} {}", a, both[0].show(), b, both[1].show()));
     };
@@ -1405,14 +1448,19 @@ fn compare_both(tally: &mut Tally, both: [&Case; 2], choices: bool) {
         if reference::verdict(&both[0].sheet(), task as usize, &both[0].kept, &mut Budget::of(40_000)).is_ok() {
             same(1, both.map(|c| {
                 let mut answer = vec![7; 4];
-                (library::verdict(&c.numbers, c.count, c.charge, task, &c.kept, &mut answer), vec![answer])
+                let code = library::verdict(&c.numbers, c.count, c.charge, &c.frame, task, &c.kept, &mut answer);
+                if one_framed && code == 0 {
+                    // of a verdict with a frame it is 0, of one without it at least 1
+                    answer[3] = ((answer[3] == 0) != c.frame.is_empty()) as u64;
+                }
+                (code, vec![answer])
             }));
         }
     }
     if choices {
         same(2, both.map(|c| {
             let (mut kept, mut worst, mut answer) = (vec![7; tasks], vec![7; tasks], vec![7; 1]);
-            let code = library::choice(&c.numbers, c.count, c.charge, &mut kept, &mut worst, &mut answer);
+            let code = library::choice(&c.numbers, c.count, c.charge, &c.frame, &mut kept, &mut worst, &mut answer);
             (code, vec![wide(&kept), wide(&worst), answer])
         }));
     }
@@ -1427,14 +1475,14 @@ fn compare_both(tally: &mut Tally, both: [&Case; 2], choices: bool) {
     if ticks {
         same(5, both.map(|c| {
             let (mut ready, mut finish) = (vec![7; n], vec![7; n]);
-            let code = library::run(&c.numbers, c.count, c.charge, &c.kept, c.n, c.library_list(), &mut ready, &mut finish);
+            let code = library::run(&c.numbers, c.count, c.charge, &c.frame, &c.kept, c.n, c.library_list(), &mut ready, &mut finish);
             (code, vec![ready, finish])
         }));
     }
     same(9, both.map(|c| {
         let (mut ready, mut finish, mut stops) = (vec![7; n], vec![7; n], vec![7; 1]);
         let lent = (&mut ready[..], &mut finish[..], &mut stops[..]);
-        let code = library::jump(&c.numbers, c.count, c.charge, &c.kept, c.n, c.library_list(), lent.0, lent.1, lent.2);
+        let code = library::jump(&c.numbers, c.count, c.charge, &c.frame, &c.kept, c.n, c.library_list(), lent.0, lent.1, lent.2);
         (code, vec![ready, finish, stops])
     }));
 }
@@ -1683,6 +1731,414 @@ fn marked_files(r: &mut Random, tally: &mut Tally, cases: u32) {
     }
 }
 
+// ---- Frames ------------------------------------------------------------------------------------------------------------
+
+/// W(q) as the reference finds it with a frame, by the steps of the demand and a count of our ticks, is what its words give: every start,
+/// every tick. A frame that is all window has the verdicts, choices and runs of none, and no evaluations.
+fn check_reference_frames(r: &mut Random, cases: u32) {
+    for _ in 0..cases {
+        let sheet = small_sheet(r);
+        let sheet = with_fitting_charge(r, sheet);
+        let sheet = with_marks(r, sheet);
+        let most = r.of(&[1, 2, 5, 12, 40]);
+        let framed = sheet.framed(Some(frame_for(r, most, MAX_WINDOWS)));
+        let kept = kept_for(r, &sheet);
+        let i = r.within(0, sheet.count as u32 - 1) as usize;
+        let budget = &mut Budget::of(400_000);
+        let mut windows = reference::Windows::of(&framed, &kept, i, budget);
+        for q in 0..3 {
+            let Ok(literal) = reference::window_by_tick(&framed, &kept, i, q, &mut Budget::of(60_000)) else { break };
+            let Ok(found) = windows.get(q) else { break };
+            assert_eq!(found, literal);
+        }
+        let (plain, whole) = (sheet.clone(), sheet.framed(Some(all_window(most))));
+        let budget = || Budget::of(40_000);
+        let (none, all) = (reference::judge(&plain, &kept, i, &mut budget()), reference::judge(&whole, &kept, i, &mut budget()));
+        if let (Ok(none), Ok(all)) = (none, all) {
+            assert_eq!(Judged { evaluations: 0, ..none }, all);
+        }
+        let both = [&plain, &whole].map(|s| reference::choice(s, 32, 32, &mut budget()));
+        if let [Ok(none), Ok(all)] = both {
+            assert_eq!(none, all);
+        }
+        let list = list_for(r, &sheet, 8, 8);
+        let ready = reference::ready_ticks(&sheet, &kept, &list);
+        let by_tick = reference::finish_by_tick(&framed.frame, sheet.charge, &list, &ready);
+        assert_eq!(by_tick, reference::finish_by_event(&framed.frame, sheet.charge, &list, &ready));
+        assert_eq!(by_tick, reference::finish_by_job(&framed.frame, sheet.charge, &list, &ready));
+        let finish = reference::finish_by_tick(&whole.frame, sheet.charge, &list, &ready);
+        assert_eq!(finish, reference::finish_ticks_by_tick(sheet.charge, &list, &ready));
+    }
+}
+
+/// What a choice with a frame promises, on runs of the reference: with its kept jitters no job of a task that it judged takes longer than the
+/// worst value where the releases of that task are legal. Where there is no choice, or a task was not judged, some jobs are late.
+fn check_reference_promises(r: &mut Random, cases: u32) {
+    let (mut judged, mut late) = (0, 0);
+    for _ in 0..cases {
+        let sheet = small_sheet(r);
+        let sheet = with_part_charged(r, sheet);
+        let sheet = with_marks(r, sheet);
+        let most = r.of(&[2, 5, 12]);
+        let sheet = sheet.framed(Some(frame_for(r, most, MAX_WINDOWS)));
+        let chosen = match reference::choice(&sheet, 32, 32, &mut Budget::of(160_000)) {
+            Ok(Ok(chosen)) => Some(chosen),
+            Ok(Err(_)) => None,
+            Err(_) => continue,
+        };
+        let kept = chosen.as_ref().map_or(sheet.tasks.iter().map(|t| t.j).collect(), |c| c.kept.clone());
+        for _ in 0..4 {
+            let n = r.within(1, 20) as usize;
+            let list = legal_list_for(r, &sheet, n);
+            let ready = reference::ready_ticks(&sheet, &kept, &list);
+            let finish = reference::finish_by_event(&sheet.frame, sheet.charge, &list, &ready);
+            for (x, f) in list.iter().zip(&finish) {
+                let t = sheet.task(x.task as usize);
+                let over = f - x.tick as i64 > t.d as i64;
+                match &chosen {
+                    Some(c) if !(c.high_only && t.low) => {
+                        assert!(!over && f - x.tick as i64 <= c.worst[x.task as usize] as i64);
+                        judged += 1;
+                    }
+                    _ => late += over as u64,
+                }
+            }
+        }
+    }
+    assert!(judged > 0 && late > 0);
+}
+
+/// The calls that take a frame.
+fn compare_framed(r: &mut Random, tally: &mut Tally, case: &Case, task: u32, budget: u64) {
+    compare_verdict(r, tally, case, task, budget);
+    compare_choice(r, tally, case, 4 * budget);
+    compare_run(r, tally, case, SOON);
+    compare_jump(r, tally, case);
+    compare_jump_with_run(r, tally, case, SOON);
+}
+
+/// Notes whether the verdict of a task, the choice and the run of a sound case differ from those without its frame.
+fn note_unlike(tally: &mut Tally, case: &Case, task: usize) {
+    let both = [case.sheet(), case.sheet().framed(None)];
+    let budget = || Budget::of(160_000);
+    let verdicts = both.each_ref().map(|s| reference::verdict_of(s, &case.kept, task, &mut budget()).ok());
+    let choices = both.each_ref().map(|s| reference::choice(s, 32, 32, &mut budget()).ok());
+    let n = case.n as usize;
+    let runs = both.each_ref().map(|s| reference::run(s, &case.kept, n, &case.reference_list(), n, n).ok());
+    let kinds = verdicts.map(|v| v.as_ref().map(std::mem::discriminant));
+    let judged = verdicts.iter().all(|v| v.is_some());
+    let seen = [
+        (judged, kinds[0] != kinds[1]),
+        (judged, verdicts[0] != verdicts[1]),
+        (choices.iter().all(|c| c.is_some()), choices[0] != choices[1]),
+        (n > 0, runs[0] != runs[1]),
+    ];
+    for (k, (compared, unlike)) in seen.into_iter().enumerate() {
+        tally.beside_none[k] += compared as u64;
+        tally.unlike_none[k] += (compared && unlike) as u64;
+    }
+}
+
+/// Every frame of up to so many ticks with every set of windows, each with some small sheets, kept jitters and lists.
+fn small_frames(r: &mut Random, tally: &mut Tally, ticks: u32, sheets: u32) {
+    for frame in (1..=ticks).flat_map(all_frames) {
+        for _ in 0..sheets {
+            let sheet = small_sheet(r);
+            let sheet = if r.once_in(2) { sheet } else { with_part_charged(r, sheet) };
+            let sheet = with_marks(r, sheet).framed(Some(frame.clone()));
+            let (n, step) = (r.within(0, 10) as usize, r.of(&[1, 4, 12]));
+            let list = if r.once_in(3) { legal_list_for(r, &sheet, n) } else { list_for(r, &sheet, n, step) };
+            let case = Case::sound(r, &sheet, &list);
+            let task = r.within(0, sheet.count as u32 - 1);
+            compare_framed(r, tally, &case, task, 60_000);
+            note_unlike(tally, &case, task as usize);
+        }
+    }
+}
+
+/// Frames of up to so many ticks and 16 windows with sheets of any size, sound and damaged.
+fn any_frames(r: &mut Random, tally: &mut Tally, cases: u32, ticks: &[u32], budget: u64) {
+    for _ in 0..cases {
+        let (tasks, top) = (r.of(&[1, 2, 3, 5]), r.of(&[40, 1_000, 20_000, 1_000_000]));
+        let sheet = if r.once_in(3) { small_sheet(r) } else { loaded_sheet(r, tasks, top) };
+        let sheet = any_charge(r, sheet);
+        let sheet = with_marks(r, sheet);
+        let most = r.of(ticks);
+        let sheet = sheet.framed(Some(frame_for(r, most, MAX_WINDOWS)));
+        let (n, step) = (r.within(0, 12) as usize, r.of(&[0, 3, 40, 2_000, 20_000]));
+        let mut list = if r.once_in(3) { legal_list_for(r, &sheet, n) } else { list_for(r, &sheet, n, step) };
+        if r.once_in(8) {
+            damage_list(r, &sheet, &mut list);
+        }
+        let mut case = Case::sound(r, &sheet, &list);
+        match r.within(0, 7) {
+            0 => case.damage(r),
+            1 => case.damage_frame(r),
+            _ => (),
+        }
+        let task = r.within(0, case.count.clamp(1, 40) - 1);
+        compare_framed(r, tally, &case, task, budget);
+        if r.once_in(8) {
+            // the other calls take no frame and ignore whether it is sound
+            compare_all(r, tally, &case);
+        }
+    }
+}
+
+/// Walks with a frame that reach the horizon in a few steps, and verdicts whose W(q) is the horizon or one tick more.
+fn framed_horizons(r: &mut Random, tally: &mut Tally) {
+    let large = Task::high(MAX_TIME, 0, MAX_TIME, MAX_TIME);
+    for tasks in [1, 2, 3, 10, 11] {
+        for (ticks, windows) in [(1, vec![(0, 1)]), (2, vec![(1, 1)]), (10, vec![(0, 9)]), (10, vec![(3, 1)]), (64, vec![(0, 1), (2, 62)])] {
+            let sheet = Sheet::of(&vec![large; tasks]).framed(Some(Frame::of(ticks, &windows)));
+            let case = Case::sound(r, &sheet, &[]);
+            for task in 0..tasks as u32 {
+                compare_verdict(r, tally, &case, task, 10_000_000);
+            }
+            compare_choice(r, tally, &case, 10_000_000);
+        }
+    }
+    // one window of one tick: from the tick after it on, W(0) is E frames
+    for (ticks, e) in [(10_000, 999), (10_000, 1_000), (10_000, 1_001), (9_999, 1_000), (9_999, 1_001), (20, 500_000), (20, 500_001), (10, 1_000_000)] {
+        let first = r.within(0, ticks - 1);
+        let sheet = Sheet::of(&[Task::high(MAX_TIME, 0, e, MAX_TIME)]).framed(Some(Frame::of(ticks, &[(first, 1)])));
+        let mut found = Budget::of(u64::MAX);
+        let w = reference::Windows::of(&sheet, &[0], 0, &mut found).get(0).ok().unwrap();
+        let whole = e as i64 * ticks as i64;
+        assert_eq!(w, Some(whole).filter(|&w| w <= HORIZON));
+        let case = Case::sound(r, &sheet, &[]);
+        compare_verdict(r, tally, &case, 0, 10_000_000);
+        compare_choice(r, tally, &case, 10_000_000);
+    }
+}
+
+/// Rows of a frame that break one rule, each at its edge, and the place; the last few break two of them, and the first decides.
+fn broken_frames() -> Vec<(Vec<u32>, u64)> {
+    let mut all = vec![
+        (vec![0], 17),
+        (vec![MAX_FRAME + 1, 1, 0, 1], 17),
+        (vec![u32::MAX, 1, 0, 1], 17),
+        (vec![10], 16),
+        (vec![10, 0, 0, 1], 16),
+        (vec![MAX_FRAME, u32::MAX, 0, 1], 16),
+        (vec![0, 17, 0, 0], 17),
+        (vec![MAX_FRAME + 1, 0], 17),
+        (vec![10, 17, 0, 0], 16),
+        (vec![10, 0, 11, 0], 16),
+        (vec![10, 2, 4, 7, 11, 0], 0),
+        (vec![10, 2, 4, 0, 4, 1], 0),
+    ];
+    let spread = |count: u32| -> Vec<u32> { [100, count].into_iter().chain((0..count).flat_map(|k| [6 * k, 5])).collect() };
+    all.push((spread(17), 16));
+    for k in 0..MAX_WINDOWS {
+        // the change of window k: its first tick and its length, where the one before it ends at 6k − 1
+        let (at, first) = (2 + 2 * k, 6 * k as u32);
+        let mut add = |first: u32, length: u32| {
+            let mut row = spread(16);
+            (row[at], row[at + 1]) = (first, length);
+            all.push((row, k as u64));
+        };
+        add(first, 0);
+        add(100, 1);
+        add(101, 1);
+        add(first, 101 - first);
+        add(first + 3, 98 - first);
+        add(u32::MAX, 1);
+        add(u32::MAX, u32::MAX);
+        add(first, u32::MAX);
+        // first + length is 2^32 and a number inside the frame
+        add(first + 2, u32::MAX);
+        add(u32::MAX - 1, first + 4);
+        if k > 0 {
+            add(first - 1, 5);
+            add(first - 1, 1);
+            add(first - 2, 5);
+            add(first - 6, 1);
+            add(0, 1);
+        }
+        all.push((spread(16)[..at].to_vec(), k as u64));
+        all.push((spread(16)[..at + 1].to_vec(), k as u64));
+    }
+    all
+}
+
+/// Frames that keep every rule at its edge.
+fn edge_frames() -> Vec<Frame> {
+    let teeth: Vec<(u32, u32)> = (0..16).map(|k| (2 * k, 1)).collect();
+    let last: Vec<(u32, u32)> = (0..16).map(|k| (MAX_FRAME - 31 + 2 * k, 1)).collect();
+    let mut long = last.clone();
+    long[0] = (0, MAX_FRAME - 30);
+    vec![
+        Frame::of(1, &[(0, 1)]),
+        Frame::of(MAX_FRAME, &[(0, 1)]),
+        Frame::of(MAX_FRAME, &[(MAX_FRAME - 1, 1)]),
+        Frame::of(MAX_FRAME, &[(0, MAX_FRAME)]),
+        Frame::of(31, &teeth),
+        Frame::of(32, &teeth),
+        Frame::of(MAX_FRAME, &teeth),
+        Frame::of(MAX_FRAME, &last),
+        Frame::of(MAX_FRAME, &long),
+        Frame::of(3, &[(0, 1), (2, 1)]),
+        Frame::of(2, &[(1, 1)]),
+    ]
+}
+
+/// Each rule of a frame at its edge, alone and beside each other thing that a call refuses: the sheet's own checks, 17 among them, come
+/// before 18, and all others after it. Nothing is written where it is refused.
+fn frame_orders(r: &mut Random, tally: &mut Tally) {
+    let changes: [(fn(&mut Case), Option<(u32, u64)>); 14] = [
+        (|_| (), None),
+        (|c| c.count = 0, Some((5, 0))),
+        (|c| c.count = 33, Some((4, 32))),
+        (|c| c.numbers[7] = 0, Some((6, 1))),
+        (|c| c.charge = 5, Some((17, 0))),
+        (|c| (c.charge, c.numbers[12]) = (4, 7), Some((17, 2))),
+        (|c| c.n = 1025, None),
+        (|c| c.kept.clear(), None),
+        (|c| c.task.clear(), None),
+        (|c| c.kept[1] = 8, None),
+        (|c| c.task[1] = 3, None),
+        (|c| c.tick[1] = MAX_TICK + 1, None),
+        (|c| c.cost[0] = 0, None),
+        (|c| c.charge = 4, None),
+    ];
+    let sound = Case::sound(r, &sums::printed_sheet(), &sums::printed_releases());
+    let edges: Vec<(Vec<u32>, Option<u64>)> = edge_frames().into_iter().map(|f| (frame_numbers_of(&Some(f)), None)).collect();
+    let broken = broken_frames().into_iter().map(|(row, place)| (row, Some(place)));
+    for (row, place) in edges.into_iter().chain(broken) {
+        for (change, before) in changes {
+            let mut case = Case { kept: vec![1, 3, 0], frame: row.clone(), ..sound.clone() };
+            change(&mut case);
+            let expected = before.or(place.map(|p| (18, p))).map(|(number, place)| Refusal { number, place });
+            assert_eq!(reference::check_framed(&case.sheet()).err(), expected, "{:?}", row);
+            for task in [1, 7] {
+                compare_framed(r, tally, &case, task, 400_000);
+            }
+            if let Some(refusal) = expected {
+                compare_refused(r, tally, &case, refusal);
+            }
+        }
+    }
+}
+
+/// The four calls that take a frame, with no slot for any answer: this refusal, which comes before 13, in each.
+fn compare_refused(r: &mut Random, tally: &mut Tally, case: &Case, refusal: Refusal) {
+    for task in [0, 7, u32::MAX] {
+        let got = library::verdict(&case.numbers, case.count, case.charge, &case.frame, task, &case.kept, &mut []);
+        tally.note(1, Some(refusal), got, true, || format!("no slot, task {} {}", task, case.show()));
+    }
+    let got = library::choice(&case.numbers, case.count, case.charge, &case.frame, &mut [], &mut [], &mut []);
+    tally.note(2, Some(refusal), got, true, || format!("no slot {}", case.show()));
+    let got = library::run(&case.numbers, case.count, case.charge, &case.frame, &case.kept, case.n, case.library_list(), &mut [], &mut []);
+    tally.note(5, Some(refusal), got, true, || format!("no slot {}", case.show()));
+    let (mut ready, mut finish, mut answer) = (words(r, 4), words(r, 4), words(r, 1));
+    let lent = (&mut ready.now[..], &mut finish.now[..], &mut answer.now[..]);
+    let got = library::jump(&case.numbers, case.count, case.charge, &case.frame, &case.kept, case.n, case.library_list(), lent.0, lent.1, lent.2);
+    let same = ready.holds(None) && finish.holds(None) && answer.holds(None);
+    tally.note(9, Some(refusal), got, same, || case.show());
+}
+
+/// The row of a frame cut at every length, and windows past the count with any numbers.
+fn frame_rows(r: &mut Random, tally: &mut Tally, cases: u32) {
+    for _ in 0..cases {
+        let sheet = small_sheet(r);
+        let sheet = with_marks(r, sheet);
+        let list = list_for(r, &sheet, 6, 8);
+        let case = Case::sound(r, &sheet, &list);
+        let most = r.of(&[5, 31, 40, 200]);
+        let frame = frame_for(r, most, MAX_WINDOWS);
+        let row = given_frame_of(r, &Some(frame));
+        for length in 0..=row.len() {
+            let cut = Case { frame: row[..length].to_vec(), ..case.clone() };
+            compare_framed(r, tally, &cut, 0, 60_000);
+        }
+        // one window less: the numbers of the last one do not matter any more
+        let fewer = Case { frame: [&[row[0], row[1] - 1], &row[2..]].concat(), ..case.clone() };
+        compare_framed(r, tally, &fewer, 0, 60_000);
+    }
+}
+
+/// A frame that is all window, and no frame, both of the archive: the same codes and slots but for the number of evaluations, which is 0.
+fn frame_law(r: &mut Random, tally: &mut Tally, cases: u32, releases: &[usize]) {
+    for _ in 0..cases {
+        let (tasks, top) = (r.of(&[1, 2, 5, 32]), r.of(&[40, 1_000, 20_000, 1_000_000]));
+        let sheet = if r.once_in(2) { small_sheet(r) } else { loaded_sheet(r, tasks, top) };
+        let sheet = any_charge(r, sheet);
+        let sheet = with_marks(r, sheet);
+        let (n, step) = (r.of(releases), r.of(&[0, 3, 40, 2_000]));
+        let list = if r.once_in(3) { legal_list_for(r, &sheet, n) } else { list_for(r, &sheet, n, step) };
+        let mut case = Case::sound(r, &sheet, &list);
+        if r.once_in(5) {
+            case.damage(r);
+        }
+        let ticks = r.of(&[1, 2, 7, 100, MAX_FRAME]);
+        let whole = case.with_frame(Some(all_window(ticks)));
+        let choices = reference::choice(&case.sheet(), 40, 40, &mut Budget::of(160_000)).is_ok();
+        compare_both(tally, [&case, &whole], choices);
+    }
+}
+
+/// Lists of each form with a frame, as they are and moved to long ticks: both runs of the archive where the ticks are not too many, and the
+/// jumping run where they are.
+fn framed_lists(r: &mut Random, tally: &mut Tally, cases: u32, sizes: &[usize], ticks: &[u32]) {
+    for _ in 0..cases {
+        for form in FORMS {
+            let (n, charge) = (r.of(sizes), form_charge(r));
+            let (sheet, list) = form(r, n, charge);
+            let most = r.of(ticks);
+            let sheet = sheet.framed(Some(frame_for(r, most, MAX_WINDOWS)));
+            let case = Case::sound(r, &sheet, &list);
+            compare_run(r, tally, &case, SOON);
+            compare_jump(r, tally, &case);
+            compare_jump_with_run(r, tally, &case, SOON);
+            let tick = r.of(&MIDDLE_TICKS);
+            let by = way_to(r, &list, tick);
+            let later = Case { tick: case.tick.iter().map(|t| t + by).collect(), ..case.clone() };
+            compare_jump(r, tally, &later);
+            // by whole frames later the run is the same, so much later
+            let by = by / sheet.frame.as_ref().unwrap().ticks as u64 * sheet.frame.as_ref().unwrap().ticks as u64;
+            let later = Case { tick: case.tick.iter().map(|t| t + by).collect(), ..case.clone() };
+            if case.ends_by([n, n], SOON) && tally.may_tick(&case) {
+                compare_moved(tally, &case, &later, by);
+            }
+        }
+    }
+}
+
+/// The largest finish with a frame: 1,024 jobs of the largest cost at the last tick, of each frame of 10,000 ticks one is ours, the one
+/// before the first in which a job may run. With the largest charge it is the same.
+fn largest_framed_finish(r: &mut Random, tally: &mut Tally) {
+    for charge in [0, 255] {
+        let cost = MAX_TIME - charge as u32;
+        let frame = Frame::of(MAX_FRAME, &[((MAX_TICK % MAX_FRAME as u64) as u32, 1)]);
+        let sheet = Sheet::of(&[Task::high(MAX_TIME, 0, cost, MAX_TIME)]).charged(charge).framed(Some(frame));
+        let case = Case::sound(r, &sheet, &[Release { task: 0, tick: MAX_TICK, cost }; 1024]);
+        let jumped = reference::jump(&case.sheet(), &case.kept, 1024, &case.reference_list(), 1024, 1024).unwrap();
+        assert_eq!((jumped.ready[1023], jumped.finish[1023], jumped.stops), (1_000_001_023_000_000, 1_010_240_000_000_001, 2_048));
+        for _ in 0..10 {
+            compare_jump(r, tally, &case);
+        }
+    }
+}
+
+/// The sheets and lists with a frame that were worked out by hand.
+fn framed_by_hand(r: &mut Random, tally: &mut Tally) {
+    for (sheet, kept, task, _) in sums::framed_verdicts() {
+        for _ in 0..10 {
+            let case = Case { kept: kept.clone(), ..Case::sound(r, &sheet, &[]) };
+            compare_verdict(r, tally, &case, task as u32, 1_000_000);
+            compare_choice(r, tally, &case, 1_000_000);
+        }
+    }
+    for (sheet, list, _) in sums::framed_runs() {
+        for _ in 0..10 {
+            let case = Case { kept: vec![0; sheet.count], ..Case::sound(r, &sheet, &list) };
+            compare_run(r, tally, &case, SOON);
+            compare_jump(r, tally, &case);
+        }
+    }
+}
+
 /// Some tasks of one period P and one kept jitter K above a task of which W(0) is kP − K: what they leave free of each P up to there is
 /// its cost and K. There the arrival count steps, a tick later it is one more.
 fn sheet_at_step(above: u32, p: u32, k: u32, keep: u32) -> Option<(Sheet, Vec<u32>)> {
@@ -1775,7 +2231,7 @@ fn long_walks(r: &mut Random, tally: &mut Tally) {
 fn compare_choice_by_verdicts(tally: &mut Tally, case: &Case) {
     let (sheet, n) = (case.sheet(), case.count as usize);
     let (mut kept, mut worst, mut answer) = (vec![0; n], vec![0; n], [0; 1]);
-    if library::choice(&case.numbers, case.count, case.charge, &mut kept, &mut worst, &mut answer) != 0 {
+    if library::choice(&case.numbers, case.count, case.charge, &case.frame, &mut kept, &mut worst, &mut answer) != 0 {
         return;
     }
     for i in 0..n {
@@ -1843,14 +2299,14 @@ fn short_answers(r: &mut Random, tally: &mut Tally) {
         let got = library::arrival_count(&case.numbers, case.count, case.charge, task, &case.kept, 7, &mut answer.now[..0]);
         tally.note(0, refused(count.0, count.1), got, answer.holds(None), || format!("no slot, task {} {}", task, case.show()));
         for slots in 0..=3 {
-            let got = library::verdict(&case.numbers, case.count, case.charge, task, &case.kept, &mut answer.now[..slots]);
+            let got = library::verdict(&case.numbers, case.count, case.charge, &case.frame, task, &case.kept, &mut answer.now[..slots]);
             tally.note(1, refused(verdict.0, verdict.1), got, answer.holds(None), || format!("{slots} slots, task {task} {}", case.show()));
         }
     }
     // four slots and more: late at q = 0 with R(0) = 9 after one t
     for slots in 4..=6 {
         let (case, mut answer) = (changed(|_| ()), words(r, slots));
-        let got = library::verdict(&case.numbers, case.count, case.charge, 1, &case.kept, &mut answer.now);
+        let got = library::verdict(&case.numbers, case.count, case.charge, &case.frame, 1, &case.kept, &mut answer.now);
         tally.note(1, None, got, answer.holds(Some(&[1, 0, 9, 1])), || format!("{} slots: {:?}", slots, answer.now));
     }
 
@@ -1886,7 +2342,7 @@ fn short_answers(r: &mut Random, tally: &mut Tally) {
     for (change, [a, b, w], (number, place)) in choices {
         let case = changed(change);
         let (mut kept, mut worst, mut answer) = (numbers(r, a), numbers(r, b), words(r, w));
-        let got = library::choice(&case.numbers, case.count, case.charge, &mut kept.now, &mut worst.now, &mut answer.now);
+        let got = library::choice(&case.numbers, case.count, case.charge, &case.frame, &mut kept.now, &mut worst.now, &mut answer.now);
         let same = kept.holds(None) && worst.holds(None) && answer.holds(None);
         tally.note(2, refused(number, place), got, same, || format!("slots {:?} {}", [a, b, w], case.show()));
         compare_choice_into(r, tally, &case, [a, b, w], 1_000_000);
@@ -1987,7 +2443,7 @@ fn short_answers(r: &mut Random, tally: &mut Tally) {
                 continue;
             };
             let lent = (&mut ready.now[..], &mut finish.now[..], &mut answer.now[..slots]);
-            let got = library::jump(&case.numbers, case.count, case.charge, &case.kept, case.n, case.library_list(), lent.0, lent.1, lent.2);
+            let got = library::jump(&case.numbers, case.count, case.charge, &case.frame, &case.kept, case.n, case.library_list(), lent.0, lent.1, lent.2);
             let same = ready.holds(None) && finish.holds(None) && answer.holds(None);
             tally.note(9, refused(number, place), got, same, || format!("{} slots for the answer {}", slots, case.show()));
         }
@@ -1995,7 +2451,7 @@ fn short_answers(r: &mut Random, tally: &mut Tally) {
             continue;
         }
         let got = library::run(
-            &case.numbers, case.count, case.charge, &case.kept, case.n, case.library_list(), &mut ready.now, &mut finish.now,
+            &case.numbers, case.count, case.charge, &case.frame, &case.kept, case.n, case.library_list(), &mut ready.now, &mut finish.now,
         );
         let expected = one.and_then(|(number, place)| refused(number, place));
         let same = expected.is_none() || (ready.holds(None) && finish.holds(None));
@@ -2107,6 +2563,8 @@ fn main() {
     timed("reference: texts there and back", || check_reference_texts(r, 20_000));
     timed("reference: a charge and costs with it", || check_reference_charge(r, 10_000));
     timed("reference: marks and late jobs", || check_reference_marks(r, 10_000));
+    timed("reference: frames by step and by tick", || check_reference_frames(r, 4_000));
+    timed("reference: frames and late jobs", || check_reference_promises(r, 4_000));
     timed("printed sheet", || printed(r, tally));
     timed("answers that are too short", || short_answers(r, tally));
     timed("small sheets and lists", || small(r, tally, 120_000));
@@ -2125,6 +2583,17 @@ fn main() {
     timed("the same with 1,024 releases", || mark_law(r, tally, 40, &[1024]));
     timed("marks: files", || mark_files(r, tally));
     timed("marks: files of high tasks and these", || marked_files(r, tally, 3_000));
+    timed("frames: by hand", || framed_by_hand(r, tally));
+    timed("frames: every one of up to 6 ticks", || small_frames(r, tally, 6, 60));
+    timed("frames: of up to 500 ticks", || any_frames(r, tally, 3_000, &[2, 5, 12, 31, 100, 500], 100_000));
+    timed("frames: of up to 10,000 ticks", || any_frames(r, tally, 300, &[2_000, MAX_FRAME], 4_000_000));
+    timed("frames: W(q) at the horizon", || framed_horizons(r, tally));
+    timed("frames: 18 and the other refusals", || frame_orders(r, tally));
+    timed("frames: rows cut at every number", || frame_rows(r, tally, 20));
+    timed("frames: all window", || frame_law(r, tally, 5_000, &[0, 1, 2, 5, 12, 40]));
+    timed("frames: bursts and so on", || framed_lists(r, tally, 300, &[2, 5, 33], &[2, 5, 12, 100, MAX_FRAME]));
+    timed("the same with 1,024 releases", || framed_lists(r, tally, 8, &[1024], &[5, 100, MAX_FRAME]));
+    timed("frames: largest finish", || largest_framed_finish(r, tally));
     timed("ticks at 1,000,000,000", || late_ticks(r, tally, 3));
     timed("ticks past it, up to the limit", || long_ticks(r, tally, 20_000, &[0, 1, 2, 5, 12]));
     timed("the same with 1,024 releases", || long_ticks(r, tally, 60, &[1023, 1024, 1024, 1025]));
@@ -2151,10 +2620,10 @@ fn main() {
     timed("evaluations counted by hand", || numbers_by_hand(r, tally));
     timed("long walks", || long_walks(r, tally));
     for (call, name) in NAMES.iter().enumerate() {
-        let (charged, marked) = (tally.charged[call], tally.marked[call]);
-        println!("{:<14} {:8} calls, {} answered with a charge, {} with a low task", name, tally.calls[call], charged, marked);
+        let (charged, marked, framed) = (tally.charged[call], tally.marked[call], tally.framed[call]);
+        println!("{:<14} {:8} calls, {} answered with a charge, {} with a low task, {} with a frame", name, tally.calls[call], charged, marked, framed);
     }
-    let each: Vec<String> = (1..18).map(|n| format!("{}: {}", n, tally.refusals[n])).collect();
+    let each: Vec<String> = (1..19).map(|n| format!("{}: {}", n, tally.refusals[n])).collect();
     println!("refusals by number  {}", each.join("  "));
     let [horizon, late, fits] = tally.verdicts;
     println!("verdicts  horizon {}  late {}  fits {}; too close {}; passed over {}", horizon, late, fits, tally.too_close, tally.passed_over);
@@ -2164,19 +2633,28 @@ fn main() {
     println!("charges with which a call was answered: {}", tally.charges.len());
     let ends: Vec<String> = ENDS.iter().zip(tally.ends).map(|(name, n)| format!("{name} {n}")).collect();
     println!("choices with low tasks  {}; last bytes of kind 6 refused {}", ends.join("  "), tally.wrong_marks.len());
+    let [horizon, late, fits] = tally.framed_verdicts;
+    println!("verdicts with a frame  horizon {}  late {}  fits {}", horizon, late, fits);
+    let unlike: Vec<String> = (0..4).map(|k| format!("{} {} of {}", UNLIKE[k], tally.unlike_none[k], tally.beside_none[k])).collect();
+    println!("unlike those without their frame  {}", unlike.join("  "));
     println!("largest ready tick {}, finish {}; too many ticks to be ticked through {}", tally.last_ready, tally.last_finish, tally.not_ticked);
     println!("outside comparison: {} calls, {} differences", tally.calls.iter().sum::<u64>(), tally.differences);
     let stops = tally.most_stops == 2 * MAX_RELEASES as u64 && tally.shared_stops > 0;
-    let ticks = (tally.last_ready, tally.last_finish) == (1_000_001_023_000_000, 1_000_001_024_000_001);
+    let ticks = (tally.last_ready, tally.last_finish) == (1_000_001_023_000_000, 1_010_240_000_000_001);
+    // a read and a load have no frame, the other calls on values ignore it or take it
+    let frames = (0..10).all(|call| (tally.framed[call] > 0) != matches!(call, 6 | 8))
+        && tally.frame_places.len() == 18
+        && !tally.framed_verdicts.contains(&0)
+        && !tally.unlike_none.contains(&0);
     // a load has no charge and no low task
     let charges = tally.charges.len() == 255 && (0..10).all(|call| (tally.charged[call] > 0) != (call == 8));
     let marks = tally.wrong_marks.len() == 255 && (0..10).all(|call| (tally.marked[call] > 0) != (call == 8));
     let ends = tally.ends.iter().all(|&n| n >= OFTEN);
     let lists = !tally.lists.contains(&0) && tally.most_evaluations > 1_000_000 && tally.added_up > 0;
-    let numbers = !(1..18).any(|n| tally.refusals[n] == 0) && !tally.verdicts.contains(&0);
-    let missing = !(numbers && lists && stops && ticks && charges && marks && ends);
+    let numbers = !(1..19).any(|n| tally.refusals[n] == 0) && !tally.verdicts.contains(&0);
+    let missing = !(numbers && lists && stops && ticks && charges && marks && ends && frames);
     if missing {
-        println!("some refusal, verdict, kind of list, number of evaluations or stops, largest tick, charge, mark or choice never came up");
+        println!("some refusal, verdict, kind of list, number of evaluations or stops, largest tick, charge, mark, frame or choice never came up");
         println!("or, of the choices with low tasks, not often enough");
     }
     std::process::exit(if tally.differences == 0 && !missing { 0 } else { 1 });

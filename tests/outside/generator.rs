@@ -1,7 +1,7 @@
-//! Seeded cases: sheets, kept jitters, lists of releases, files and texts, sound and damaged.
+//! Seeded cases: sheets, frames, kept jitters, lists of releases, files and texts, sound and damaged.
 
-use crate::reference::{add_release, add_task, encode, finish_ticks_by_job, text_of, Release, Sheet, Task};
-use crate::reference::{MAX_SHORT_TICK, MAX_TICK, MAX_TIME};
+use crate::reference::{add_release, add_task, encode, finish_ticks_by_job, text_of, Frame, Release, Sheet, Task};
+use crate::reference::{MAX_SHORT_TICK, MAX_TICK, MAX_TIME, MAX_WINDOWS};
 
 /// SplitMix64.
 pub struct Random {
@@ -221,7 +221,83 @@ pub fn sheet_of(numbers: &[u32], count: u32, charge: u8) -> Sheet {
             Task::high(p, j, e, d).marked(mark != 0)
         })
         .collect();
-    Sheet { count: count as usize, tasks, charge }
+    Sheet { count: count as usize, tasks, charge, frame: None }
+}
+
+// ---- Frames ------------------------------------------------------------------------------------------------------------
+
+/// The numbers of a frame of 16 windows as the archive takes them: ticks, count, and the first tick and the length of each window.
+pub const FRAME_NUMBERS: usize = 2 + 2 * MAX_WINDOWS;
+
+/// Numbers at the limits of a frame's ticks, count and windows, and beyond.
+pub const FRAME_EDGES: [u32; 14] =
+    [0, 1, 2, 15, 16, 17, 9_999, 10_000, 10_001, 1 << 31, (1 << 31) + 1, u32::MAX - 9_999, u32::MAX - 1, u32::MAX];
+
+/// The numbers of a frame up to its last window; none where there is no frame.
+pub fn frame_numbers_of(frame: &Option<Frame>) -> Vec<u32> {
+    frame.as_ref().map_or(Vec::new(), |f| {
+        [f.ticks, f.count as u32].into_iter().chain(f.windows.iter().flat_map(|&(first, length)| [first, length])).collect()
+    })
+}
+
+/// The same as they may be given: cut after the last window, or with any numbers past it, also past those of 16 windows.
+pub fn given_frame_of(r: &mut Random, frame: &Option<Frame>) -> Vec<u32> {
+    let mut row = frame_numbers_of(frame);
+    if row.is_empty() {
+        return row;
+    }
+    let length = r.of(&[row.len(), row.len() + 1, FRAME_NUMBERS, FRAME_NUMBERS, FRAME_NUMBERS + 3]);
+    while row.len() < length {
+        row.push(if r.once_in(3) { r.of(&FRAME_EDGES) } else { r.bits() as u32 });
+    }
+    row
+}
+
+/// The frame that a row of numbers gives: none where there is none, and numbers past the end count as 0.
+pub fn frame_of(row: &[u32]) -> Option<Frame> {
+    let at = |i: usize| row.get(i).copied().unwrap_or(0);
+    let windows = (0..MAX_WINDOWS).map(|k| (at(2 + 2 * k), at(3 + 2 * k))).collect();
+    if row.is_empty() { None } else { Some(Frame { ticks: at(0), count: at(1) as usize, windows }) }
+}
+
+/// The frame of so many ticks whose ours are those of a pattern, tick 0 in its lowest bit. The pattern has some.
+pub fn pattern_frame(ticks: u32, pattern: u32) -> Frame {
+    let ours = |t: u32| t < ticks && pattern >> t & 1 == 1;
+    let firsts = (0..ticks).filter(|&t| ours(t) && (t == 0 || !ours(t - 1)));
+    let windows: Vec<(u32, u32)> = firsts.map(|t| (t, (t..).take_while(|&u| ours(u)).count() as u32)).collect();
+    Frame::of(ticks, &windows)
+}
+
+/// Every frame of so many ticks.
+pub fn all_frames(ticks: u32) -> impl Iterator<Item = Frame> {
+    (1..1 << ticks).map(move |pattern| pattern_frame(ticks, pattern))
+}
+
+/// A frame of up to so many ticks with up to so many windows, sound: some windows or gaps are of one tick, some start at 0 or end with the
+/// frame.
+pub fn frame_for(r: &mut Random, most: u32, windows: usize) -> Frame {
+    let ticks = if r.once_in(2) { most } else { r.within(1, most) };
+    let count = r.within(1, windows.min((ticks as usize + 1) / 2) as u32);
+    // where windows begin and end
+    let mut cuts: Vec<u32> = Vec::new();
+    while cuts.len() < 2 * count as usize {
+        let cut = match r.within(0, 7) {
+            0 => 0,
+            1 => ticks,
+            2 | 3 => cuts.last().map_or(0, |c| c + 1),
+            _ => r.within(0, ticks),
+        };
+        if cut <= ticks && !cuts.contains(&cut) {
+            cuts.push(cut);
+        }
+    }
+    cuts.sort();
+    Frame::of(ticks, &cuts.chunks(2).map(|c| (c[0], c[1] - c[0])).collect::<Vec<_>>())
+}
+
+/// A frame that is all window.
+pub fn all_window(ticks: u32) -> Frame {
+    Frame::of(ticks, &[(0, ticks)])
 }
 
 /// Kept jitters for each task of a sheet, from 0 to J.

@@ -1,8 +1,9 @@
 /*
  * The constants of include/nolkrada.h: the limits of documents 01 and 02, the sizes of files and texts, the largest charge, the
- * largest finish and the most stops of a run, each refusal by its name, verdicts with their evaluations, and choices with marks, got
- * from the archive.
+ * largest finish and the most stops of a run, each refusal by its name, verdicts with their evaluations, choices with marks, and
+ * frames, got from the archive.
  */
+#include <stddef.h>
 #include <stdio.h>
 #include <string.h>
 
@@ -20,8 +21,20 @@ SAME(NOLKRADA_MAX_STOPS, 2 * NOLKRADA_MAX_RELEASES);
 SAME(NOLKRADA_MAX_TICK, 1000 * 1000 * NOLKRADA_MAX_SHORT_TICK);
 SAME(NOLKRADA_MAX_SHORT_TICK, 1000000000);
 SAME(sizeof NOLKRADA_MAX_SHORT_TICK, 8);
-/* Released at the last tick, and each job runs from the tick after. */
-SAME(NOLKRADA_MAX_FINISH, NOLKRADA_MAX_TICK + NOLKRADA_PICKUP + UINT64_C(1000000) * NOLKRADA_MAX_RELEASES);
+/* Released at the last tick, and each job runs from the tick after; with a frame in one tick of its largest number. */
+#define MOST_WORK (UINT64_C(1000000) * NOLKRADA_MAX_RELEASES)
+#define MAX_PLAIN_FINISH (NOLKRADA_MAX_TICK + NOLKRADA_PICKUP + MOST_WORK)
+SAME(MAX_PLAIN_FINISH, UINT64_C(1000001024000001));
+SAME(NOLKRADA_MAX_FINISH, NOLKRADA_MAX_TICK + NOLKRADA_PICKUP + MOST_WORK * NOLKRADA_MAX_FRAME);
+/* Ticks, count, and first tick and length of each window: the row of a frame, and the struct of the same layout. */
+SAME(NOLKRADA_FRAME_NUMBERS, 2 + 2 * NOLKRADA_MAX_WINDOWS);
+SAME(sizeof(struct nolkrada_frame), NOLKRADA_FRAME_NUMBERS * sizeof(uint32_t));
+SAME(_Alignof(struct nolkrada_frame), _Alignof(uint32_t));
+SAME(offsetof(struct nolkrada_frame, ticks), 0);
+SAME(offsetof(struct nolkrada_frame, count), 4);
+SAME(offsetof(struct nolkrada_frame, windows), 8);
+SAME(offsetof(struct nolkrada_frame, windows[1].first), 16);
+SAME(offsetof(struct nolkrada_frame, windows[NOLKRADA_MAX_WINDOWS - 1].length), 4 * (NOLKRADA_FRAME_NUMBERS - 1));
 /* A charge has one byte. */
 SAME(NOLKRADA_MAX_CHARGE, UINT8_MAX);
 /* Low tasks, of kind 6, have the longest records. */
@@ -40,6 +53,9 @@ static const uint32_t printed[] = {6, 5, 2, 6, 0, 8, 7, 2, 8, 0, 10, 0, 2, 10, 0
 static const uint32_t unfit[] = {2, 1, 1, 2, 0, 2, 0, 2, 2, 0};
 /* How many numbers the first has. */
 #define PRINTED (sizeof printed / sizeof printed[0])
+/* No frame: a length of 0, with any array. A frame: the numbers of its struct. */
+#define NO_FRAME printed, 0
+#define WITH(frame) &(frame).ticks, NOLKRADA_FRAME_NUMBERS
 
 static uint32_t sheet[NOLKRADA_SHEET_NUMBERS], task[NOLKRADA_MAX_RELEASES], cost[NOLKRADA_MAX_RELEASES];
 static uint64_t tick[NOLKRADA_MAX_RELEASES], answer[4];
@@ -151,10 +167,10 @@ static void refusals(void) {
     expect("kind", read_bytes(kind, 1), NOLKRADA_REFUSED_KIND, 0);
     expect("cut", read_bytes(cut, 2), NOLKRADA_REFUSED_CUT, 0);
     expect("end alone", read_bytes(alone, 1), NOLKRADA_REFUSED_NO_TASK, 0);
-    expect("too many tasks", nolkrada_choice(printed, n, 33, 0, kept, 3, worst, 3, answer, 1), NOLKRADA_REFUSED_TOO_MANY_TASKS,
+    expect("too many tasks", nolkrada_choice(printed, n, 33, 0, NO_FRAME, kept, 3, worst, 3, answer, 1), NOLKRADA_REFUSED_TOO_MANY_TASKS,
            32);
-    expect("no task", nolkrada_choice(printed, n, 0, 0, kept, 3, worst, 3, answer, 1), NOLKRADA_REFUSED_NO_TASK, 0);
-    expect("range", nolkrada_choice(printed, n, 4, 0, kept, 3, worst, 3, answer, 1), NOLKRADA_REFUSED_RANGE, 3);
+    expect("no task", nolkrada_choice(printed, n, 0, 0, NO_FRAME, kept, 3, worst, 3, answer, 1), NOLKRADA_REFUSED_NO_TASK, 0);
+    expect("range", nolkrada_choice(printed, n, 4, 0, NO_FRAME, kept, 3, worst, 3, answer, 1), NOLKRADA_REFUSED_RANGE, 3);
     expect("task of a release", nolkrada_trace_check(printed, n, 3, 0, 1, five, 3, at_0, 3, one, 3, answer, 3),
            NOLKRADA_REFUSED_RELEASE_TASK, 0);
     expect("tick of a release", nolkrada_trace_check(printed, n, 3, 0, 2, one, 3, falling, 2, one, 3, answer, 3),
@@ -165,11 +181,11 @@ static void refusals(void) {
            NOLKRADA_REFUSED_RELEASE_COST, 0);
     expect("too many releases", nolkrada_trace_check(printed, n, 3, 0, 1025, one, 3, at_0, 3, one, 3, answer, 3),
            NOLKRADA_REFUSED_TOO_MANY_RELEASES, 1024);
-    expect("kept", nolkrada_verdict(printed, n, 3, 0, 0, five, 3, answer, 4), NOLKRADA_REFUSED_KEPT, 2);
-    expect("short array", nolkrada_choice(printed, n, 3, 0, kept, 2, worst, 3, answer, 1), NOLKRADA_REFUSED_SHORT_ARRAY, 3);
-    expect("no such task", nolkrada_verdict(printed, n, 3, 0, 3, zero, 3, answer, 4), NOLKRADA_REFUSED_NO_SUCH_TASK, 3);
-    expect("unfit", nolkrada_choice(unfit, 10, 2, 0, kept, 3, worst, 3, answer, 1), NOLKRADA_REFUSED_UNFIT, 1);
-    expect("no slot for which choice it is", nolkrada_choice(unfit, 10, 2, 0, kept, 3, worst, 3, answer, 0),
+    expect("kept", nolkrada_verdict(printed, n, 3, 0, NO_FRAME, 0, five, 3, answer, 4), NOLKRADA_REFUSED_KEPT, 2);
+    expect("short array", nolkrada_choice(printed, n, 3, 0, NO_FRAME, kept, 2, worst, 3, answer, 1), NOLKRADA_REFUSED_SHORT_ARRAY, 3);
+    expect("no such task", nolkrada_verdict(printed, n, 3, 0, NO_FRAME, 3, zero, 3, answer, 4), NOLKRADA_REFUSED_NO_SUCH_TASK, 3);
+    expect("unfit", nolkrada_choice(unfit, 10, 2, 0, NO_FRAME, kept, 3, worst, 3, answer, 1), NOLKRADA_REFUSED_UNFIT, 1);
+    expect("no slot for which choice it is", nolkrada_choice(unfit, 10, 2, 0, NO_FRAME, kept, 3, worst, 3, answer, 0),
            NOLKRADA_REFUSED_SHORT_ARRAY, 1);
     expect("line", load("6,5,2,6\n8,7,2,8\r\n"), NOLKRADA_REFUSED_LINE, 1);
     expect("line before range", load("0,5,2,6 \n"), NOLKRADA_REFUSED_LINE, 0);
@@ -190,18 +206,18 @@ static void expect_words(const char *name, uint64_t kind, uint64_t q, uint64_t b
  * with the t that they try: 4; 4; 4, 6 and 6, 8, 10; 6, 10, 14, 16; 2 and each up to 10000001. Then too few words. */
 static void verdicts(void) {
     static const uint32_t busy[] = {1, 0, 1, 1, 0, 1, 0, 1, 1, 0}, kept[3] = {1, 4, 0}, less[3] = {1, 3, 0}, whole[3] = {5, 7, 0};
-    expect("fits", nolkrada_verdict(printed, PRINTED, 3, 0, 1, kept, 3, answer, 4), 0, 0);
+    expect("fits", nolkrada_verdict(printed, PRINTED, 3, 0, NO_FRAME, 1, kept, 3, answer, 4), 0, 0);
     expect_words("fits", NOLKRADA_FITS, 0, 8, 1);
-    expect("late", nolkrada_verdict(printed, PRINTED, 3, 0, 1, less, 3, answer, 4), 0, 0);
+    expect("late", nolkrada_verdict(printed, PRINTED, 3, 0, NO_FRAME, 1, less, 3, answer, 4), 0, 0);
     expect_words("late", NOLKRADA_LATE, 0, 9, 1);
-    expect("late at q 1", nolkrada_verdict(printed, PRINTED, 3, 0, 1, whole, 3, answer, 4), 0, 0);
+    expect("late at q 1", nolkrada_verdict(printed, PRINTED, 3, 0, NO_FRAME, 1, whole, 3, answer, 4), 0, 0);
     expect_words("late at q 1", NOLKRADA_LATE, 1, 10, 5);
-    expect("late, task 2", nolkrada_verdict(printed, PRINTED, 3, 0, 2, whole, 3, answer, 4), 0, 0);
+    expect("late, task 2", nolkrada_verdict(printed, PRINTED, 3, 0, NO_FRAME, 2, whole, 3, answer, 4), 0, 0);
     expect_words("late, task 2", NOLKRADA_LATE, 0, 17, 4);
-    expect("horizon", nolkrada_verdict(busy, 10, 2, 0, 1, (const uint32_t[]){0, 0}, 2, answer, 4), 0, 0);
+    expect("horizon", nolkrada_verdict(busy, 10, 2, 0, NO_FRAME, 1, (const uint32_t[]){0, 0}, 2, answer, 4), 0, 0);
     expect_words("horizon", NOLKRADA_HORIZON, 0, 0, 10000000);
     for (size_t n = 0; n < 4; n++)
-        expect("too few words", nolkrada_verdict(printed, PRINTED, 3, 0, 1, kept, 3, answer, n), NOLKRADA_REFUSED_SHORT_ARRAY, 4);
+        expect("too few words", nolkrada_verdict(printed, PRINTED, 3, 0, NO_FRAME, 1, kept, 3, answer, n), NOLKRADA_REFUSED_SHORT_ARRAY, 4);
 }
 
 /* A plan for a choice: the evaluations of the verdicts at the chosen kept jitters, 1 + 1 + 2 with a deadline of 11 for the last task. */
@@ -209,10 +225,10 @@ static void plan(void) {
     static const uint32_t folder[] = {6, 5, 2, 6, 0, 8, 7, 2, 8, 0, 10, 0, 2, 11, 0};
     static const uint64_t numbers[3] = {1, 1, 2};
     uint32_t kept[3], worst[3];
-    expect("choice", nolkrada_choice(folder, 15, 3, 0, kept, 3, worst, 3, answer, 1), 0, 0);
+    expect("choice", nolkrada_choice(folder, 15, 3, 0, NO_FRAME, kept, 3, worst, 3, answer, 1), 0, 0);
     if (answer[0] != NOLKRADA_ORDINARY) wrong = 1;
     for (uint32_t i = 0; i < 3; i++) {
-        expect("verdict of a chosen task", nolkrada_verdict(folder, 15, 3, 0, i, kept, 3, answer, 4), 0, 0);
+        expect("verdict of a chosen task", nolkrada_verdict(folder, 15, 3, 0, NO_FRAME, i, kept, 3, answer, 4), 0, 0);
         expect_words("verdict of a chosen task", NOLKRADA_FITS, 0, worst[i], numbers[i]);
     }
 }
@@ -224,7 +240,7 @@ static void expect_choice(const char *name, const uint32_t *deadlines, const uin
     uint32_t row[PRINTED], kept[3], worst[3];
     memcpy(row, printed, sizeof row);
     for (int i = 0; i < 3; i++) row[5 * i + 3] = deadlines[i], row[5 * i + 4] = marks[i];
-    expect(name, nolkrada_choice(row, PRINTED, 3, 0, kept, 3, worst, 3, answer, 1), number, place);
+    expect(name, nolkrada_choice(row, PRINTED, 3, 0, NO_FRAME, kept, 3, worst, 3, answer, 1), number, place);
     if (number != 0 || (answer[0] == which && memcmp(kept, keep, sizeof kept) == 0 && memcmp(worst, worse, sizeof worst) == 0)) return;
     printf("%s: not the columns of its choice\n", name);
     wrong = 1;
@@ -253,11 +269,11 @@ static void marks(void) {
     /* The low mark of task 2 is past the end: the task is high. */
     memcpy(row, printed, sizeof row);
     row[14] = 1;
-    expect("mark past the end", nolkrada_choice(row, PRINTED - 1, 3, 0, kept, 3, worst, 3, answer, 1), NOLKRADA_REFUSED_UNFIT, 2);
+    expect("mark past the end", nolkrada_choice(row, PRINTED - 1, 3, 0, NO_FRAME, kept, 3, worst, 3, answer, 1), NOLKRADA_REFUSED_UNFIT, 2);
     row[4] = 7;
     for (uint32_t i = 0; i < 2; i++) {
-        expect("verdict of a high task", nolkrada_verdict(printed, 10, 2, 0, i, keep, 2, answer, 4), 0, 0);
-        expect("verdict with a mark", nolkrada_verdict(row, 10, 2, 0, i, keep, 2, other, 4), 0, 0);
+        expect("verdict of a high task", nolkrada_verdict(printed, 10, 2, 0, NO_FRAME, i, keep, 2, answer, 4), 0, 0);
+        expect("verdict with a mark", nolkrada_verdict(row, 10, 2, 0, NO_FRAME, i, keep, 2, other, 4), 0, 0);
         if (memcmp(answer, other, sizeof other) != 0) wrong = 1;
     }
     expect("write of a low task, a byte too few",
@@ -290,14 +306,14 @@ static void charges(void) {
         const uint8_t c = (uint8_t)s;
         const uint32_t number = s == 5 ? NOLKRADA_REFUSED_CHARGE : 0;
         expect("charge, arrival count", nolkrada_arrival_count(printed, n, 3, c, 0, loose, 3, 8, answer, 1), number, 0);
-        expect("charge, verdict", nolkrada_verdict(printed, n, 3, c, 0, loose, 3, answer, 4), number, 0);
-        expect("charge, choice", nolkrada_choice(printed, n, 3, c, kept, 3, worst, 3, answer, 1),
+        expect("charge, verdict", nolkrada_verdict(printed, n, 3, c, NO_FRAME, 0, loose, 3, answer, 4), number, 0);
+        expect("charge, choice", nolkrada_choice(printed, n, 3, c, NO_FRAME, kept, 3, worst, 3, answer, 1),
                s == 5 ? number : NOLKRADA_REFUSED_UNFIT, 0);
         expect("charge, trace check", nolkrada_trace_check(printed, n, 3, c, 1, zero, 1, at_0, 1, two, 1, answer, 2), number, 0);
         expect("charge, ready", nolkrada_ready(printed, n, 3, c, loose, 3, 1, zero, 1, at_0, 1, two, 1, ready, 1), number, 0);
-        expect("charge, run", nolkrada_run(printed, n, 3, c, loose, 3, 1, zero, 1, at_0, 1, two, 1, ready, 1, finish, 1), number, 0);
+        expect("charge, run", nolkrada_run(printed, n, 3, c, NO_FRAME, loose, 3, 1, zero, 1, at_0, 1, two, 1, ready, 1, finish, 1), number, 0);
         if (finish[0] != NOLKRADA_PICKUP + 2 + 4) wrong = 1;
-        expect("charge, jump", nolkrada_jump(printed, n, 3, c, loose, 3, 1, zero, 1, at_0, 1, two, 1, ready, 1, finish, 1, answer, 1),
+        expect("charge, jump", nolkrada_jump(printed, n, 3, c, NO_FRAME, loose, 3, 1, zero, 1, at_0, 1, two, 1, ready, 1, finish, 1, answer, 1),
                number, 0);
         if (finish[0] != NOLKRADA_PICKUP + 2 + 4) wrong = 1;
         expect("charge, write", nolkrada_write(printed, n, 3, c, 1, zero, 1, at_0, 1, two, 1, file, sizeof file, answer, 1), number, 0);
@@ -329,7 +345,7 @@ static void runs(void) {
     static const uint32_t zero[1], two[1] = {2}, kept[3] = {2, 4, 0};
     static const uint64_t three[1] = {3};
     uint64_t ready[1], finish[1];
-    expect("run", nolkrada_run(printed, PRINTED, 3, 0, kept, 3, 1, zero, 1, three, 1, two, 1, ready, 1, finish, 1), 0, 0);
+    expect("run", nolkrada_run(printed, PRINTED, 3, 0, NO_FRAME, kept, 3, 1, zero, 1, three, 1, two, 1, ready, 1, finish, 1), 0, 0);
     if (ready[0] != 3 || finish[0] != 3 + NOLKRADA_PICKUP + 2) wrong = 1;
 }
 
@@ -342,45 +358,101 @@ static void jumps(void) {
     static const uint64_t three[1] = {3}, far[2] = {0, NOLKRADA_MAX_TICK};
     static uint64_t ready[NOLKRADA_MAX_RELEASES], finish[NOLKRADA_MAX_RELEASES];
     const size_t all = NOLKRADA_MAX_RELEASES;
-    expect("jump", nolkrada_jump(printed, PRINTED, 3, 0, kept, 3, 1, zero, 1, three, 1, two, 1, ready, 1, finish, 1, answer, 1), 0, 0);
+    expect("jump", nolkrada_jump(printed, PRINTED, 3, 0, NO_FRAME, kept, 3, 1, zero, 1, three, 1, two, 1, ready, 1, finish, 1, answer, 1), 0, 0);
     if (ready[0] != 3 || finish[0] != 3 + NOLKRADA_PICKUP + 2 || answer[0] != 2) wrong = 1;
     expect("jump of no release",
-           nolkrada_jump(printed, PRINTED, 3, 0, kept, 3, 0, zero, 0, three, 0, two, 0, ready, 0, finish, 0, answer, 1), 0, 0);
+           nolkrada_jump(printed, PRINTED, 3, 0, NO_FRAME, kept, 3, 0, zero, 0, three, 0, two, 0, ready, 0, finish, 0, answer, 1), 0, 0);
     if (answer[0] != 0) wrong = 1;
     expect("jump to the last tick allowed",
-           nolkrada_jump(printed, PRINTED, 3, 0, kept, 3, 2, zero, 2, far, 2, two, 2, ready, 2, finish, 2, answer, 1), 0, 0);
+           nolkrada_jump(printed, PRINTED, 3, 0, NO_FRAME, kept, 3, 2, zero, 2, far, 2, two, 2, ready, 2, finish, 2, answer, 1), 0, 0);
     if (ready[0] != 0 || finish[0] != 3 || ready[1] != NOLKRADA_MAX_TICK || finish[1] != NOLKRADA_MAX_TICK + 3) wrong = 1;
     if (answer[0] != 4) wrong = 1;
     for (uint32_t n = 0; n < all; n++) task[n] = 0, tick[n] = 2 * n, cost[n] = 1;
     expect("most stops",
-           nolkrada_jump(alone, 5, 1, 0, zero, 1, all, task, all, tick, all, cost, all, ready, all, finish, all, answer, 1), 0, 0);
+           nolkrada_jump(alone, 5, 1, 0, NO_FRAME, zero, 1, all, task, all, tick, all, cost, all, ready, all, finish, all, answer, 1), 0, 0);
     if (answer[0] != NOLKRADA_MAX_STOPS) wrong = 1;
     for (uint32_t n = 0; n < all; n++) tick[n] = NOLKRADA_MAX_TICK, cost[n] = 1000000;
     expect("largest finish",
-           nolkrada_jump(longest, 5, 1, 0, zero, 1, all, task, all, tick, all, cost, all, ready, all, finish, all, answer, 1), 0, 0);
-    if (finish[all - 1] != NOLKRADA_MAX_FINISH || finish[0] != NOLKRADA_MAX_TICK + 1000001) wrong = 1;
+           nolkrada_jump(longest, 5, 1, 0, NO_FRAME, zero, 1, all, task, all, tick, all, cost, all, ready, all, finish, all, answer, 1), 0, 0);
+    if (finish[all - 1] != MAX_PLAIN_FINISH || finish[0] != NOLKRADA_MAX_TICK + 1000001) wrong = 1;
     for (uint32_t n = 0; n < all; n++) cost[n] = 1000000 - NOLKRADA_MAX_CHARGE;
     expect("largest finish with the largest charge",
-           nolkrada_jump(charged, 5, 1, NOLKRADA_MAX_CHARGE, zero, 1, all, task, all, tick, all, cost, all, ready, all, finish, all,
+           nolkrada_jump(charged, 5, 1, NOLKRADA_MAX_CHARGE, NO_FRAME, zero, 1, all, task, all, tick, all, cost, all, ready, all, finish, all,
                          answer, 1),
            0, 0);
-    if (finish[all - 1] != NOLKRADA_MAX_FINISH || finish[0] != NOLKRADA_MAX_TICK + 1000001) wrong = 1;
+    if (finish[all - 1] != MAX_PLAIN_FINISH || finish[0] != NOLKRADA_MAX_TICK + 1000001) wrong = 1;
     expect("no slot for the stops",
-           nolkrada_jump(printed, PRINTED, 3, 0, kept, 3, 1, zero, 1, three, 1, two, 1, ready, 1, finish, 1, answer, 0),
+           nolkrada_jump(printed, PRINTED, 3, 0, NO_FRAME, kept, 3, 1, zero, 1, three, 1, two, 1, ready, 1, finish, 1, answer, 0),
            NOLKRADA_REFUSED_SHORT_ARRAY, 1);
 }
 
+/* A frame of ten ticks, of which the first four and the last five are ours: the four calls that take one, with the whole struct and with
+ * the six numbers that it needs. From tick 4 on the second of ours is tick 6. A frame that is all window gives what none gives, but the
+ * number of evaluations, which is 0. Then what of a frame is refused, before all but the sheet; and the largest finish. */
+static void frames(void) {
+    static const uint32_t zero[3] = {0, 0, 0}, two[1] = {2}, kept[3] = {2, 4, 0}, longest[5] = {1000000, 0, 1000000, 1000000, 0};
+    static const uint64_t three[1] = {3};
+    static const struct nolkrada_frame nine = {10, 2, {{0, 4}, {5, 5}}}, whole = {10000, 1, {{0, 10000}}}, last = {10000, 1, {{0, 1}}};
+    static const struct nolkrada_frame sixteen = {31, 16, {{0, 1}, {2, 1}, {4, 1}, {6, 1}, {8, 1}, {10, 1}, {12, 1}, {14, 1},
+                                                           {16, 1}, {18, 1}, {20, 1}, {22, 1}, {24, 1}, {26, 1}, {28, 1}, {30, 1}}};
+    static uint64_t ready[NOLKRADA_MAX_RELEASES], finish[NOLKRADA_MAX_RELEASES];
+    const size_t n = PRINTED, all = NOLKRADA_MAX_RELEASES;
+    struct nolkrada_frame wrong_frame;
+    uint32_t keep[3], worst[3];
+    expect("verdict with a frame", nolkrada_verdict(printed, n, 3, 0, WITH(nine), 0, kept, 3, answer, 4), 0, 0);
+    expect_words("verdict with a frame", NOLKRADA_LATE, 0, 7, 0);
+    expect("verdict with six numbers", nolkrada_verdict(printed, n, 3, 0, &nine.ticks, 6, 0, (const uint32_t[]){3, 0, 0}, 3, answer, 4), 0, 0);
+    expect_words("verdict with six numbers", NOLKRADA_FITS, 0, 6, 0);
+    expect("verdict, all window", nolkrada_verdict(printed, n, 3, 0, WITH(whole), 1, kept, 3, answer, 4), 0, 0);
+    expect_words("verdict, all window", NOLKRADA_FITS, 0, 8, 0);
+    expect("choice with a frame", nolkrada_choice(printed, 5, 1, 0, WITH(nine), keep, 3, worst, 3, answer, 1), 0, 0);
+    if (keep[0] != 3 || worst[0] != 6 || answer[0] != NOLKRADA_ORDINARY) wrong = 1;
+    expect("choice with 16 windows", nolkrada_choice(printed, n, 3, 0, WITH(sixteen), keep, 3, worst, 3, answer, 1), NOLKRADA_REFUSED_UNFIT, 0);
+    expect("run with a frame", nolkrada_run(printed, n, 3, 0, WITH(nine), kept, 3, 1, zero, 1, three, 1, two, 1, ready, 1, finish, 1), 0, 0);
+    if (ready[0] != 3 || finish[0] != 7) wrong = 1;
+    expect("jump with a frame",
+           nolkrada_jump(printed, n, 3, 0, WITH(nine), kept, 3, 1, zero, 1, three, 1, two, 1, ready, 1, finish, 1, answer, 1), 0, 0);
+    if (ready[0] != 3 || finish[0] != 7 || answer[0] != 2) wrong = 1;
+    for (uint32_t k = 0; k < 18; k++) {
+        wrong_frame = sixteen;
+        if (k < 16) wrong_frame.windows[k].length = k % 2 ? 0 : UINT32_MAX;
+        if (k == 16) wrong_frame.count = NOLKRADA_MAX_WINDOWS + 1;
+        if (k == 17) wrong_frame.ticks = NOLKRADA_MAX_FRAME + 1;
+        expect("refused frame", nolkrada_verdict(printed, n, 3, 0, WITH(wrong_frame), 9, zero, 0, answer, 0), NOLKRADA_REFUSED_FRAME, k);
+        expect("refused frame, choice", nolkrada_choice(printed, n, 3, 0, WITH(wrong_frame), keep, 0, worst, 0, answer, 0),
+               NOLKRADA_REFUSED_FRAME, k);
+        expect("refused frame, run",
+               nolkrada_run(printed, n, 3, 0, WITH(wrong_frame), zero, 0, 1025, zero, 0, three, 0, two, 0, ready, 0, finish, 0),
+               NOLKRADA_REFUSED_FRAME, k);
+        expect("refused frame, jump",
+               nolkrada_jump(printed, n, 3, 0, WITH(wrong_frame), zero, 0, 1025, zero, 0, three, 0, two, 0, ready, 0, finish, 0, answer, 0),
+               NOLKRADA_REFUSED_FRAME, k);
+        expect("charge before frame", nolkrada_verdict(printed, n, 3, 5, WITH(wrong_frame), 0, kept, 3, answer, 4), NOLKRADA_REFUSED_CHARGE, 0);
+    }
+    /* Windows that touch; two, of which the second is past the count; a row that ends after its ticks. */
+    wrong_frame = nine;
+    wrong_frame.windows[1].first = 4;
+    expect("windows that touch", nolkrada_verdict(printed, n, 3, 0, WITH(wrong_frame), 0, kept, 3, answer, 4), NOLKRADA_REFUSED_FRAME, 1);
+    wrong_frame.count = 1;
+    expect("window past the count", nolkrada_verdict(printed, n, 3, 0, WITH(wrong_frame), 0, kept, 3, answer, 4), 0, 0);
+    expect("ticks alone", nolkrada_verdict(printed, n, 3, 0, &nine.ticks, 1, 0, kept, 3, answer, 4), NOLKRADA_REFUSED_FRAME, 16);
+    for (uint32_t p = 0; p < all; p++) task[p] = 0, tick[p] = NOLKRADA_MAX_TICK, cost[p] = 1000000;
+    expect("largest finish with a frame",
+           nolkrada_jump(longest, 5, 1, 0, WITH(last), zero, 1, all, task, all, tick, all, cost, all, ready, all, finish, all, answer, 1), 0, 0);
+    if (finish[all - 1] != NOLKRADA_MAX_FINISH || answer[0] != NOLKRADA_MAX_STOPS) wrong = 1;
+}
+
 /* The calling convention leaves open what stands above the byte of a charge in its register: the archive looks at the byte alone. */
-typedef uint64_t (*whole_register)(const uint32_t *, size_t, uint32_t, uint32_t, uint32_t, const uint32_t *, size_t, uint64_t *,
-                                   size_t);
+typedef uint64_t (*whole_register)(const uint32_t *, size_t, uint32_t, uint32_t, const uint32_t *, size_t, uint32_t,
+                                   const uint32_t *, size_t, uint64_t *, size_t);
 
 static void upper_bits(void) {
     static const uint32_t none[3] = {0, 0, 0};
     uint64_t other[4];
     whole_register verdict = (whole_register)(void (*)(void))nolkrada_verdict;
     for (uint32_t c = 0; c < 6; c++) {
-        uint64_t code = nolkrada_verdict(printed, PRINTED, 3, (uint8_t)c, 1, none, 3, answer, 4);
-        if (verdict(printed, PRINTED, 3, UINT32_C(0xabcdef00) + c, 1, none, 3, other, 4) != code) wrong = 1;
+        uint64_t code = nolkrada_verdict(printed, PRINTED, 3, (uint8_t)c, NO_FRAME, 1, none, 3, answer, 4);
+        if (verdict(printed, PRINTED, 3, UINT32_C(0xabcdef00) + c, NO_FRAME, 1, none, 3, other, 4) != code) wrong = 1;
         if (code == 0 && memcmp(answer, other, sizeof other) != 0) wrong = 1;
     }
 }
@@ -398,7 +470,8 @@ int main(void) {
     upper_bits();
     runs();
     jumps();
+    frames();
     puts(wrong ? "header: something is not as it says"
-               : "header: limits, sizes, refusals, verdicts, evaluations, marks, charge, pickup, largest finish and stops as it says");
+               : "header: limits, sizes, refusals, verdicts, evaluations, marks, charge, pickup, frames, largest finish and stops as it says");
     return wrong;
 }

@@ -1,4 +1,4 @@
-//! The functions of the archive, as include/nolkrada.h declares them, with slices in place of pointer and length.
+//! The functions of the archive, as include/nolkrada.h declares them, with slices in place of pointer and length. A frame of length 0 is no frame.
 
 extern "C" {
     fn nolkrada_arrival_count(
@@ -6,12 +6,12 @@ extern "C" {
         answer: *mut u64, answer_length: usize,
     ) -> u64;
     fn nolkrada_verdict(
-        sheet: *const u32, sheet_length: usize, count: u32, charge: u8, task: u32, kept: *const u32, kept_length: usize,
-        answer: *mut u64, answer_length: usize,
+        sheet: *const u32, sheet_length: usize, count: u32, charge: u8, frame: *const u32, frame_length: usize, task: u32,
+        kept: *const u32, kept_length: usize, answer: *mut u64, answer_length: usize,
     ) -> u64;
     fn nolkrada_choice(
-        sheet: *const u32, sheet_length: usize, count: u32, charge: u8, kept: *mut u32, kept_length: usize,
-        worst: *mut u32, worst_length: usize, answer: *mut u64, answer_length: usize,
+        sheet: *const u32, sheet_length: usize, count: u32, charge: u8, frame: *const u32, frame_length: usize, kept: *mut u32,
+        kept_length: usize, worst: *mut u32, worst_length: usize, answer: *mut u64, answer_length: usize,
     ) -> u64;
     fn nolkrada_trace_check(
         sheet: *const u32, sheet_length: usize, count: u32, charge: u8, n: u32, task: *const u32, task_length: usize,
@@ -23,13 +23,15 @@ extern "C" {
         ready: *mut u64, ready_length: usize,
     ) -> u64;
     fn nolkrada_run(
-        sheet: *const u32, sheet_length: usize, count: u32, charge: u8, kept: *const u32, kept_length: usize, n: u32,
-        task: *const u32, task_length: usize, tick: *const u64, tick_length: usize, cost: *const u32, cost_length: usize,
+        sheet: *const u32, sheet_length: usize, count: u32, charge: u8, frame: *const u32, frame_length: usize, kept: *const u32,
+        kept_length: usize, n: u32, task: *const u32, task_length: usize, tick: *const u64, tick_length: usize, cost: *const u32,
+        cost_length: usize,
         ready: *mut u64, ready_length: usize, finish: *mut u64, finish_length: usize,
     ) -> u64;
     fn nolkrada_jump(
-        sheet: *const u32, sheet_length: usize, count: u32, charge: u8, kept: *const u32, kept_length: usize, n: u32,
-        task: *const u32, task_length: usize, tick: *const u64, tick_length: usize, cost: *const u32, cost_length: usize,
+        sheet: *const u32, sheet_length: usize, count: u32, charge: u8, frame: *const u32, frame_length: usize, kept: *const u32,
+        kept_length: usize, n: u32, task: *const u32, task_length: usize, tick: *const u64, tick_length: usize, cost: *const u32,
+        cost_length: usize,
         ready: *mut u64, ready_length: usize, finish: *mut u64, finish_length: usize, answer: *mut u64, answer_length: usize,
     ) -> u64;
     fn nolkrada_read(
@@ -62,19 +64,22 @@ pub fn arrival_count(sheet: &[u32], count: u32, charge: u8, task: u32, kept: &[u
     }
 }
 
-pub fn verdict(sheet: &[u32], count: u32, charge: u8, task: u32, kept: &[u32], answer: &mut [u64]) -> u64 {
+pub fn verdict(sheet: &[u32], count: u32, charge: u8, frame: &[u32], task: u32, kept: &[u32], answer: &mut [u64]) -> u64 {
     unsafe {
         nolkrada_verdict(
-            sheet.as_ptr(), sheet.len(), count, charge, task, kept.as_ptr(), kept.len(), answer.as_mut_ptr(), answer.len(),
+            sheet.as_ptr(), sheet.len(), count, charge, frame.as_ptr(), frame.len(), task, kept.as_ptr(), kept.len(),
+            answer.as_mut_ptr(), answer.len(),
         )
     }
 }
 
-pub fn choice(sheet: &[u32], count: u32, charge: u8, kept: &mut [u32], worst: &mut [u32], answer: &mut [u64]) -> u64 {
+pub fn choice(
+    sheet: &[u32], count: u32, charge: u8, frame: &[u32], kept: &mut [u32], worst: &mut [u32], answer: &mut [u64],
+) -> u64 {
     unsafe {
         nolkrada_choice(
-            sheet.as_ptr(), sheet.len(), count, charge, kept.as_mut_ptr(), kept.len(), worst.as_mut_ptr(), worst.len(),
-            answer.as_mut_ptr(), answer.len(),
+            sheet.as_ptr(), sheet.len(), count, charge, frame.as_ptr(), frame.len(), kept.as_mut_ptr(), kept.len(),
+            worst.as_mut_ptr(), worst.len(), answer.as_mut_ptr(), answer.len(),
         )
     }
 }
@@ -98,25 +103,28 @@ pub fn ready(sheet: &[u32], count: u32, charge: u8, kept: &[u32], n: u32, list: 
 }
 
 pub fn run(
-    sheet: &[u32], count: u32, charge: u8, kept: &[u32], n: u32, list: Columns, ready: &mut [u64], finish: &mut [u64],
+    sheet: &[u32], count: u32, charge: u8, frame: &[u32], kept: &[u32], n: u32, list: Columns, ready: &mut [u64],
+    finish: &mut [u64],
 ) -> u64 {
     unsafe {
         nolkrada_run(
-            sheet.as_ptr(), sheet.len(), count, charge, kept.as_ptr(), kept.len(), n, list.task.as_ptr(), list.task.len(),
-            list.tick.as_ptr(), list.tick.len(), list.cost.as_ptr(), list.cost.len(), ready.as_mut_ptr(), ready.len(),
+            sheet.as_ptr(), sheet.len(), count, charge, frame.as_ptr(), frame.len(), kept.as_ptr(), kept.len(), n,
+            list.task.as_ptr(), list.task.len(), list.tick.as_ptr(), list.tick.len(), list.cost.as_ptr(), list.cost.len(),
+            ready.as_mut_ptr(), ready.len(),
             finish.as_mut_ptr(), finish.len(),
         )
     }
 }
 
 pub fn jump(
-    sheet: &[u32], count: u32, charge: u8, kept: &[u32], n: u32, list: Columns, ready: &mut [u64], finish: &mut [u64],
-    answer: &mut [u64],
+    sheet: &[u32], count: u32, charge: u8, frame: &[u32], kept: &[u32], n: u32, list: Columns, ready: &mut [u64],
+    finish: &mut [u64], answer: &mut [u64],
 ) -> u64 {
     unsafe {
         nolkrada_jump(
-            sheet.as_ptr(), sheet.len(), count, charge, kept.as_ptr(), kept.len(), n, list.task.as_ptr(), list.task.len(),
-            list.tick.as_ptr(), list.tick.len(), list.cost.as_ptr(), list.cost.len(), ready.as_mut_ptr(), ready.len(),
+            sheet.as_ptr(), sheet.len(), count, charge, frame.as_ptr(), frame.len(), kept.as_ptr(), kept.len(), n,
+            list.task.as_ptr(), list.task.len(), list.tick.as_ptr(), list.tick.len(), list.cost.as_ptr(), list.cost.len(),
+            ready.as_mut_ptr(), ready.len(),
             finish.as_mut_ptr(), finish.len(), answer.as_mut_ptr(), answer.len(),
         )
     }

@@ -1,8 +1,9 @@
 //! An implementation of document 01 with document 02's text sheets, pickup, long ticks, charge for each switch,
-//! stops of a run, evaluations of a verdict and marks, for comparison, written from their words alone. It shares no
-//! code and no method with the library: ready ticks and the trace check look at every pair of jobs, W(q) is found by walking over the ticks at which
-//! the demand steps, the choice tries every K in rising order, the ticking run is compared with one from event to event and the run that
-//! jumps with one that allots free ticks job by job, a file is taken apart in one pass, and a text is split into whole lines and fields.
+//! stops of a run, evaluations of a verdict, marks and windows in a frame, for comparison, written from their
+//! words alone. It shares no code and no method with the library: ready ticks and the trace check look at every pair of jobs, W(q) is
+//! found by walking over the ticks at which the demand steps, the choice tries every K in rising order, the ticking run is compared with
+//! one from event to event and the run that jumps with one that allots free ticks job by job, a file is taken apart in one pass, and a
+//! text is split into whole lines and fields. Of a frame every start and every tick is looked at: our ticks are counted one by one.
 //! Only what R-8 counts is gone through as it is counted: the lists of t, and the walk over q of a choice. No answer is taken from them.
 
 use std::collections::BTreeSet;
@@ -15,6 +16,8 @@ pub const MAX_TICK: u64 = 1_000_000_000_000_000;
 pub const MAX_SHORT_TICK: u64 = 1_000_000_000;
 pub const MAX_TIME: u32 = 1_000_000;
 pub const HORIZON: i64 = 10_000_000;
+pub const MAX_FRAME: u32 = 10_000;
+pub const MAX_WINDOWS: usize = 16;
 /// Pickup: the kernel looks at the ready list at tick ends only, so a job may run from the tick after its ready tick, and R(q)
 /// grows by 1.
 pub const PICKUP: i64 = 1;
@@ -39,19 +42,57 @@ impl Task {
     }
 }
 
+/// A frame: its ticks and the count of its windows as given, and the windows that there are, each a first tick and a length. A window
+/// that is not there counts as 0, 0.
+#[derive(Clone, Debug, PartialEq, Eq)]
+pub struct Frame {
+    pub ticks: u32,
+    pub count: usize,
+    pub windows: Vec<(u32, u32)>,
+}
+
+impl Frame {
+    pub fn of(ticks: u32, windows: &[(u32, u32)]) -> Frame {
+        Frame { ticks, count: windows.len(), windows: windows.to_vec() }
+    }
+    /// The first tick of a window and the one after its last.
+    fn window(&self, k: usize) -> (i64, i64) {
+        let (first, length) = self.windows.get(k).copied().unwrap_or((0, 0));
+        (first as i64, first as i64 + length as i64)
+    }
+    /// Whether a tick is ours: its place in the frame, which repeats from tick 0, is in some window.
+    pub fn is_ours(&self, tick: i64) -> bool {
+        let at = tick % self.ticks as i64;
+        (0..self.count).any(|k| {
+            let (first, end) = self.window(k);
+            first <= at && at < end
+        })
+    }
+}
+
+/// Whether a tick is ours, with a frame or without: without one every tick is.
+pub fn is_ours(frame: &Option<Frame>, tick: i64) -> bool {
+    frame.as_ref().map_or(true, |f| f.is_ours(tick))
+}
+
 /// A sheet: `count` as given, the entries that there are, and the charge for each switch, 0 for none. An entry that is not there
-/// counts as 0, 0, 0, 0, high.
+/// counts as 0, 0, 0, 0, high. Besides, the frame that stands beside it in a call, if one does: no file and no text has one.
 #[derive(Clone, Debug, PartialEq, Eq)]
 pub struct Sheet {
     pub count: usize,
     pub tasks: Vec<Task>,
     pub charge: u8,
+    pub frame: Option<Frame>,
 }
 
 impl Sheet {
-    /// A sheet without a charge.
+    /// A sheet without a charge and without a frame.
     pub fn of(tasks: &[Task]) -> Sheet {
-        Sheet { count: tasks.len(), tasks: tasks.to_vec(), charge: 0 }
+        Sheet { count: tasks.len(), tasks: tasks.to_vec(), charge: 0, frame: None }
+    }
+    /// The same sheet with this frame, or without one.
+    pub fn framed(&self, frame: Option<Frame>) -> Sheet {
+        Sheet { frame, ..self.clone() }
     }
     /// The same sheet with this charge.
     pub fn charged(&self, charge: u8) -> Sheet {
@@ -189,14 +230,50 @@ fn work_of(charge: u8, list: &[Release]) -> Vec<i64> {
     list.iter().map(|r| r.cost as i64 + charge as i64).collect()
 }
 
-/// Finish ticks of the run.
-pub fn finish_ticks(charge: u8, list: &[Release], ready: &[i64]) -> Vec<i64> {
-    finish_from(charge, list, &first_ticks(ready))
+/// Our ticks in the order of time: how many of ours stand among the first 0, 1, .. ticks of the frame, counted one by one. Without a
+/// frame every tick is one of them, as in a frame of one tick that is ours.
+pub struct Supply {
+    among: Vec<i64>,
 }
 
-/// Finish ticks of jobs that may run from these ticks on, from event to event: a job runs until it is finished or the next job
-/// may run.
-pub fn finish_from(charge: u8, list: &[Release], first: &[i64]) -> Vec<i64> {
+impl Supply {
+    pub fn of(frame: &Option<Frame>) -> Supply {
+        let ticks = frame.as_ref().map_or(1, |f| f.ticks as i64);
+        let mut among = vec![0];
+        for t in 0..ticks {
+            among.push(among[t as usize] + is_ours(frame, t) as i64);
+        }
+        Supply { among }
+    }
+    fn ticks(&self) -> i64 {
+        self.among.len() as i64 - 1
+    }
+    /// How many of ours come before a tick.
+    pub fn before(&self, tick: i64) -> i64 {
+        tick / self.ticks() * self.among[self.ticks() as usize] + self.among[(tick % self.ticks()) as usize]
+    }
+    /// The tick that comes after n of ours, for n ≥ 1: the last of them is the tick before it.
+    pub fn after(&self, n: i64) -> i64 {
+        let each = self.among[self.ticks() as usize];
+        let (frames, rest) = ((n - 1) / each, (n - 1) % each + 1);
+        frames * self.ticks() + self.among.partition_point(|&ours| ours < rest) as i64
+    }
+}
+
+/// Finish ticks of the run without a frame.
+pub fn finish_ticks(charge: u8, list: &[Release], ready: &[i64]) -> Vec<i64> {
+    finish_by_event(&None, charge, list, ready)
+}
+
+/// Finish ticks of the run, from event to event.
+pub fn finish_by_event(frame: &Option<Frame>, charge: u8, list: &[Release], ready: &[i64]) -> Vec<i64> {
+    finish_from(frame, charge, list, &first_ticks(ready))
+}
+
+/// Finish ticks of jobs that may run from these ticks on, from event to event: a job runs in our ticks until it is finished or the next
+/// job may run.
+pub fn finish_from(frame: &Option<Frame>, charge: u8, list: &[Release], first: &[i64]) -> Vec<i64> {
+    let supply = Supply::of(frame);
     let mut left = work_of(charge, list);
     let mut finish = vec![0; list.len()];
     let mut t = 0;
@@ -206,8 +283,8 @@ pub fn finish_from(charge: u8, list: &[Release], first: &[i64]) -> Vec<i64> {
             (None, None) => return finish,
             (None, Some(f)) => t = f,
             (Some(p), next) => {
-                let end = std::cmp::min(t + left[p], next.unwrap_or(i64::MAX));
-                left[p] -= end - t;
+                let end = std::cmp::min(supply.after(supply.before(t) + left[p]), next.unwrap_or(i64::MAX));
+                left[p] -= supply.before(end) - supply.before(t);
                 t = end;
                 if left[p] == 0 {
                     finish[p] = t;
@@ -217,14 +294,19 @@ pub fn finish_from(charge: u8, list: &[Release], first: &[i64]) -> Vec<i64> {
     }
 }
 
-/// Finish ticks of the run, tick by tick.
+/// Finish ticks of the run without a frame, tick by tick.
 pub fn finish_ticks_by_tick(charge: u8, list: &[Release], ready: &[i64]) -> Vec<i64> {
+    finish_by_tick(&None, charge, list, ready)
+}
+
+/// Finish ticks of the run, tick by tick: in a tick that is not ours nothing runs.
+pub fn finish_by_tick(frame: &Option<Frame>, charge: u8, list: &[Release], ready: &[i64]) -> Vec<i64> {
     let first = first_ticks(ready);
     let mut left = work_of(charge, list);
     let mut finish = vec![0; list.len()];
     let mut t = 0;
     while left.iter().any(|&l| l > 0) {
-        if let Some(p) = job_at(list, &first, &left, t) {
+        if let Some(p) = job_at(list, &first, &left, t).filter(|_| is_ours(frame, t)) {
             left[p] -= 1;
             finish[p] = t + 1;
         }
@@ -233,15 +315,21 @@ pub fn finish_ticks_by_tick(charge: u8, list: &[Release], ready: &[i64]) -> Vec<
     finish
 }
 
-/// Finish ticks of the run, job by job and not in the order of time: the tasks from the highest priority down, the jobs of a task
-/// in list order, each takes the earliest ticks from its first one on that no job before it took. The time that this takes does not
-/// grow with the ticks.
+/// Finish ticks of the run without a frame, job by job.
 pub fn finish_ticks_by_job(charge: u8, list: &[Release], ready: &[i64]) -> Vec<i64> {
-    let (first, work) = (first_ticks(ready), work_of(charge, list));
+    finish_by_job(&None, charge, list, ready)
+}
+
+/// Finish ticks of the run, job by job and not in the order of time: the tasks from the highest priority down, the jobs of a task
+/// in list order, each takes the earliest of our ticks from its first one on that no job before it took. Only our ticks are numbered
+/// while they are allotted, so that those between windows play no part. The time that this takes does not grow with the ticks.
+pub fn finish_by_job(frame: &Option<Frame>, charge: u8, list: &[Release], ready: &[i64]) -> Vec<i64> {
+    let (supply, work) = (Supply::of(frame), work_of(charge, list));
+    let first: Vec<i64> = first_ticks(ready).into_iter().map(|t| supply.before(t)).collect();
     let mut order: Vec<usize> = (0..list.len()).collect();
     order.sort_by_key(|&p| (list[p].task, p));
     let mut finish = vec![0; list.len()];
-    // stretches of free ticks in rising order, each from its first tick up to its second, not including the latter
+    // stretches of free ticks of ours in rising order, each from its first one up to its second, not including the latter
     let mut free = vec![(0, i64::MAX)];
     for p in order {
         let mut wanted = work[p];
@@ -257,7 +345,7 @@ pub fn finish_ticks_by_job(charge: u8, list: &[Release], ready: &[i64]) -> Vec<i
         }
         free = rest;
     }
-    finish
+    finish.into_iter().map(|n| supply.after(n)).collect()
 }
 
 /// Stops of a run: the number of different ticks that are a ready tick plus 1 or a finish.
@@ -271,17 +359,71 @@ fn tasks_above(sheet: &Sheet, kept: &[u32], i: usize) -> Vec<(i64, i64, i64)> {
     (0..i).map(|j| (sheet.task(j).p as i64, kept[j] as i64, sheet.most_work(j))).collect()
 }
 
+/// The demand in t ticks with so much of the own task, and the last t up to the horizon in which it is the same.
+fn demand_at(own: i64, above: &[(i64, i64, i64)], t: i64) -> (i64, i64) {
+    above.iter().fold((own, HORIZON), |(demand, end), &(p, k, e)| {
+        let n = sigma(p, k, t);
+        (demand + e * n, std::cmp::min(end, n * p - k))
+    })
+}
+
+/// W(q) of a task by its words: for each start in the frame the t from 1 on, one by one, until the demand is at most our ticks among so
+/// many from the start, which are counted on the way; and the largest of all these t. None: for some start it is over the horizon.
+/// Without a frame there is one start, and our ticks among t are t.
+pub fn window_by_tick(sheet: &Sheet, kept: &[u32], i: usize, q: i64, budget: &mut Budget) -> Result<Option<i64>, Exhausted> {
+    let above = tasks_above(sheet, kept, i);
+    let mut largest = 0;
+    for start in 0..sheet.frame.as_ref().map_or(1, |f| f.ticks as i64) {
+        let (mut t, mut ours) = (0, 0);
+        loop {
+            budget.spend(1 + i as u64)?;
+            (t, ours) = (t + 1, ours + is_ours(&sheet.frame, start + t) as i64);
+            if t > HORIZON {
+                return Ok(None);
+            }
+            if demand_at((q + 1) * sheet.most_work(i), &above, t).0 <= ours {
+                break;
+            }
+        }
+        largest = std::cmp::max(largest, t);
+    }
+    Ok(Some(largest))
+}
+
 /// W(q) of one task for q = 0, 1, .., found when asked for. None: over the horizon, or no such t.
 pub struct Windows<'a> {
     own_cost: i64,
     above: Vec<(i64, i64, i64)>,
+    /// With a frame our ticks and, for each start in it, the least t of the last q that was looked at.
+    framed: Option<(Supply, Vec<i64>)>,
     found: Vec<Option<i64>>,
     budget: &'a mut Budget,
 }
 
 impl<'a> Windows<'a> {
     pub fn of(sheet: &Sheet, kept: &[u32], i: usize, budget: &'a mut Budget) -> Windows<'a> {
-        Windows { own_cost: sheet.most_work(i), above: tasks_above(sheet, kept, i), found: Vec::new(), budget }
+        let framed = sheet.frame.as_ref().map(|f| (Supply::of(&sheet.frame), vec![1; f.ticks as usize]));
+        Windows { own_cost: sheet.most_work(i), above: tasks_above(sheet, kept, i), framed, found: Vec::new(), budget }
+    }
+
+    /// The largest over all starts in the frame of the least t whose demand is at most our ticks among t from the start. None where one
+    /// of them is over the horizon. The demand is constant up to `end`, and the least t with so many of ours is read off the count.
+    fn search_framed(&mut self, q: i64) -> Result<Option<i64>, Exhausted> {
+        let (supply, reached) = self.framed.as_mut().unwrap();
+        for (start, least) in reached.iter_mut().enumerate() {
+            let start = start as i64;
+            let mut t = *least;
+            *least = loop {
+                self.budget.spend(1 + self.above.len() as u64)?;
+                let (demand, end) = demand_at((q + 1) * self.own_cost, &self.above, t);
+                let met = std::cmp::max(t, supply.after(supply.before(start) + demand) - start);
+                if t > HORIZON || met <= end {
+                    break met;
+                }
+                t = end + 1;
+            };
+        }
+        Ok(reached.iter().copied().max().filter(|&t| t <= HORIZON))
     }
 
     /// The least t from `from` on with (q + 1)E + sum of E_j σ_j(t) ≤ t, each E with the charge. The demand is constant up to the
@@ -290,13 +432,7 @@ impl<'a> Windows<'a> {
         let mut t = from;
         while t <= HORIZON {
             self.budget.spend(1 + self.above.len() as u64)?;
-            let mut demand = (q + 1) * self.own_cost;
-            let mut end = HORIZON;
-            for &(p, k, e) in &self.above {
-                let n = sigma(p, k, t);
-                demand += e * n;
-                end = std::cmp::min(end, n * p - k);
-            }
+            let (demand, end) = demand_at((q + 1) * self.own_cost, &self.above, t);
             let met = std::cmp::max(t, demand);
             if met <= end {
                 return Ok(Some(met));
@@ -306,13 +442,14 @@ impl<'a> Windows<'a> {
         Ok(None)
     }
 
-    /// W(q). The demand grows with q, so that no t below W(q − 1) need be tried.
+    /// W(q). The demand grows with q, so that no t below W(q − 1), with a frame that of the same start, need be tried.
     pub fn get(&mut self, q: i64) -> Result<Option<i64>, Exhausted> {
         while self.found.len() as i64 <= q {
             let n = self.found.len();
             let from = if n == 0 { Some(1) } else { self.found[n - 1] };
             let w = match from {
                 None => None,
+                Some(_) if self.framed.is_some() => self.search_framed(n as i64)?,
                 Some(t) => self.search(n as i64, t)?,
             };
             self.found.push(w);
@@ -332,9 +469,12 @@ pub fn tried(sheet: &Sheet, kept: &[u32], i: usize, q: i64) -> impl Iterator<Ite
     })
 }
 
-/// The length of that list. It rises, and its last member is W(q) or the first t over H; where it is W(q), the list is at most as long as
-/// 1 + (sum over tasks above of σ_j at W(q)) − (number of tasks above).
+/// The length of that list; with a frame 0. It rises, and its last member is W(q) or the first t over H; where it is W(q), the list is at
+/// most as long as 1 + (sum over tasks above of σ_j at W(q)) − (number of tasks above).
 fn evaluations_at(sheet: &Sheet, kept: &[u32], i: usize, q: i64, windows: &mut Windows) -> Result<u64, Exhausted> {
+    if sheet.frame.is_some() {
+        return Ok(0);
+    }
     let (mut length, mut last) = (0, 0);
     for t in tried(sheet, kept, i, q) {
         windows.budget.spend(1 + i as u64)?;
@@ -464,6 +604,29 @@ pub fn check_sheet(sheet: &Sheet) -> Result<(), Refusal> {
     Ok(())
 }
 
+/// The sheet, and then the frame beside it: its ticks (place 17), the count of its windows (place 16), and the windows in order: each is
+/// of at least one tick, inside the frame, and starts after the end of the one before it, so that no two touch.
+pub fn check_framed(sheet: &Sheet) -> Result<(), Refusal> {
+    check_sheet(sheet)?;
+    let Some(frame) = &sheet.frame else {
+        return Ok(());
+    };
+    if frame.ticks < 1 || frame.ticks > MAX_FRAME {
+        return refuse(18, 17);
+    }
+    if frame.count < 1 || frame.count > MAX_WINDOWS {
+        return refuse(18, 16);
+    }
+    for k in 0..frame.count {
+        let (first, end) = frame.window(k);
+        let apart = k == 0 || first > frame.window(k - 1).1;
+        if first == end || end > frame.ticks as i64 || !apart {
+            return refuse(18, k);
+        }
+    }
+    Ok(())
+}
+
 /// Whether a job of the full cost and the charge is within P and D.
 fn holds_charge(t: Task, charge: u8) -> bool {
     let work = t.e as i64 + charge as i64;
@@ -544,20 +707,21 @@ impl<'a> Columns<'a> {
 
 // ---- The calls ---------------------------------------------------------------------------------------------------------
 
+/// The checks of a call about one task after those of the sheet and of a frame.
 fn check_single(sheet: &Sheet, i: usize, kept: &[u32]) -> Result<(), Refusal> {
-    check_sheet(sheet)?;
     check_task(sheet, i)?;
     check_slots(kept.len(), sheet.count)?;
     check_kept(sheet, kept)
 }
 
 pub fn arrival_count(sheet: &Sheet, i: usize, kept: &[u32], t: u32) -> Result<u64, Refusal> {
+    check_sheet(sheet)?;
     check_single(sheet, i, kept)?;
     Ok(sigma(sheet.task(i).p as i64, kept[i] as i64, t as i64) as u64)
 }
 
 pub fn verdict(sheet: &Sheet, i: usize, kept: &[u32], budget: &mut Budget) -> Result<Result<Judged, Refusal>, Exhausted> {
-    if let Err(r) = check_single(sheet, i, kept) {
+    if let Err(r) = check_framed(sheet).and_then(|_| check_single(sheet, i, kept)) {
         return Ok(Err(r));
     }
     Ok(Ok(judge(sheet, kept, i, budget)?))
@@ -605,7 +769,7 @@ pub fn choice(
     worst_slots: usize,
     budget: &mut Budget,
 ) -> Result<Result<Chosen, Refusal>, Exhausted> {
-    let checks = check_sheet(sheet)
+    let checks = check_framed(sheet)
         .and_then(|_| check_slots(kept_slots, sheet.count))
         .and_then(|_| check_slots(worst_slots, sheet.count));
     if let Err(r) = checks {
@@ -648,7 +812,7 @@ pub fn check_run(
     ready_slots: usize,
     finish_slots: usize,
 ) -> Result<Vec<Release>, Refusal> {
-    check_sheet(sheet)?;
+    check_framed(sheet)?;
     check_count(n)?;
     check_slots(kept.len(), sheet.count)?;
     columns.check_slots(n)?;
@@ -674,7 +838,7 @@ pub fn run(
 ) -> Result<(Vec<u64>, Vec<u64>), Refusal> {
     let list = check_run(sheet, kept, n, columns, ready_slots, finish_slots)?;
     let ready = ready_ticks(sheet, kept, &list);
-    let finish = finish_ticks(sheet.charge, &list, &ready);
+    let finish = finish_by_event(&sheet.frame, sheet.charge, &list, &ready);
     Ok((column(&ready), column(&finish)))
 }
 
@@ -696,7 +860,7 @@ pub fn jump(
 ) -> Result<Jumped, Refusal> {
     let list = check_run(sheet, kept, n, columns, ready_slots, finish_slots)?;
     let ready = ready_ticks(sheet, kept, &list);
-    let finish = finish_ticks_by_job(sheet.charge, &list, &ready);
+    let finish = finish_by_job(&sheet.frame, sheet.charge, &list, &ready);
     Ok(Jumped { ready: column(&ready), finish: column(&finish), stops: stops(&ready, &finish) })
 }
 

@@ -21,9 +21,11 @@ static uint8_t file[NOLKRADA_READ_BYTES];
 static const char line[] = "1000000,1000000,1000000,1000000\n";
 static char text[NOLKRADA_MAX_TEXT + sizeof line - 1];
 static uint64_t answer[4], code;
-/* The parts of a call that a case changes: the charge, how many tasks, releases, slots, bytes, characters, numbers of a sheet that
- * is read or loaded and words there are, and which task is asked for. */
+/* The parts of a call that a case changes: the charge, the frame, how many numbers it has, tasks, releases, slots, bytes, characters,
+ * numbers of a sheet that is read or loaded and words there are, and which task is asked for. */
 static uint8_t charge;
+static struct nolkrada_frame frame;
+static size_t frame_numbers;
 static uint32_t tasks, releases, which;
 /* The tick of the first release. */
 static uint64_t first;
@@ -33,8 +35,8 @@ static void nothing(void) { code = 0; }
 static void arrival_count(void) {
     code = nolkrada_arrival_count(sheet, NUMBERS, tasks, charge, which, kept, slots, 1000000, answer, words);
 }
-static void verdict(void) { code = nolkrada_verdict(sheet, NUMBERS, tasks, charge, which, kept, slots, answer, words); }
-static void choice(void) { code = nolkrada_choice(sheet, NUMBERS, tasks, charge, kept, slots, worst, slots, answer, words); }
+static void verdict(void) { code = nolkrada_verdict(sheet, NUMBERS, tasks, charge, &frame.ticks, frame_numbers, which, kept, slots, answer, words); }
+static void choice(void) { code = nolkrada_choice(sheet, NUMBERS, tasks, charge, &frame.ticks, frame_numbers, kept, slots, worst, slots, answer, words); }
 static void trace_check(void) {
     code = nolkrada_trace_check(sheet, NUMBERS, tasks, charge, releases, task, slots, tick, slots, cost, slots, answer, words);
 }
@@ -42,11 +44,11 @@ static void ready_ticks(void) {
     code = nolkrada_ready(sheet, NUMBERS, tasks, charge, kept, slots, releases, task, slots, tick, slots, cost, slots, ready, slots);
 }
 static void run(void) {
-    code = nolkrada_run(sheet, NUMBERS, tasks, charge, kept, slots, releases, task, slots, tick, slots, cost, slots, ready, slots,
+    code = nolkrada_run(sheet, NUMBERS, tasks, charge, &frame.ticks, frame_numbers, kept, slots, releases, task, slots, tick, slots, cost, slots, ready, slots,
                         finish, slots);
 }
 static void jump(void) {
-    code = nolkrada_jump(sheet, NUMBERS, tasks, charge, kept, slots, releases, task, slots, tick, slots, cost, slots, ready, slots,
+    code = nolkrada_jump(sheet, NUMBERS, tasks, charge, &frame.ticks, frame_numbers, kept, slots, releases, task, slots, tick, slots, cost, slots, ready, slots,
                          finish, slots, answer, words);
 }
 static void read_file(void) {
@@ -79,6 +81,7 @@ static void full(void) {
         cost[n] = 60;
     }
     charge = 5;
+    frame_numbers = 0;
     tasks = NOLKRADA_MAX_TASKS;
     releases = NOLKRADA_MAX_RELEASES;
     which = NOLKRADA_MAX_TASKS - 1;
@@ -151,6 +154,56 @@ static void low_task_cut(void) {
     memcpy(file + bytes - 1, file + 2, 17);
     bytes += 16;
 }
+/* A frame of 16 windows in which half of the ticks are ours, and one in which nearly all are; one window alone; the last window, the count
+ * and the ticks outside the rules; a choice of the high tasks alone and one that ends in 15 with a frame; a row of one number; and a kept
+ * jitter or a cost outside the rules beside a frame. */
+static void teeth(void) {
+    frame.ticks = NOLKRADA_MAX_FRAME;
+    frame.count = NOLKRADA_MAX_WINDOWS;
+    for (uint32_t k = 0; k < NOLKRADA_MAX_WINDOWS; k++) frame.windows[k].first = 625 * k, frame.windows[k].length = 312;
+    frame_numbers = NOLKRADA_FRAME_NUMBERS;
+}
+static void long_teeth(void) {
+    teeth();
+    for (uint32_t k = 0; k < NOLKRADA_MAX_WINDOWS; k++) frame.windows[k].length = 624;
+}
+static void one_window(void) {
+    teeth();
+    frame.count = 1;
+    frame.windows[0].length = NOLKRADA_MAX_FRAME;
+}
+static void last_window(void) {
+    teeth();
+    frame.windows[NOLKRADA_MAX_WINDOWS - 1].length = 626;
+}
+static void many_windows(void) {
+    teeth();
+    frame.count = NOLKRADA_MAX_WINDOWS + 1;
+}
+static void long_frame(void) {
+    teeth();
+    frame.ticks = NOLKRADA_MAX_FRAME + 1;
+}
+static void framed_low(void) {
+    half_low();
+    long_teeth();
+}
+static void framed_high(void) {
+    last_high();
+    long_teeth();
+}
+static void one_number(void) {
+    teeth();
+    frame_numbers = 1;
+}
+static void framed_kept(void) {
+    teeth();
+    last_kept();
+}
+static void framed_cost(void) {
+    teeth();
+    last_cost();
+}
 static void crowded(void) {
     for (uint32_t n = 0; n < SLOTS; n++) tick[n] = first;
 }
@@ -173,7 +226,8 @@ static void (*const cases[])(void) = {nothing, few_numbers, no_words, no_slots, 
                                       no_charge, most_charge, over_charge, second_charge, zero_charge, last_cost, last_kept, last_tick,
                                       tight, all_low, last_low, half_low, last_high, wrong_mark, low_and_more, low_task_cut, crowded,
                                       short_ticks, cut, one_more_byte, no_text, text_cut, one_more_line, line_form, line_zero,
-                                      line_range};
+                                      line_range, teeth, long_teeth, one_window, last_window, many_windows, long_frame, framed_low,
+                                      framed_high, one_number, framed_kept, framed_cost};
 
 static unsigned char room[1 << 16];
 static ucontext_t outside, inside;

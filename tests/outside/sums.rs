@@ -1,6 +1,7 @@
 //! The reference implementation on the twelve sums and the two printed examples of document 01, 7 to 12 and the examples as document
 //! 02's R-2 has them, on R-2's own figures, on stops of R-5 and lists of t and evaluations of R-8 that were counted by hand, on records of
-//! written by hand, and on verdicts, choices and runs with a charge and choices with marks that were worked out by hand.
+//! written by hand, and on verdicts, choices and runs with a charge, choices with marks, and verdicts and runs with a
+//! frame that were worked out by hand.
 
 use crate::reference::*;
 
@@ -290,6 +291,94 @@ fn mark_records() -> usize {
     files.len() + 14
 }
 
+/// Sheets with a frame, kept jitters and a task: its verdict.
+pub fn framed_verdicts() -> Vec<(Sheet, Vec<u32>, usize, Verdict)> {
+    let in_frame = |ticks: u32, windows: &[(u32, u32)], tasks: &[Task]| Sheet::of(tasks).framed(Some(Frame::of(ticks, windows)));
+    let large = task(MAX_TIME, 0, MAX_TIME, MAX_TIME);
+    // ours 0 to 3 of 10: from 3 on the second of ours is tick 10, and from 4 on it is 11, both after 8 ticks
+    let one = |d: u32| in_frame(10, &[(0, 4)], &[task(10, 0, 2, d)]);
+    // ours 0, 2, 3, 4 of 10: from 5 on the fifth of ours is 20, after 16 ticks; from 1 on it is 12
+    let two = |d: u32| in_frame(10, &[(0, 1), (2, 3)], &[task(20, 0, 5, d)]);
+    // ours 0 and 1 of 4. From 2 on the one of task 0 is 4, after 3 ticks. Of task 1 the demand is 3 up to 5 ticks, 4 up to 10; from 2 on ours
+    // are 4, 5, 8, 9, the fourth after 8 ticks, from 1 on 1, 4, 5, the third after 5 ticks
+    let pair = |d: u32| in_frame(4, &[(0, 2)], &[task(5, 0, 1, 4), task(20, 0, 2, d)]);
+    // ours 3 of 4. With J = 3 and K = 1 R(0) is 8 + 1 + 2
+    let held = |d: u32| in_frame(4, &[(3, 1)], &[task(10, 3, 2, d)]);
+    // W(0) is 8, over d_5(1) = 3, and W(1) is 16, over d_5(2) = 11; W(2) is 24 and d_5(3) = 19: R(q) is 9, 17 − 3, 25 − 11, 33 − 19, ..
+    let never = in_frame(4, &[(0, 1)], &[task(8, 5, 2, 13)]);
+    let half = in_frame(2, &[(0, 1)], &[large, large]);
+    vec![
+        (one(9), vec![0], 0, Verdict::Fits { r: 9, q: 0 }),
+        (one(8), vec![0], 0, Verdict::Late { q: 0, r: 9 }),
+        (two(17), vec![0], 0, Verdict::Fits { r: 17, q: 0 }),
+        (two(16), vec![0], 0, Verdict::Late { q: 0, r: 17 }),
+        (pair(9), vec![0, 0], 0, Verdict::Fits { r: 4, q: 0 }),
+        (pair(9), vec![0, 0], 1, Verdict::Fits { r: 9, q: 0 }),
+        (pair(8), vec![0, 0], 1, Verdict::Late { q: 0, r: 9 }),
+        (held(11), vec![1], 0, Verdict::Fits { r: 11, q: 0 }),
+        (held(10), vec![1], 0, Verdict::Late { q: 0, r: 11 }),
+        (never, vec![5], 0, Verdict::Late { q: 1, r: 14 }),
+        // 1,000,000 of ours from tick 1 on; below them nothing is left
+        (half.clone(), vec![0, 0], 0, Verdict::Late { q: 0, r: 2_000_001 }),
+        (half, vec![0, 0], 1, Verdict::Horizon { q: 0 }),
+    ]
+}
+
+/// Sheets with a frame and lists, with nothing kept: the finish ticks. Ours are 0 and 1 of 4.
+pub fn framed_runs() -> Vec<(Sheet, Vec<Release>, Vec<i64>)> {
+    let sheet = Sheet::of(&[task(9, 0, 3, 9), task(9, 0, 3, 9)]).framed(Some(Frame::of(4, &[(0, 2)])));
+    vec![
+        // ticks 1, 4, 5; 4, 5, 8
+        (sheet.clone(), list_of(&[(0, 0, 3)]), vec![6]),
+        (sheet.clone(), list_of(&[(0, 1, 3)]), vec![9]),
+        (sheet.charged(1), list_of(&[(0, 0, 2)]), vec![6]),
+        // task 1 in tick 1, task 0 in tick 4, task 1 in tick 5
+        (sheet.clone(), list_of(&[(1, 0, 2), (0, 1, 1)]), vec![6, 5]),
+        // the last tick is 0 of a frame
+        (sheet.clone(), list_of(&[(0, MAX_TICK - 1, 1), (1, MAX_TICK, 2)]), vec![MAX_TICK as i64 + 1, MAX_TICK as i64 + 5]),
+        (sheet, vec![], vec![]),
+    ]
+}
+
+/// Frames: our ticks, verdicts and runs; and what of a frame is refused.
+fn frames() -> usize {
+    let frame = Some(Frame::of(10, &[(0, 1), (2, 3)]));
+    let ours: Vec<i64> = (0..20).filter(|&t| is_ours(&frame, t)).collect();
+    assert_eq!(ours, [0, 2, 3, 4, 10, 12, 13, 14]);
+    let supply = Supply::of(&frame);
+    let before: Vec<i64> = [0, 1, 2, 5, 10, 11, 25].iter().map(|&t| supply.before(t)).collect();
+    assert_eq!(before, [0, 1, 1, 4, 4, 5, 12]);
+    let after: Vec<i64> = [1, 2, 4, 5, 8].iter().map(|&n| supply.after(n)).collect();
+    assert_eq!(after, [1, 3, 5, 11, 15]);
+    let (verdicts, runs) = (framed_verdicts(), framed_runs());
+    for (sheet, kept, i, verdict) in &verdicts {
+        let judged = judge(sheet, kept, *i, &mut Budget::of(u64::MAX)).ok().unwrap();
+        assert_eq!((judged.verdict, judged.evaluations), (*verdict, 0));
+    }
+    for (sheet, list, finish) in &runs {
+        let ready: Vec<i64> = list.iter().map(|x| x.tick as i64).collect();
+        assert_eq!(&finish_by_event(&sheet.frame, sheet.charge, list, &ready), finish);
+        assert_eq!(&finish_by_job(&sheet.frame, sheet.charge, list, &ready), finish);
+        if finish.iter().all(|&f| f < 1_000) {
+            assert_eq!(&finish_by_tick(&sheet.frame, sheet.charge, list, &ready), finish);
+        }
+    }
+    let refusal = |ticks: u32, windows: &[(u32, u32)]| {
+        let sheet = printed_sheet().framed(Some(Frame::of(ticks, windows)));
+        check_framed(&sheet).err().map(|r| (r.number, r.place))
+    };
+    assert_eq!(refusal(10, &[(0, 4), (5, 5)]), None);
+    assert_eq!(refusal(10, &[(0, 4), (4, 5)]), Some((18, 1)));
+    assert_eq!(refusal(10, &[(0, 4), (5, 6)]), Some((18, 1)));
+    assert_eq!(refusal(10, &[(0, 0), (5, 5)]), Some((18, 0)));
+    assert_eq!(refusal(10, &[(5, u32::MAX)]), Some((18, 0)));
+    assert_eq!(refusal(10, &[]), Some((18, 16)));
+    assert_eq!(refusal(10, &[(0, 1); 17]), Some((18, 16)));
+    assert_eq!(refusal(0, &[]), Some((18, 17)));
+    assert_eq!(refusal(10_001, &[(0, 1)]), Some((18, 17)));
+    3 + verdicts.len() + runs.len() + 9
+}
+
 /// Sheets with kept jitters and a task: how many q its verdict takes, and the number of evaluations.
 pub fn numbers() -> Vec<(Sheet, Vec<u32>, usize, i64, u64)> {
     let (s, large) = (printed_sheet(), task(MAX_TIME, 0, MAX_TIME, MAX_TIME));
@@ -479,7 +568,7 @@ pub fn check() -> usize {
     assert_eq!(verdict_for(&Sheet::of(&[task(8, 7, 2, 8)]), &[7], 0), Verdict::Fits { r: 4, q: 1 });
     // each finish is one tick later than in a run that lets a job run in its ready tick
     let ready = ready_ticks(&s, &[2, 4, 0], &list);
-    let at_once: Vec<i64> = finish_from(0, &list, &ready).iter().map(|t| t + 1).collect();
+    let at_once: Vec<i64> = finish_from(&None, 0, &list, &ready).iter().map(|t| t + 1).collect();
     assert_eq!(finish_ticks(0, &list, &ready), at_once);
     // stops of the printed releases: starts 1, 1, 5 and finishes 3, 5, 7
     let finish = finish_ticks_by_job(0, &list, &ready);
@@ -492,7 +581,7 @@ pub fn check() -> usize {
     assert_eq!(stops_of(&[(1, 0, 1), (0, 0, 1)]), 3);
     // two releases alone, at tick 0 and at the limit
     assert_eq!(stops_of(&[(0, 0, 1), (0, MAX_TICK, 1)]), 4);
-    // twelve sums, two examples, these with D 11, three figures more, seven of stops, the records, those of a charge, evaluations, and those
-    // of marks
-    12 + 2 + 2 + 3 + 7 + records() + charge_records() + charges() + evaluations() + marks() + mark_records()
+    // twelve sums, two examples, these with D 11, three figures more, seven of stops, the records, those of a charge, evaluations, those of
+    // marks and those of frames
+    12 + 2 + 2 + 3 + 7 + records() + charge_records() + charges() + evaluations() + marks() + mark_records() + frames()
 }

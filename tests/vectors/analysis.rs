@@ -2,7 +2,7 @@
 
 use crate::case::*;
 use crate::lists::{full_kept, full_sheet};
-use crate::reference::{arrival_count, choice, verdict, Budget, Chosen, Sheet, Verdict};
+use crate::reference::{arrival_count, choice, verdict, Budget, Chosen, Frame, Sheet, Verdict};
 
 const MILLION: u32 = 1_000_000;
 
@@ -49,7 +49,7 @@ fn arrival_blocks(c: &TaskCall) -> Vec<Vec<u8>> {
 }
 
 fn verdict_blocks(c: &TaskCall) -> Vec<Vec<u8>> {
-    vec![head(1, &[c.task], &c.sheet), numbers(&c.kept)]
+    [framed_head(1, &[c.task], &c.sheet), vec![numbers(&c.kept)]].concat()
 }
 
 /// What the choice is given.
@@ -76,7 +76,7 @@ fn choice_answer(c: &ChoiceCall) -> String {
 }
 
 fn choice_blocks(c: &ChoiceCall) -> Vec<Vec<u8>> {
-    vec![head(2, &[], &c.sheet), numbers(&c.kept), numbers(&c.worst)]
+    [framed_head(2, &[], &c.sheet), vec![numbers(&c.kept), numbers(&c.worst)]].concat()
 }
 
 fn add_arrivals(v: &mut Vectors, label: &str, c: &TaskCall) {
@@ -752,6 +752,108 @@ fn marked_tasks(v: &mut Vectors) {
     }
 }
 
+/// Verdicts with a frame, and choices: the demand is met by our ticks alone, from the worst start on. With a frame there are no evaluations.
+fn framed_worked(v: &mut Vectors) {
+    let mut add = |label: &str, sheet: &Sheet, task: u32, kept: &[u32], line: &str| {
+        worked_verdict(v, &format!("frame, {label}"), &about(sheet, task, kept, 0), line, 0);
+    };
+    // Ours 0 to 3 of 10: from 4 on the second of ours is tick 11, after 8 ticks.
+    let one = |d: u32| in_frame(&sheet(&[(10, 0, 2, d)]), 10, &[(0, 4)]);
+    add("0 to 3 of 10, D 9", &one(9), 0, &[0], " fits R 9 q 0");
+    add("0 to 3 of 10, D 8", &one(8), 0, &[0], " late q 0 R 9");
+    // Ours 0, 2, 3, 4 of 10: from 5 on the fifth of ours is tick 20, after 16 ticks. From 1 on it is tick 12.
+    let two = |d: u32| in_frame(&sheet(&[(20, 0, 5, d)]), 10, &[(0, 1), (2, 3)]);
+    add("0, 2, 3, 4 of 10, D 17", &two(17), 0, &[0], " fits R 17 q 0");
+    add("0, 2, 3, 4 of 10, D 16", &two(16), 0, &[0], " late q 0 R 17");
+    // Ours 0 and 1 of 4. The demand is 3 up to 5 ticks, then 4: from 2 on the fourth of ours is tick 9, after 8 ticks.
+    let pair = |d: u32| in_frame(&sheet(&[(5, 0, 1, 4), (20, 0, 2, d)]), 4, &[(0, 2)]);
+    add("0, 1 of 4, task 0", &pair(9), 0, &[0, 0], " fits R 4 q 0");
+    add("0, 1 of 4, D 9", &pair(9), 1, &[0, 0], " fits R 9 q 0");
+    add("0, 1 of 4, D 8", &pair(8), 1, &[0, 0], " late q 0 R 9");
+    // W is 8, 16, and d_5 is 3, 11: R is 9, 17 - 3.
+    add("0 of 4, q 1", &in_frame(&sheet(&[(8, 5, 2, 13)]), 4, &[(0, 1)]), 0, &[5], " late q 1 R 14");
+    // The gap of 1 is the worst one for task 1, that of 3 for task 0: W is 5 and 10.
+    let gaps = |k: u32| (in_frame(&sheet(&[(20, 10, 2, 12), (40, 0, 4, 40)]), 10, &[(0, 3), (4, 3)]), [k, 0]);
+    add("gaps of 1 and 3, K 4", &gaps(4).0, 0, &gaps(4).1, " fits R 12 q 0");
+    add("gaps of 1 and 3, K 3", &gaps(3).0, 0, &gaps(3).1, " late q 0 R 13");
+    add("gaps of 1 and 3, task 1", &gaps(4).0, 1, &gaps(4).1, " fits R 11 q 0");
+    // From the tick after it on a window of one tick brings E of ours after E frames: up to the horizon, and one over it.
+    let tick = |e: u32| in_frame(&sheet(&[(MILLION, 0, e, MILLION)]), 10_000, &[(5_000, 1)]);
+    add("1 of 10000, E 99", &tick(99), 0, &[0], " fits R 990001 q 0");
+    add("1 of 10000, E 1000", &tick(1_000), 0, &[0], " late q 0 R 10000001");
+    add("1 of 10000, E 1001", &tick(1_001), 0, &[0], " horizon q 0");
+    let large = in_frame(&sheet(&[(MILLION, 0, MILLION, MILLION); 2]), 2, &[(0, 1)]);
+    add("0 of 2, largest numbers", &large, 0, &[0, 0], " late q 0 R 2000001");
+    add("0 of 2, nothing left", &large, 1, &[0, 0], " horizon q 0");
+    let c = choosing(&gaps(0).0);
+    v.worked("choice, frame, gaps of 1 and 3", &choice_blocks(&c), &choice_answer(&c), " fits, 4 0 - -, 12 11 - -");
+    let c = choosing(&in_frame(&folder_sheet(), 10, &[(0, 4), (5, 5)]));
+    add_choice(v, "frame, all but 4 of 10", &c);
+}
+
+/// A frame that is all window gives what no frame gives, but the evaluations.
+fn framed_whole(v: &mut Vectors) {
+    for ticks in [1, 2, 10, 10_000] {
+        for (label, s) in [("printed sheet", printed_sheet()), ("folder sheet", folder_sheet()), ("full sheet", full_sheet())] {
+            let (whole, kept) = (in_frame(&s, ticks, &[(0, ticks)]), s.tasks.iter().map(|t| t.j / 2).collect::<Vec<u32>>());
+            for i in [0, s.count - 1] {
+                let (c, plain) = (about(&whole, i as u32, &kept, 0), verdict_answer(&about(&s, i as u32, &kept, 0)));
+                let line = plain.split(" evaluations").next().unwrap();
+                worked_verdict(v, &format!("frame, all {ticks} ticks, {label}, task {i}"), &c, line, 0);
+            }
+            if s.count < 32 {
+                let c = choosing(&whole);
+                let label = format!("choice, frame, all {ticks} ticks, {label}");
+                v.worked(&label, &choice_blocks(&c), &choice_answer(&c), &choice_answer(&choosing(&s)));
+            }
+        }
+    }
+}
+
+/// Small sheets in each frame, some with a charge or a low task.
+fn framed_small(v: &mut Vectors) {
+    let mut m = Mixer::from(10);
+    for (name, frame) in frames() {
+        let scale = if frame.ticks > 1_000 { 500 } else { 2 };
+        for n in 0..3 {
+            let all: Vec<_> = (0..m.within(1, 4))
+                .map(|_| {
+                    let p = scale * m.within(8, 40);
+                    let e = m.within(1, 1 + p / 12);
+                    (p, m.within(0, p), e, m.within(p / 2 + e, 4 * p))
+                })
+                .collect();
+            let s = sheet(&all).charged((n == 2) as u8).marked(&[false, n == 1]).framed(Some(frame.clone()));
+            let kept: Vec<u32> = s.tasks.iter().map(|t| m.within(0, t.j)).collect();
+            for i in 0..s.count {
+                add_verdict(v, &format!("frame {name}, sheet {n}, task {i}"), &about(&s, i as u32, &kept, 0));
+            }
+            add_choice(v, &format!("frame {name}, sheet {n}"), &choosing(&s));
+        }
+    }
+}
+
+/// Frames outside the rules; then beside what comes before 18, the sheet's own checks with 17, and what comes after it.
+fn framed_checks(v: &mut Vectors) {
+    for (label, frame, place) in wrong_frames() {
+        let line = format!(" refused 18 at {place}");
+        let wrong = printed_sheet().framed(Some(frame));
+        let c = about(&wrong, 1, &[2, 4, 0], 0);
+        v.worked(&format!("verdict, frame, {label}"), &verdict_blocks(&c), &verdict_answer(&c), &line);
+        let c = choosing(&wrong);
+        v.worked(&format!("choice, frame, {label}"), &choice_blocks(&c), &choice_answer(&c), &format!("{line}, - - - - -, - - - - -"));
+    }
+    let frame = || Some(Frame::of(10, &[(0, 4), (4, 3)]));
+    for (label, c) in task_refusals() {
+        add_verdict(v, &format!("frame 18 at 1, {label}"), &TaskCall { sheet: c.sheet.framed(frame()), ..c.clone() });
+    }
+    for (label, c) in choice_refusals() {
+        add_choice(v, &format!("frame 18 at 1, {label}"), &ChoiceCall { sheet: c.sheet.framed(frame()), ..c.clone() });
+    }
+    let charged = about(&printed_sheet().charged(5).framed(frame()), 1, &[2, 4, 0], 0);
+    v.worked("verdict, frame 18 at 1, charge 5", &verdict_blocks(&charged), &verdict_answer(&charged), " refused 17 at 0");
+}
+
 pub fn vectors() -> Vectors {
     let mut v = Vectors::new();
     worked_tasks(&mut v);
@@ -788,5 +890,9 @@ pub fn vectors() -> Vectors {
     marked_small(&mut v);
     marked_full(&mut v);
     marked_tasks(&mut v);
+    framed_worked(&mut v);
+    framed_whole(&mut v);
+    framed_small(&mut v);
+    framed_checks(&mut v);
     v
 }

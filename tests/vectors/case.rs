@@ -1,6 +1,6 @@
 //! A stored case: blocks of standard input and the line that answers them.
 
-use crate::reference::{Columns, Refusal, Release, Sheet, Task, MAX_TICK};
+use crate::reference::{Columns, Frame, Refusal, Release, Sheet, Task, MAX_TICK};
 
 /// A number of a column: 32 bits, or 64 for release, ready and finish ticks.
 pub trait Number: Copy + PartialEq + std::fmt::Display {
@@ -79,6 +79,18 @@ pub fn head_with(call: u32, given: &[u32], sheet: &Sheet, low: u32) -> Vec<u8> {
     numbers(&all)
 }
 
+/// The head of a call that takes a frame. Where the sheet has one, number 6 of the head is 1, and a block of the frame's numbers follows:
+/// ticks, count, and first tick and length of each window that is given. Without one the head is as it was, and no block follows.
+pub fn framed_head(call: u32, given: &[u32], sheet: &Sheet) -> Vec<Vec<u8>> {
+    let mut first = head(call, given, sheet);
+    let Some(frame) = &sheet.frame else {
+        return vec![first];
+    };
+    first[4 * 6] = 1;
+    let windows = frame.windows.iter().flat_map(|&(first, length)| [first, length]);
+    vec![first, numbers(&[frame.ticks, frame.count as u32].into_iter().chain(windows).collect::<Vec<u32>>())]
+}
+
 /// `n` slots that hold the stroke.
 pub fn held<N: Number>(n: usize) -> Vec<N> {
     vec![N::HELD; n]
@@ -109,6 +121,67 @@ pub fn sheet(tasks: &[(u32, u32, u32, u32)]) -> Sheet {
 
 pub fn list(releases: &[(u32, u64, u32)]) -> Vec<Release> {
     releases.iter().map(|&(task, tick, cost)| Release { task, tick, cost }).collect()
+}
+
+/// A sheet with a frame of so many ticks and these windows.
+pub fn in_frame(sheet: &Sheet, ticks: u32, windows: &[(u32, u32)]) -> Sheet {
+    sheet.framed(Some(Frame::of(ticks, windows)))
+}
+
+/// Some frames: one window of one tick, at the start, inside and at the end; a gap of one tick; two gaps that differ; windows that join over
+/// the end; 16 windows; windows past the count; the largest one.
+pub fn frames() -> Vec<(&'static str, Frame)> {
+    let teeth: Vec<(u32, u32)> = (0..16).map(|k| (3 * k, 1 + k % 2)).collect();
+    let mut more = Frame::of(10, &[(1, 2), (4, 5), (2, 0), (u32::MAX, 1)]);
+    more.count = 2;
+    vec![
+        ("0 of 2", Frame::of(2, &[(0, 1)])),
+        ("1 of 3", Frame::of(3, &[(1, 1)])),
+        ("3 of 4", Frame::of(4, &[(3, 1)])),
+        ("all but 4 of 10", Frame::of(10, &[(0, 4), (5, 5)])),
+        ("gaps of 1 and 3", Frame::of(10, &[(0, 3), (4, 3)])),
+        ("joined over the end", Frame::of(7, &[(0, 2), (3, 1), (5, 2)])),
+        ("16 windows", Frame::of(48, &teeth)),
+        ("windows past the count", more),
+        ("10000 ticks", Frame::of(10_000, &[(0, 9_000), (9_001, 999)])),
+    ]
+}
+
+/// Frames outside the rules and the place of the refusal: each rule at its edge, the frame before the count before the windows.
+pub fn wrong_frames() -> Vec<(String, Frame, u64)> {
+    let mut all: Vec<(String, Frame, u64)> = Vec::new();
+    let mut add = |label: &str, ticks: u32, count: usize, windows: &[(u32, u32)], place: u64| {
+        all.push((label.to_string(), Frame { ticks, count, windows: windows.to_vec() }, place));
+    };
+    add("ticks and count 0", 0, 0, &[], 17);
+    add("ticks 0", 0, 1, &[(0, 1)], 17);
+    add("ticks 10001", 10_001, 1, &[(0, 1)], 17);
+    add("ticks 4294967295", u32::MAX, 1, &[(0, 1)], 17);
+    add("count 0", 10, 0, &[(0, 1)], 16);
+    add("count 17", 100, 17, &[(0, 1); 16], 16);
+    add("count 4294967295", 10_000, u32::MAX as usize, &[(0, 1)], 16);
+    add("ticks before count", 10_001, 17, &[(0, 0)], 17);
+    add("count before windows", 10, 0, &[(10, 0)], 16);
+    add("window 0 empty", 10, 2, &[(4, 0), (6, 1)], 0);
+    add("window 0 a tick too long", 10, 1, &[(4, 7)], 0);
+    add("window 0 after the frame", 10, 1, &[(10, 1)], 0);
+    add("window 0 over 2^32", 10, 1, &[(5, u32::MAX)], 0);
+    add("first tick over 2^32", 10, 1, &[(u32::MAX, 5)], 0);
+    add("window 1 touches", 10, 2, &[(0, 4), (4, 3)], 1);
+    add("window 1 overlaps", 10, 2, &[(0, 4), (3, 3)], 1);
+    add("window 1 before window 0", 10, 2, &[(5, 4), (0, 3)], 1);
+    add("window 1 not given", 10, 2, &[(0, 4)], 1);
+    add("windows 0 and 1", 10, 2, &[(0, 11), (4, 0)], 0);
+    for k in [2usize, 15] {
+        let mut windows: Vec<(u32, u32)> = (0..16).map(|k| (3 * k, 2)).collect();
+        windows[k].1 = 0;
+        add(&format!("window {k} of 16 empty"), 48, 16, &windows, k as u64);
+        windows[k] = (3 * k as u32 - 1, 1);
+        add(&format!("window {k} of 16 touches"), 48, 16, &windows, k as u64);
+        windows[k] = (3 * k as u32, 49 - 3 * k as u32);
+        add(&format!("window {k} of 16 a tick too long"), 48, 16, &windows, k as u64);
+    }
+    all
 }
 
 /// The sheet without a charge in which each cost has it in it.

@@ -3,7 +3,7 @@
 
 use crate::case::*;
 use crate::lists::*;
-use crate::reference::{check_run, finish_ticks_by_tick, jump, ready_ticks, run, Release, Sheet, MAX_TICK};
+use crate::reference::{check_run, finish_by_tick, jump, ready_ticks, run, Frame, Release, Sheet, MAX_TICK};
 
 /// The last tick of a case that is made by the ticking run too, which goes through all of them.
 const LAST_TICKED: u64 = 1_000_000_000;
@@ -48,7 +48,8 @@ fn line_alone(columns: &str, stops: u64) -> String {
 
 /// Call 0 is both runs, call 1 the run that jumps.
 fn blocks(c: &ListCall) -> Vec<Vec<u8>> {
-    let mut all = vec![head(alone(c) as u32, &[c.count as u32], &c.sheet), numbers(&c.kept)];
+    let mut all = framed_head(alone(c) as u32, &[c.count as u32], &c.sheet);
+    all.push(numbers(&c.kept));
     all.extend(c.list_blocks());
     all.push(numbers(&c.ready));
     all.push(numbers(&c.finish));
@@ -441,6 +442,93 @@ fn finish_refusals() -> Vec<(&'static str, ListCall)> {
     ]
 }
 
+/// Runs with a frame, whose ours stand before each case: in all other ticks nothing runs. Nothing is held.
+fn framed(v: &mut Vectors) {
+    let mut add = |label: &str, frame: Frame, charge: u8, releases: &[(u32, u64, u32)], columns: &str, stops: u64| {
+        let c = ListCall::of(&four_tasks().charged(charge).framed(Some(frame)), &[200; 4], &list(releases));
+        v.worked(&format!("frame, {label}"), &blocks(&c), &answer(&c), &line(columns, stops));
+    };
+    let half = || Frame::of(4, &[(0, 2)]);
+    // 1, 4, 5. 4, 5, 8. 4.
+    add("0, 1 of 4, released at 0", half(), 0, &[(0, 0, 3)], ", 0 - -, 6 - -", 2);
+    add("0, 1 of 4, released at 1", half(), 0, &[(0, 1, 3)], ", 1 - -, 9 - -", 2);
+    add("0, 1 of 4, released at 3", half(), 0, &[(0, 3, 1)], ", 3 - -, 5 - -", 2);
+    add("0, 1 of 4, with a charge", half(), 1, &[(0, 0, 2)], ", 0 - -, 6 - -", 2);
+    // Task 1 in tick 1, task 0 in tick 4, task 1 in tick 5.
+    add("interrupted in a gap", half(), 0, &[(1, 0, 2), (0, 1, 1)], ", 0 1 - -, 6 5 - -", 4);
+    // Task 1 in ticks 1 and 4, task 0 in ticks 5 and 8, task 1 in tick 9.
+    add("interrupted in a window", half(), 0, &[(1, 0, 3), (0, 4, 2)], ", 0 4 - -, 10 9 - -", 4);
+    // Two starts in the gap from 2 to 3: task 0 in ticks 4 and 5, task 1 in tick 8.
+    add("two starts in a gap", half(), 0, &[(1, 1, 1), (0, 2, 2)], ", 1 2 - -, 9 6 - -", 4);
+    // 0, 2, 3, 4, 10, 12, ..: 2, 3, 4, 10, 12.
+    add("two gaps", Frame::of(10, &[(0, 1), (2, 3)]), 0, &[(0, 0, 5)], ", 0 - -, 13 - -", 2);
+    // 3, 7, 11.
+    add("3 of 4", Frame::of(4, &[(3, 1)]), 0, &[(0, 3, 2)], ", 3 - -, 12 - -", 2);
+    // 5, 6, 7, 8.
+    add("joined over the end", Frame::of(7, &[(0, 2), (5, 2)]), 0, &[(0, 2, 4)], ", 2 - -, 9 - -", 2);
+    add("no release", half(), 0, &[], ", - -, - -", 0);
+    // The worked frame: task 0 in 1 and 2, task 1 in 6, 10, 11 and 12, task 0, held to 16, in 20 and 21.
+    let six = in_frame(&sheet(&[(20, 10, 2, 12), (40, 0, 4, 40)]), 10, &[(0, 3), (4, 3)]);
+    let c = ListCall::of(&six, &[4, 0], &list(&[(0, 0, 2), (1, 5, 4), (0, 10, 2)]));
+    v.worked("frame, gaps of 1 and 3", &blocks(&c), &answer(&c), &line(", 0 5 16 - -, 3 13 22 - -", 6));
+}
+
+/// The same by the run that jumps alone, at late ticks. The last tick allowed is tick 0 of a frame of 4.
+fn framed_late(v: &mut Vectors) {
+    let mut add = |label: &str, c: &ListCall, columns: &str, stops: u64| {
+        v.worked(&format!("frame, alone, {label}"), &blocks(c), &answer(c), &line_alone(columns, stops));
+    };
+    let open = |ticks: u32, windows: &[(u32, u32)], releases: &[(u32, u64, u32)]| {
+        ListCall::of(&in_frame(&four_tasks(), ticks, windows), &[200; 4], &list(releases))
+    };
+    let two = open(4, &[(0, 2)], &[(3, 0, 1), (0, MAX_TICK, 2)]);
+    add("two releases, tick 0 and the limit", &two, ", 0 1000000000000000 - -, 2 1000000000000005 - -", 4);
+    // 1024 jobs of 1000000 ticks, one in each frame of 10000: the largest finish.
+    let largest = in_frame(&sheet(&[(1_000_000, 0, 1_000_000, 1_000_000)]), 10_000, &[(0, 1)]);
+    let all = ListCall::of(&largest, &[0], &list(&[(0, MAX_TICK, 1_000_000); 1024]));
+    let ready: Vec<u64> = (0..1024).map(|p| MAX_TICK + 1_000_000 * p).collect();
+    let finish: Vec<u64> = (1..=1024).map(|p| MAX_TICK + 10_000_000_000 * p + 1).collect();
+    assert_eq!(finish[1023], 1_010_240_000_000_001);
+    add("largest finish", &all, &after(&all, &ready, &finish), 2_048);
+}
+
+/// The lists of the cases without a frame in each frame, and in one that is all window, where they are as without it.
+fn framed_lists(v: &mut Vectors) {
+    let long = long();
+    for (label, c) in short().iter().chain([&long[0], &long[2]]) {
+        for (name, frame) in frames() {
+            // the late tick and the longest lists are for one of them
+            if (c.count == 1024 || label.starts_with("late")) && name != "16 windows" {
+                continue;
+            }
+            let c = ListCall { sheet: c.sheet.framed(Some(frame)), ..c.clone() };
+            v.case(&format!("frame {name}, {label}"), &blocks(&c), &answer(&c));
+        }
+        if c.count == 1024 {
+            continue;
+        }
+        let whole = ListCall { sheet: in_frame(&c.sheet, 7, &[(0, 7)]), ..c.clone() };
+        v.worked(&format!("frame, all 7 ticks, {label}"), &blocks(&whole), &answer(&whole), &answer(c));
+    }
+}
+
+/// Frames outside the rules, and one of them beside every other refusal of a run.
+fn framed_checks(v: &mut Vectors) {
+    for (label, frame, place) in wrong_frames() {
+        let c = ListCall { sheet: sound().sheet.framed(Some(frame)), ..sound() };
+        let half = format!(" refused 18 at {place}") + &column(&c.ready) + &column(&c.finish);
+        v.worked(&format!("frame, {label}"), &blocks(&c), &answer(&c), &format!("{half};{half}"));
+    }
+    for (label, c) in refusals().iter().chain(&kept_refusals()) {
+        let wrong = ListCall { sheet: in_frame(&c.sheet, 10, &[(0, 4), (4, 3)]), ..c.clone() };
+        v.case(&format!("frame 18 at 1, {label}"), &blocks(&wrong), &answer(&wrong));
+    }
+    let mut charged = sound();
+    charged.sheet = in_frame(&charged.sheet.charged(5), 10, &[(0, 4), (4, 3)]);
+    let half = String::from(" refused 17 at 0") + &column(&charged.ready) + &column(&charged.finish);
+    v.worked("frame 18 at 1, charge 5", &blocks(&charged), &answer(&charged), &format!("{half};{half}"));
+}
+
 pub fn vectors() -> Vectors {
     let mut v = Vectors::new();
     worked(&mut v);
@@ -450,7 +538,7 @@ pub fn vectors() -> Vectors {
             let all: Vec<Release> =
                 (0..c.count).map(|p| Release { task: c.task[p], tick: c.tick[p], cost: c.cost[p] }).collect();
             let ready = ready_ticks(&c.sheet, &c.kept, &all);
-            let finish = finish_ticks_by_tick(c.sheet.charge, &all, &ready);
+            let finish = finish_by_tick(&c.sheet.frame, c.sheet.charge, &all, &ready);
             let end = finish.iter().copied().max().unwrap_or(0);
             let stops = (0..=end).filter(|t| finish.contains(t) || ready.contains(&(t - 1))).count() as u64;
             let slots = |ticks: &[i64]| ticks.iter().map(|&t| t as u64).collect::<Vec<u64>>();
@@ -479,5 +567,9 @@ pub fn vectors() -> Vectors {
     for (label, c, high) in &marks() {
         v.worked(label, &blocks(c), &answer(c), &answer(high));
     }
+    framed(&mut v);
+    framed_late(&mut v);
+    framed_lists(&mut v);
+    framed_checks(&mut v);
     v
 }

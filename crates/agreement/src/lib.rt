@@ -1,9 +1,10 @@
 // The run that jumps and the ticking run give the same: a consequence of their two contracts, stated over a function that makes both.
+use frame::Frame;
 use jumps::JumpAnswer;
 use taskset::Checked;
 use taskset::TaskSet;
 ghost use mathlib.Core.Path.{_≡_};
-ghost use Rattle.taskset.specs.TaskSet.{viewOf};
+ghost use Rattle.frame.specs.FrameView.{framedOf};
 ghost use Rattle.agreement.specs.Agreement.{Ticked, Jumped, SameEnds};
 
 // What the ticking run and the run that jumps answered.
@@ -12,10 +13,11 @@ pub struct BothAnswers {
     pub jumped: JumpAnswer,
 }
 
-// Both runs of a list, the ticking one with the first two columns and the one that jumps with the other two: what each answers and leaves in
-// its columns. Where the columns held the same before, the refusals are the same, and so are the columns, slot by slot.
+// Both runs of a list in a frame, if any, the ticking one with the first two columns and the one that jumps with the other two: what each
+// answers and leaves in its columns. Where the columns held the same before, the refusals are the same, and so are the columns, slot by slot.
 pub fn both_runs(
     s: TaskSet,
+    f: Frame,
     kept: &[u32],
     count: usize,
     task: &[u32],
@@ -27,11 +29,11 @@ pub fn both_runs(
     finishes: &mut [u64],
 ) -> BothAnswers
     ensures ticks { λ r. ⌜
-        Ticked (viewOf s) (now (kept .entry)) count (now (task .entry)) (now (tick .entry)) (now (cost .entry)) (now (ready .entry)) (now (finish .entry))
+        Ticked (framedOf s f) (now (kept .entry)) count (now (task .entry)) (now (tick .entry)) (now (cost .entry)) (now (ready .entry)) (now (finish .entry))
         (r .ticked) (now (ready .exit)) (now (finish .exit))
         ⌝ }
     ensures jumps { λ r. ⌜
-        Jumped (viewOf s) (now (kept .entry)) count (now (task .entry)) (now (tick .entry)) (now (cost .entry)) (now (readies .entry)) (now (finishes .entry))
+        Jumped (framedOf s f) (now (kept .entry)) count (now (task .entry)) (now (tick .entry)) (now (cost .entry)) (now (readies .entry)) (now (finishes .entry))
         (r .jumped) (now (readies .exit)) (now (finishes .exit))
         ⌝ }
     ensures same { λ r. ⌜
@@ -39,8 +41,8 @@ pub fn both_runs(
         → SameEnds (r .ticked) (now (ready .exit)) (now (finish .exit)) (r .jumped) (now (readies .exit)) (now (finishes .exit)))
         ⌝ }
 {
-    let ticked = schedule::run(s, kept, count, task, tick, cost, ready, finish);
-    let jumped = jumps::run(s, kept, count, task, tick, cost, readies, finishes);
+    let ticked = schedule::run(s, f, kept, count, task, tick, cost, ready, finish);
+    let jumped = jumps::run(s, f, kept, count, task, tick, cost, readies, finishes);
     BothAnswers {
         ticked: ticked,
         jumped: jumped,

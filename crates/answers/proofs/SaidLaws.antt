@@ -14,6 +14,10 @@ use Rattle.model.specs.Choice.{column, Scope, scope, choice}
 use Rattle.model.specs.Calls.{columnAfter, choiceInputs, choiceCall, keptColumn, worstColumn}
 use Rattle.model.proofs.CheckLaws.{Chosen}
 use Rattle.model.proofs.OrderLaws.{answered-of, refused-of}
+use Rattle.taskset.specs.declared.TaskSet.{TaskSet}
+use Rattle.taskset.specs.TaskSet.{viewOf}
+use Rattle.frame.specs.declared.Frame.{Frame}
+use Rattle.frame.specs.FrameView.{framedOf, noFrame}
 use Rattle.choice.specs.declared.ChoiceAnswer.{ChoiceAnswer}
 use Rattle.choice.specs.declared.ChoiceAnswer.the-variants.{Refused}
 use Rattle.choice.specs.Choices.{scopeTold}
@@ -44,6 +48,18 @@ pad-zeros (x ∷ l) z h (suc i) = pad-zeros l z h i
 -- kept jitters followed by 0s are the same kept jitters
 same-column : (l z : List ℕ) → Zeros z → column (l ++ z) ≡ column l
 same-column l z h = λ t i. pad-zeros l z h i t
+
+-- what a call of the choice says of a sheet, its columns being k and w afterwards
+pub record Told (s : Tasks) (kept worst : List ℕ) (r : ChoiceAnswer) (k w : List ℕ) : Type 0 where
+  pub answer : scopeTold r ≡ choiceCall s kept worst
+  pub keeps : k ≡ columnAfter (refusalOf (choiceInputs s kept worst)) (keptColumn (choice s)) kept
+  pub worsts : w ≡ columnAfter (refusalOf (choiceInputs s kept worst)) (worstColumn (choice s)) worst
+
+-- without a frame it is said of the task set as it is
+pub told-bare
+    : (s : TaskSet) (f : Frame) (kept worst : List ℕ) (r : ChoiceAnswer) (k w : List ℕ) → f ≡ noFrame → Told (framedOf s f) kept worst r k w
+    → Told (viewOf s) kept worst r k w
+told-bare s f kept worst r k w e t = rw e at t
 
 module _ (s : Tasks) (kept worst : List ℕ) (ok : none ≡ checkTasks s) (hk : s .count ≤ length kept) (hw : s .count ≤ length worst) where
   -- a refused choice

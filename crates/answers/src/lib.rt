@@ -1,5 +1,6 @@
 // What each program prints for the bytes of a file or of a text sheet, written into a lent buffer.
 use choice::ChoiceAnswer;
+use frame::no_frame;
 use jumps::JumpAnswer;
 use loader::Loader;
 use reader::ReadOutcome;
@@ -24,7 +25,7 @@ fn put_chosen(s: TaskSet, out: &mut [u8]) -> usize
 {
     let mut kept: [u32; 32] = [0; 32];
     let mut worst: [u32; 32] = [0; 32];
-    let c = choice::choose(s, &mut kept, &mut worst);
+    let c = choice::choose(s, no_frame(), &mut kept, &mut worst);
     match c {
         ChoiceAnswer::Refused { number, place } => report::put_refusal(out, number, place as u32),
         ChoiceAnswer::Ordinary => report::put_choice(out, s, &kept, &worst, false),
@@ -49,7 +50,17 @@ fn put_ran(
 {
     let mut ready: [u64; 1024] = [0; 1024];
     let mut finish: [u64; 1024] = [0; 1024];
-    let ran = jumps::run(s, kept, n, task, tick, cost, &mut ready, &mut finish);
+    let ran = jumps::run(
+        s,
+        no_frame(),
+        kept,
+        n,
+        task,
+        tick,
+        cost,
+        &mut ready,
+        &mut finish,
+    );
     match ran {
         JumpAnswer::Refused { number, place } => report::put_refusal(out, number, place as u32),
         JumpAnswer::Ran { .. } => report::put_run(out, n, task, tick, &ready, &finish),
@@ -72,7 +83,7 @@ fn put_replayed(
 {
     let mut kept: [u32; 32] = [0; 32];
     let mut worst: [u32; 32] = [0; 32];
-    let c = choice::choose(s, &mut kept, &mut worst);
+    let c = choice::choose(s, no_frame(), &mut kept, &mut worst);
     match c {
         ChoiceAnswer::Refused { number, place } => report::put_refusal(out, number, place as u32),
         ChoiceAnswer::Ordinary => put_ran(s, &kept, n, task, tick, cost, out),

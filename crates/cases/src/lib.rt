@@ -1,6 +1,7 @@
 // Cases of the stored vectors. Standard input is a row of blocks, each with its length in bytes first (four bytes, little-endian). A case is a
-// label, a block of numbers that holds the task set and what the call is given besides, and a block for each lent slice: what it holds before the call.
-// A number has four bytes, a tick eight.
+// label, a block of numbers that holds the task set and what the call is given besides, a block with the frame's numbers where that one says that there is a
+// frame, and a block for each lent slice: what it holds before the call. A number has four bytes, a tick eight.
+use frame::Frame;
 use libc::STDIN_FILENO;
 use libc::STDOUT_FILENO;
 use numbers::wide;
@@ -10,7 +11,9 @@ use taskset::Task;
 use taskset::TaskSet;
 ghost use Prim.Native.Nat.{_+_, _≤_, _<_, min};
 ghost use mathlib.Core.Path.{_≡_};
-ghost use lib.ListN.{length, drop};
+ghost use mathlib.Core.Bool.{not};
+ghost use lib.Dec.{eqb};
+ghost use lib.ListN.{length, getD, drop};
 ghost use Rattle.io.specs.Counts.{Counts};
 ghost use Rattle.cases.specs.Cases.{numberAt, tickAt, entryOf, Numbers, SetIn};
 
@@ -162,6 +165,18 @@ pub fn task_set(head: &[u32; 168]) -> TaskSet
         count: index(head[4]),
         charge: charge,
     }
+}
+
+// The frame of a case: none where the number at 6 is 0, else the one of the next block of numbers, which it reads; numbers past the block's end count as 0.
+pub fn frame_in(head: &[u32; 168]) -> Frame
+    ensures { λ r. ⌜ r .present ≡ not (eqb (getD (now (head .entry)) 6 0) 0) ⌝ }
+{
+    if head[6] == 0 {
+        return frame::no_frame();
+    }
+    let mut row = [0u32; 34];
+    read_column(&mut row);
+    frame::frame_from(&row)
 }
 
 // Prints a blank and words.

@@ -1,6 +1,7 @@
 -- Laws of the call "choice": its refusals 5, 4, 6, 17, 13 and 15, which of the two choices it tells, and its columns.
 use Prim.Native.Nat.{ℕ, _≤_, _<_}
 use mathlib.Core.Path.{_≡_, refl, sym, ap, _∙_}
+use mathlib.Core.Bool.{false}
 use mathlib.Core.Option.{Option, some, none}
 use mathlib.Core.List.{List, [], _++_, map, map-map, map-id}
 use native.Mathlib.Omega.{arith}
@@ -8,7 +9,7 @@ use borrow.Author.Tests.{le-leb, lt-leb}
 use lib.ListN.{length, take, drop, length-take}
 use lib.IntN.{pos, natAbs}
 use Rattle.model.specs.Limits.{maxTasks}
-use Rattle.model.specs.Tasks.{Tasks}
+use Rattle.model.specs.Tasks.{Tasks, withFrame}
 use Rattle.model.specs.Choice.{unfit, chosen, Scope, scopeIn, choiceOf, scope, choice}
 use Rattle.model.specs.Refusal.{Refusal, refuse, Answer, refused, answered}
 use Rattle.model.specs.Checks.{checkTasks, checkSlots, checkChoice, refusalOf}
@@ -16,6 +17,11 @@ use Rattle.model.specs.Calls.{columnAfter, unfitOf, choiceInputs, choiceCall, k
 use Rattle.model.proofs.CheckLaws.{slots-short, slots-next, slot-of, slots-none, unfit-refused, chosen-passes}
 use Rattle.model.proofs.OrderLaws.{no-single, no-count, no-kept, no-releases, no-unfit, refused-tasks, refused-slots, unfit-decides, accepted-of, accepts, column-kept, column-written}
 use Rattle.model.proofs.OrderLaws as order
+use Rattle.model.proofs.FramedLaws.{framed-refusal}
+use Rattle.taskset.specs.declared.TaskSet.{TaskSet}
+use Rattle.taskset.specs.TaskSet.{viewOf}
+use Rattle.frame.specs.declared.Frame.{Frame}
+use Rattle.frame.specs.FrameView.{given, windowsOf, frameOf, framedOf}
 use Rattle.choice.specs.declared.Decision.{Decision}
 use Rattle.choice.specs.Choices.{choiceIn, DecisionIs, roomInputs}
 
@@ -53,6 +59,14 @@ module _ (s : Tasks) (kept worst : ℕ) where
 
   pub room-long : none ≡ refusalOf (roomInputs s kept worst) → (s .count ≤ kept) × (s .count ≤ worst)
   room-long h = let e = slot-of _ _ (accepted-of _ h .lent) in (e .0, slot-of _ _ (e .1) .0)
+
+-- the same on a sheet with a frame: once it has passed, the checks that follow are those without the frame
+module _ (s : TaskSet) (f : Frame) (kept worst : ℕ) where
+  pub room-framed : none ≡ checkTasks (framedOf s f) → refusalOf (roomInputs (viewOf s) kept worst) ≡ refusalOf (roomInputs (framedOf s f) kept worst)
+  room-framed h = framed-refusal (frameOf f) (viewOf s) none none _ none [] none h
+
+  pub room-absent : f .present ≡ false → refusalOf (roomInputs (viewOf s) kept worst) ≡ refusalOf (roomInputs (framedOf s f) kept worst)
+  room-absent e = ap (λ b. refusalOf (roomInputs (withFrame (given b (windowsOf f)) (viewOf s)) kept worst)) (sym e)
 
 module _ (s : Tasks) (kept worst : List ℕ) where
   -- what is refused before a choice is made is what the call refuses

@@ -20,14 +20,14 @@ use Rattle.choice.specs.Choices.{evaluationsFor, choiceIn, ChoicesAre, a
 use Rattle.choice.proofs.NextChoiceLaws.{unfit-stays, unfit-first}
 
 -- the first i of n tasks are looked at, and none of them is low
-pub record LookedAt (s : Tasks) (n i : ℕ) : Type 0 where
+pub record LookedAt (low : ℕ → Bool) (n i : ℕ) : Type 0 where
   pub few : n ≤ 32
   pub within : i ≤ n
-  pub none-low : false ≡ anyLow s i
+  pub none-low : false ≡ anyLow low i
 
-pub low-start : (s : Tasks) → false ≡ anyLow s 0
+pub low-start : (low : ℕ → Bool) → false ≡ anyLow low 0
 unfolding anyLow
-low-start s = refl
+low-start low = refl
 
 or-false : (a b : Bool) → (a || b) ≡ false → (a ≡ false) × (b ≡ false)
 or-false true b h = let z : _≡_ {A = ℕ} 0 1 = cc in absurd (omega arith)
@@ -37,29 +37,29 @@ or-true : (a : Bool) → (a || true) ≡ true
 or-true true = refl
 or-true false = refl
 
-pub low-next : (s : Tasks) (n : ℕ) → false ≡ anyLow s n → s .low n ≡ false → false ≡ anyLow s (n + 1)
+pub low-next : (low : ℕ → Bool) (n : ℕ) → false ≡ anyLow low n → low n ≡ false → false ≡ anyLow low (n + 1)
 unfolding anyLow
-low-next s n h l = rw (add-one, anyLow, ← h, l)
+low-next low n h l = rw (add-one, anyLow, ← h, l)
 
 -- a low task among them
-pub low-found : (s : Tasks) (i n : ℕ) → i < n → s .low i ≡ true → true ≡ anyLow s n
+pub low-found : (low : ℕ → Bool) (i n : ℕ) → i < n → low i ≡ true → true ≡ anyLow low n
 unfolding anyLow
-low-found s i zero l h = absurd (omega arith)
-low-found s i (suc n) l h = go (below-suc i n l) (λ g. low-found s i n g h)
+low-found low i zero l h = absurd (omega arith)
+low-found low i (suc n) l h = go (below-suc i n l) (λ g. low-found low i n g h)
   where
-    go : (i < n) ⊎ (i ≡ n) → (i < n → true ≡ anyLow s n) → true ≡ anyLow s (suc n)
-    go (inl g) f = ap (λ (a : Bool). a || s .low n) (f g)
-    go (inr g) f = sym (ap (λ (a : Bool). anyLow s n || a) (ap (s .low) (sym g) ∙ h) ∙ or-true (anyLow s n))
+    go : (i < n) ⊎ (i ≡ n) → (i < n → true ≡ anyLow low n) → true ≡ anyLow low (suc n)
+    go (inl g) f = ap (λ (a : Bool). a || low n) (f g)
+    go (inr g) f = sym (ap (λ (a : Bool). anyLow low n || a) (ap low (sym g) ∙ h) ∙ or-true (anyLow low n))
 
 -- none among them
-no-low : (s : Tasks) (n : ℕ) → anyLow s n ≡ false → (i : ℕ) → i < n → s .low i ≡ false
+no-low : (low : ℕ → Bool) (n : ℕ) → anyLow low n ≡ false → (i : ℕ) → i < n → low i ≡ false
 unfolding anyLow
-no-low s zero h i l = absurd (omega arith)
-no-low s (suc n) h i l = go (below-suc i n l) (no-low s n (or-false (anyLow s n) (s .low n) h .0) i)
+no-low low zero h i l = absurd (omega arith)
+no-low low (suc n) h i l = go (below-suc i n l) (no-low low n (or-false (anyLow low n) (low n) h .0) i)
   where
-    go : (i < n) ⊎ (i ≡ n) → (i < n → s .low i ≡ false) → s .low i ≡ false
+    go : (i < n) ⊎ (i ≡ n) → (i < n → low i ≡ false) → low i ≡ false
     go (inl g) f = f g
-    go (inr g) f = ap (s .low) g ∙ or-false (anyLow s n) (s .low n) h .1
+    go (inr g) f = ap low g ∙ or-false (anyLow low n) (low n) h .1
 
 -- a high task is judged in both choices
 high-counted : (s : Tasks) (k : ℕ → ℕ) (i : ℕ) → s .low i ≡ false → evaluationsFor ordinary s k i ≡ evaluationsFor high-only s k i
@@ -88,7 +88,7 @@ module _ (s : Tasks) (r : Choices) (f : ChoicesAre ordinary s r) where
     decided-second o g = record { told = second; choices = g }
 
     -- without a low task down to the one that fits at no K both are the same
-    pub decided-same : anyLow s (r .fitted + 1) ≡ false → DecisionIs s (record { choices = r; partial = true })
+    pub decided-same : anyLow (s .low) (r .fitted + 1) ≡ false → DecisionIs s (record { choices = r; partial = true })
     decided-same h = decided-second r (record {
       is = rw (choiceIn, lt-leb (s .count) (r .fitted) l) (sym stays);
       within = f .within;
@@ -101,7 +101,7 @@ module _ (s : Tasks) (r : Choices) (f : ChoicesAre ordinary s r) where
     })
       where
         high : (i : ℕ) → i < r .fitted + 1 → s .low i ≡ false
-        high = no-low s (r .fitted + 1) h
+        high = no-low (s .low) (r .fitted + 1) h
 
         stays : choiceOf high-only s (s .count) ≡ unfit (r .fitted)
         stays =

@@ -2,7 +2,7 @@
 use Prim.Native.Nat.{ℕ, suc, _+_, _-_, _*_, _≤_, _<_, min}
 use mathlib.Core.Path.{_≡_, refl, sym, ap, _∙_}
 use mathlib.Core.Logic.{dite}
-use mathlib.Core.Option.{Option, none}
+use mathlib.Core.Option.{Option, some, none}
 use mathlib.Core.List.{List}
 use native.Mathlib.Omega.{arith}
 use native.Mathlib.Nat.{add-zero}
@@ -13,13 +13,15 @@ use lib.Seq.{getD-take}
 use Rattle.model.specs.Series.{sum}
 use Rattle.model.specs.Limits.{horizonTick}
 use Rattle.model.specs.Processor.{pickup}
+use Rattle.model.specs.Frame.{Frame}
 use Rattle.model.specs.Tasks.{Tasks}
 use Rattle.model.specs.Gap.{gap}
 use Rattle.model.specs.Demand.{window}
-use Rattle.model.specs.Evaluations.{tried, taken, evaluations}
+use Rattle.model.specs.Evaluations.{taken, countedAt, evaluations}
 use Rattle.model.specs.Choice.{column, andKeep}
 use Rattle.model.proofs.SeriesLaws.{sum-eq}
-use Rattle.model.proofs.SameVerdict.{SameAbove, window-same, tried-same}
+use Rattle.model.proofs.FrameLaws.{Ruled, ours-same, turn-same}
+use Rattle.model.proofs.SameVerdict.{unframed-same, SameAbove, window-same, tried-same}
 use Rattle.response.proofs.WindowLaws.{Window, window-some, window-over}
 use Rattle.demand.specs.Columns.{IsOnce}
 use Rattle.choice.specs.declared.Least.the-variants.{Keep, Unfit}
@@ -31,82 +33,96 @@ use Rattle.choice.proofs.VerdictOfKeepLaws.{keep-above}
 use Rattle.choice.proofs.ChoiceWalkLaws.{Walked, walk-start, walk-none, walk-over, walk-next, walk-taken, walk-keep, walk-worst}
 
 -- W(q) of task i, from the columns
-abbrev pub windowAt : List ℕ → List ℕ → List ℕ → ℕ → ℕ → Option ℕ
-windowAt loads periods keeps i q = window (flat loads periods) (column keeps) i q
+abbrev pub windowAt : Option Frame → List ℕ → List ℕ → List ℕ → ℕ → ℕ → Option ℕ
+windowAt o loads periods keeps i q = window (flat o loads periods) (column keeps) i q
 
--- the lengths of the lists of t of the first q, added up
-abbrev pub triedBelow : List ℕ → List ℕ → List ℕ → ℕ → ℕ → ℕ
-triedBelow loads periods keeps i q = sum (λ x. length (tried (flat loads periods) (column keeps) i x)) q
+-- how many t count for the first q, added up
+abbrev pub countedBelow : Option Frame → List ℕ → List ℕ → List ℕ → ℕ → ℕ → ℕ
+countedBelow o loads periods keeps i q = sum (countedAt (flat o loads periods) (column keeps) i) q
 
 -- the walk of task i has come to q; high is the largest W(q') + J − q'P of the q' before, n the evaluations that they took
-pub record Walking (loads periods keeps : List ℕ) (i J D q high n : ℕ) : Type 0 where
+pub record Walking (o : Option Frame) (loads periods keeps : List ℕ) (i J D q high n : ℕ) : Type 0 where
+  pub ruled : Ruled o
   pub may : Walkable loads periods keeps i J D
-  pub walked : (s : Tasks) → Flat s loads periods i J D → Walked s (take i keeps) i (windowAt loads periods keeps i) q high
+  pub walked : (s : Tasks) → Flat s o loads periods i J D → Walked s (take i keeps) i (windowAt o loads periods keeps i) q high
   pub q-high : q ≤ horizonTick
   pub reach : high ≤ D + J
-  pub counted : n ≡ triedBelow loads periods keeps i q
+  pub counted : n ≡ countedBelow o loads periods keeps i q
   pub few : n ≤ q * 10000001
 
 -- what a step leaves, n being the evaluations up to q: the answer, or the walk at the next q
-abbrev pub Stepping : List ℕ → List ℕ → List ℕ → ℕ → ℕ → ℕ → ℕ → ℕ → Step → Type 0
-Stepping loads periods keeps i J D q n (Stops K w) = LeastOf loads periods keeps i J D (Keep K w q n)
-Stepping loads periods keeps i J D q n Fails = LeastOf loads periods keeps i J D Unfit
-Stepping loads periods keeps i J D q n (Next high) = Walking loads periods keeps i J D (q + 1) high n
+abbrev pub Stepping : Option Frame → List ℕ → List ℕ → List ℕ → ℕ → ℕ → ℕ → ℕ → ℕ → Step → Type 0
+Stepping o loads periods keeps i J D q n (Stops K w) = LeastOf o loads periods keeps i J D (Keep K w q n)
+Stepping o loads periods keeps i J D q n Fails = LeastOf o loads periods keeps i J D Unfit
+Stepping o loads periods keeps i J D q n (Next high) = Walking o loads periods keeps i J D (q + 1) high n
 
-module _ (loads periods keeps : List ℕ) (i J D : ℕ) (may : Walkable loads periods keeps i J D) where
+module _ (o : Option Frame) (loads periods keeps : List ℕ) (i J D : ℕ) (ruled : Ruled o) (may : Walkable loads periods keeps i J D) where
   above-long : length (take i keeps) ≡ i
   above-long = simp length-take (omega (arith, may .columns .above .keeps-long))
 
   -- the search for W(q) does not tell such a task set from the columns, whatever the task's own K
-  above : (s : Tasks) → Flat s loads periods i J D → (K : ℕ) → SameAbove s (flat loads periods) (andKeep (take i keeps) K) (column keeps) i
+  above : (s : Tasks) → Flat s o loads periods i J D → (K : ℕ) → SameAbove s (flat o loads periods) (andKeep (take i keeps) K) (column keeps) i
   above s f K = record {
     loads = λ m l. f .load-is m l ∙ sym (add-zero (column loads m));
     periods = λ m l. f .period-is m (omega arith);
     keeps = λ m l. keep-above (take i keeps) K m (omega (arith, above-long)) ∙ getD-take i keeps m 0 l;
+    ours = sym (ours-same o (s .frame) (f .frame-is));
+    turn = sym (turn-same o (s .frame) (f .frame-is));
   }
 
-  same : (s : Tasks) → Flat s loads periods i J D → (K q : ℕ) → window s (andKeep (take i keeps) K) i q ≡ windowAt loads periods keeps i q
-  same s f K q = window-same s (flat loads periods) (andKeep (take i keeps) K) (column keeps) i (above s f K) q
+  same : (s : Tasks) → Flat s o loads periods i J D → (K q : ℕ) → window s (andKeep (take i keeps) K) i q ≡ windowAt o loads periods keeps i q
+  same s f K q = window-same s (flat o loads periods) (andKeep (take i keeps) K) (column keeps) i (above s f K) q
+
+  -- how many t count for one q
+  counted-there
+      : (s : Tasks) → Flat s o loads periods i J D → (K q : ℕ)
+      → countedAt s (andKeep (take i keeps) K) i q ≡ countedAt (flat o loads periods) (column keeps) i q
+  unfolding countedAt
+  counted-there s f K q =
+      sym
+      (unframed-same o (s .frame) (f .frame-is) _ _
+      (sym (ap length (tried-same s (flat o loads periods) (andKeep (take i keeps) K) (column keeps) i (above s f K) q))))
 
   -- the evaluations of a verdict that takes q + 1 values of q
   evaluations-at
-      : (s : Tasks) → Flat s loads periods i J D → (K q : ℕ) → taken s (andKeep (take i keeps) K) i ≡ suc q
-      → evaluations s (andKeep (take i keeps) K) i ≡ triedBelow loads periods keeps i (suc q)
+      : (s : Tasks) → Flat s o loads periods i J D → (K q : ℕ) → taken s (andKeep (take i keeps) K) i ≡ suc q
+      → evaluations s (andKeep (take i keeps) K) i ≡ countedBelow o loads periods keeps i (suc q)
   unfolding evaluations
   evaluations-at s f K q e =
       rw (evaluations, e)
-      (sum-eq _ _ (suc q) (λ x l. ap length (tried-same s (flat loads periods) (andKeep (take i keeps) K) (column keeps) i (above s f K) x)))
+      (sum-eq _ _ (suc q) (λ x l. counted-there s f K x))
 
-  pub walking-start : Walking loads periods keeps i J D 0 0 0
+  pub walking-start : Walking o loads periods keeps i J D 0 0 0
   unfolding sum
   walking-start = record {
+    ruled = ruled;
     may = may;
-    walked = λ s f. walk-start s (take i keeps) i (windowAt loads periods keeps i) above-long (same s f);
+    walked = λ s f. walk-start s (take i keeps) i (windowAt o loads periods keeps i) above-long (same s f);
     q-high = omega arith;
     reach = omega arith;
     counted = refl;
     few = omega arith;
   }
 
-  module _ (q high n : ℕ) (g : Walking loads periods keeps i J D q high n) where
+  module _ (q high n : ℕ) (g : Walking o loads periods keeps i J D q high n) where
     -- the search for W(q) may start
     pub searched : (once : ℕ) → IsOnce loads i once → Searched loads periods keeps i once q
     searched once o = record { columns = may .columns; once-is = o; q-high = g .q-high }
 
     -- W(q) over H, or none
-    pub walking-none : windowAt loads periods keeps i q ≡ none → LeastOf loads periods keeps i J D Unfit
+    pub walking-none : windowAt o loads periods keeps i q ≡ none → LeastOf o loads periods keeps i J D Unfit
     walking-none e s f =
-        walk-none s (take i keeps) i (windowAt loads periods keeps i) above-long (same s f) q high (g .walked s f) e
+        walk-none s (take i keeps) i (windowAt o loads periods keeps i) above-long (same s f) q high (g .walked s f) e
 
-    module _ (w m : ℕ) (found : WithinIs loads periods keeps i q w m) where
-      facts : Window (flat loads periods) (column keeps) i q w
-      facts = window-some (flat loads periods) (column keeps) i q w (found .is)
+    module _ (w m : ℕ) (found : WithinIs o loads periods keeps i q w m) where
+      facts : Window (flat o loads periods) (column keeps) i q w
+      facts = window-some (flat o loads periods) (column keeps) i ruled q w (found .is)
 
       long : q < w
-      long = window-over (flat loads periods) (column keeps) i q w (omega (arith, may .own .cost-low)) (found .is)
+      long = window-over (flat o loads periods) (column keeps) i ruled q w (omega (arith, may .own .cost-low)) (found .is)
 
       -- the evaluations with those of q
-      counted-next : n + m ≡ triedBelow loads periods keeps i (suc q)
+      counted-next : n + m ≡ countedBelow o loads periods keeps i (suc q)
       unfolding sum
       counted-next = omega (arith, g .counted, found .counted)
 
@@ -124,9 +140,9 @@ module _ (loads periods keeps : List ℕ) (i J D : ℕ) (may : Walkable loads pe
       }
 
       -- W(q) + pickup + min(0, x) > D
-      over : D + (q * column periods i - J) < w + pickup → LeastOf loads periods keeps i J D Unfit
+      over : D + (q * column periods i - J) < w + pickup → LeastOf o loads periods keeps i J D Unfit
       over h s f =
-          walk-over s (take i keeps) i (windowAt loads periods keeps i) above-long (same s f) q high (g .walked s f) w (found .is)
+          walk-over s (take i keeps) i (windowAt o loads periods keeps i) above-long (same s f) q high (g .walked s f) w (found .is)
           (rw (f .jitter-is, f .deadline-is, f .period-is i (omega arith)) h)
 
       module _ (under : w + pickup ≤ D + (q * column periods i - J)) where
@@ -134,20 +150,20 @@ module _ (loads periods keeps : List ℕ) (i J D : ℕ) (may : Walkable loads pe
         abbrev N : ℕ
         N = nextHigh (column periods i) J high q w
 
-        next-of : (s : Tasks) → Flat s loads periods i J D → N ≡ nextHigh (s .period i) (s .jitter i) high q w
+        next-of : (s : Tasks) → Flat s o loads periods i J D → N ≡ nextHigh (s .period i) (s .jitter i) high q w
         next-of s f = rw (f .jitter-is, f .period-is i (omega arith))
 
-        under-of : (s : Tasks) → Flat s loads periods i J D → w + pickup ≤ s .deadline i + (q * s .period i - s .jitter i)
+        under-of : (s : Tasks) → Flat s o loads periods i J D → w + pickup ≤ s .deadline i + (q * s .period i - s .jitter i)
         under-of s f = rw (f .jitter-is, f .deadline-is, f .period-is i (omega arith)) under
 
         -- the least K so far stops here
-        keeps-it : N - D + w ≤ q * column periods i + column periods i → LeastOf loads periods keeps i J D (Keep (N - D) (min N D) q (n + m))
+        keeps-it : N - D + w ≤ q * column periods i + column periods i → LeastOf o loads periods keeps i J D (Keep (N - D) (min N D) q (n + m))
         keeps-it h s f = rw (← f .deadline-is) (record {
           least =
-              walk-keep s (take i keeps) i (windowAt loads periods keeps i) above-long (same s f) q high (g .walked s f) w (found .is) N
+              walk-keep s (take i keeps) i (windowAt o loads periods keeps i) above-long (same s f) q high (g .walked s f) w (found .is) N
               (next-of s f) (under-of s f) stop;
           worst =
-              walk-worst s (take i keeps) i (windowAt loads periods keeps i) above-long (same s f) q high (g .walked s f) w (found .is) N
+              walk-worst s (take i keeps) i (windowAt o loads periods keeps i) above-long (same s f) q high (g .walked s f) w (found .is) N
               (next-of s f) (under-of s f) stop;
           last = taken-here;
           counted = evaluations-at s f (N - s .deadline i) q taken-here ∙ sym counted-next;
@@ -159,12 +175,13 @@ module _ (loads periods keeps : List ℕ) (i J D : ℕ) (may : Walkable loads pe
 
             taken-here : taken s (andKeep (take i keeps) (N - s .deadline i)) i ≡ suc q
             taken-here =
-                walk-taken s (take i keeps) i (windowAt loads periods keeps i) above-long (same s f) q high (g .walked s f) w (found .is) N
+                walk-taken s (take i keeps) i (windowAt o loads periods keeps i) above-long (same s f) q high (g .walked s f) w (found .is) N
                 (next-of s f) (under-of s f) stop
 
         -- it does not
-        goes : q * column periods i + column periods i < N - D + w → Walking loads periods keeps i J D (q + 1) N (n + m)
+        goes : q * column periods i + column periods i < N - D + w → Walking o loads periods keeps i J D (q + 1) N (n + m)
         goes h = record {
+          ruled = ruled;
           may = may;
           walked = walked-next;
           q-high = omega (arith, long, facts .high);
@@ -173,20 +190,20 @@ module _ (loads periods keeps : List ℕ) (i J D : ℕ) (may : Walkable loads pe
           few = few-next;
         }
           where
-            walked-next : (s : Tasks) → Flat s loads periods i J D → Walked s (take i keeps) i (windowAt loads periods keeps i) (q + 1) N
+            walked-next : (s : Tasks) → Flat s o loads periods i J D → Walked s (take i keeps) i (windowAt o loads periods keeps i) (q + 1) N
             walked-next s f = rw (add-one q)
-                (walk-next s (take i keeps) i (windowAt loads periods keeps i) above-long (same s f) q high (g .walked s f) w (found .is) N
+                (walk-next s (take i keeps) i (windowAt o loads periods keeps i) above-long (same s f) q high (g .walked s f) w (found .is) N
                 (next-of s f) (under-of s f) long (facts .high)
                 (rw (f .deadline-is, f .period-is i (omega arith)) (omega arith)))
 
       -- one step of the walk
-      pub walking-step : (r : Step) → r ≡ stepOf (column periods i) J D high q w → Stepping loads periods keeps i J D q (n + m) r
+      pub walking-step : (r : Step) → r ≡ stepOf (column periods i) J D high q w → Stepping o loads periods keeps i J D q (n + m) r
       walking-step r e = rw e
           (dite (decLt (D + (q * column periods i - J)) (w + pickup))
           (λ l. rw (← step-over _ _ _ high q w l) (over l))
           (λ l. inside (omega arith)))
         where
-          inside : w + pickup ≤ D + (q * column periods i - J) → Stepping loads periods keeps i J D q (n + m) (stepOf (column periods i) J D high q w)
+          inside : w + pickup ≤ D + (q * column periods i - J) → Stepping o loads periods keeps i J D q (n + m) (stepOf (column periods i) J D high q w)
           inside u =
               dite (decLt (gap (column periods i) (N u - D) (q + 1)) w)
               (λ l. rw (← step-next _ _ _ high q w u (N u) refl l) (goes u (gap-under (column periods i) (N u - D) q w l)))

@@ -9,6 +9,7 @@ use native.Mathlib.Omega.{arith}
 use native.Mathlib.Nat.{eq-or-lt-of-le, le-of-suc-le-suc}
 use lib.ListN.{take}
 use lib.IntN.{ℤ, pos}
+use Rattle.model.specs.Frame.{Frame}
 use Rattle.model.specs.Tasks.{Tasks}
 use Rattle.model.specs.Choice.{andKeep, Choice, unfit, chosen, Scope, scopeIn, judges, keepFor, worstFor, choiceNext, choiceOf}
 use Rattle.model.proofs.SameVerdict.{evaluations-kept}
@@ -105,16 +106,16 @@ module _ (c : Scope) (s : Tasks) (above : List ℕ) (i : ℕ) where
   }
 
 -- what is answered of a task that is spared, and of one that is not
-module _ (loads periods keeps : List ℕ) (i J D : ℕ) (spared : Bool) where
-  pub spared-is : spared ≡ true → KeepOf spared loads periods keeps i J D (Keep 0 0 0 0)
+module _ (o : Option Frame) (loads periods keeps : List ℕ) (i J D : ℕ) (spared : Bool) where
+  pub spared-is : spared ≡ true → KeepOf spared o loads periods keeps i J D (Keep 0 0 0 0)
   spared-is e = rw e refl
 
-  pub unspared-is : (r : Least) → spared ≡ false → LeastOf loads periods keeps i J D r → KeepOf spared loads periods keeps i J D r
+  pub unspared-is : (r : Least) → spared ≡ false → LeastOf o loads periods keeps i J D r → KeepOf spared o loads periods keeps i J D r
   unspared-is r e h = rw e h
 
 -- what is found of a task of a sheet with these columns, whether it is spared or not
-module _ (c : Scope) (s : Tasks) (loads periods keeps : List ℕ) (i J D : ℕ) (flat : Flat s loads periods i J D) where
-  pub found-keep : (spared : Bool) (K w q m : ℕ) → judges c s i ≡ not spared → KeepOf spared loads periods keeps i J D (Keep K w q m) → NextIs c s (take i keeps) i K w m
+module _ (c : Scope) (s : Tasks) (o : Option Frame) (loads periods keeps : List ℕ) (i J D : ℕ) (flat : Flat s o loads periods i J D) where
+  pub found-keep : (spared : Bool) (K w q m : ℕ) → judges c s i ≡ not spared → KeepOf spared o loads periods keeps i J D (Keep K w q m) → NextIs c s (take i keeps) i K w m
   found-keep true K w q m j h =
       let a : K ≡ 0 = cc in
       let b : w ≡ 0 = cc in
@@ -122,6 +123,6 @@ module _ (c : Scope) (s : Tasks) (loads periods keeps : List ℕ) (i J D : ℕ) 
       rw (a, b, d) (left-out-next c s (take i keeps) i j)
   found-keep false K w q m j h = judged-next c s (take i keeps) i K w q m j (h s flat)
 
-  pub found-none : (spared : Bool) → judges c s i ≡ not spared → KeepOf spared loads periods keeps i J D Unfit → keepFor c s (take i keeps) i ≡ none
+  pub found-none : (spared : Bool) → judges c s i ≡ not spared → KeepOf spared o loads periods keeps i J D Unfit → keepFor c s (take i keeps) i ≡ none
   found-none true j h = let z : _≡_ {A = ℕ} 0 1 = cc in absurd (omega arith)
   found-none false j h = keep-judged c s (take i keeps) i j ∙ h s flat

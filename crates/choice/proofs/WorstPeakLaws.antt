@@ -3,6 +3,7 @@ use Prim.Native.Nat.{ℕ, zero, suc, _+_, _-_, _*_, _≤_}
 use mathlib.Core.Path.{_≡_, refl, ap, _∙_}
 use mathlib.Core.Logic.{⊎-elim, dite}
 use mathlib.Core.Bool.{Bool, true, false}
+use mathlib.Core.Option.{none}
 use native.Mathlib.Omega.{arith}
 use native.Mathlib.Nat.{eq-or-lt-of-le}
 use native.Mathlib.Decide.{decLe}
@@ -22,7 +23,7 @@ module _ (P J K q w : ℕ) where
   bound-under m h = late-test alone (λ j. K) 0 q w ∙ le-ltb _ _ h
     where
       alone : Tasks
-      alone = record { count = 1; period = λ j. P; jitter = λ j. J; cost = λ j. 1; deadline = λ j. m; low = λ j. false; charge = 0 }
+      alone = record { count = 1; period = λ j. P; jitter = λ j. J; cost = λ j. 1; deadline = λ j. m; low = λ j. false; charge = 0; frame = none }
 
   -- and one that is m
   pub bound-equal : (m : ℕ) → w + pickup + (J - (q * P + K)) ≡ m + (q * P - J) → bound P J K q w ≡ pos m

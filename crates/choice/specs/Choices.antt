@@ -2,7 +2,7 @@
 use Prim.Native.Nat.{ℕ, zero, suc, _+_, _-_, _*_, _≤_, _<_, max, min}
 use mathlib.Core.Path.{_≡_}
 use mathlib.Core.Bool.{Bool, true, false, _||_}
-use mathlib.Core.Option.{some, none}
+use mathlib.Core.Option.{Option, some, none}
 use mathlib.Core.List.{List, [], _∷_, map}
 use lib.Dec.{leb, ltb}
 use lib.ListN.{length, take}
@@ -10,11 +10,13 @@ use lib.IntN.{pos}
 use Rattle.model.specs.Series.{sum}
 use Rattle.model.specs.Limits.{maxTasks, maxTime, horizonTick}
 use Rattle.model.specs.Processor.{pickup}
+use Rattle.model.specs.Frame.{Frame}
 use Rattle.model.specs.Tasks.{Tasks, load, InRange}
+use Rattle.model.specs.SameTasks.{SameFrame}
 use Rattle.model.specs.Gap.{gap}
 use Rattle.model.specs.Demand.{window}
 use Rattle.model.specs.Verdict.{verdict}
-use Rattle.model.specs.Evaluations.{tried, taken, evaluations}
+use Rattle.model.specs.Evaluations.{countedAt, taken, evaluations}
 use Rattle.model.specs.Choice.{column, andKeep, leastKeep, worstOf, Choice, unfit, chosen, Scope, ordinary, high-only, scopeIn, judges, choiceOf, scope}
 use Rattle.model.specs.Refusal.{Answer, refused, answered}
 use Rattle.model.specs.Checks.{Inputs}
@@ -30,9 +32,9 @@ use Rattle.choice.specs.declared.Decision.{Decision}
 use Rattle.choice.specs.declared.ChoiceAnswer.{ChoiceAnswer}
 use Rattle.choice.specs.declared.ChoiceAnswer.the-variants.{Ordinary, HighOnly, Refused}
 
--- loads and periods as a task set; the search for W(q) looks at nothing else
-abbrev pub flat : List ℕ → List ℕ → Tasks
-flat loads periods = flatTasks loads periods 0 0
+-- a frame, if any, loads and periods as a task set; the search for W(q) looks at nothing else
+abbrev pub flat : Option Frame → List ℕ → List ℕ → Tasks
+flat o loads periods = flatTasks o loads periods 0 0
 
 -- the search for W(q) of task n may start, one load of each task above being known
 pub record Searched (loads periods keeps : List ℕ) (n once q : ℕ) : Type 0 where
@@ -40,15 +42,15 @@ pub record Searched (loads periods keeps : List ℕ) (n once q : ℕ) : Type 0 w
   pub once-is : IsOnce loads n once
   pub q-high : q ≤ horizonTick
 
--- w is W(q) of task n, and m the length of its list of t
-pub record WithinIs (loads periods keeps : List ℕ) (n q w m : ℕ) : Type 0 where
-  pub is : window (flat loads periods) (column keeps) n q ≡ some w
-  pub counted : length (tried (flat loads periods) (column keeps) n q) ≡ m
+-- w is W(q) of task n, and m is how many t count for it
+pub record WithinIs (o : Option Frame) (loads periods keeps : List ℕ) (n q w m : ℕ) : Type 0 where
+  pub is : window (flat o loads periods) (column keeps) n q ≡ some w
+  pub counted : countedAt (flat o loads periods) (column keeps) n q ≡ m
   pub small : m ≤ 10000001
 
-abbrev pub WindowOf : List ℕ → List ℕ → List ℕ → ℕ → ℕ → Window → Type 0
-WindowOf loads periods keeps n q (Within w m) = WithinIs loads periods keeps n q w m
-WindowOf loads periods keeps n q Over = window (flat loads periods) (column keeps) n q ≡ none
+abbrev pub WindowOf : Option Frame → List ℕ → List ℕ → List ℕ → ℕ → ℕ → Window → Type 0
+WindowOf o loads periods keeps n q (Within w m) = WithinIs o loads periods keeps n q w m
+WindowOf o loads periods keeps n q Over = window (flat o loads periods) (column keeps) n q ≡ none
 
 -- K is the least kept jitter of task i, given the choices above; w, q and n are the largest R, the last q and the evaluations of the verdict at K
 pub record KeepIs (s : Tasks) (above : List ℕ) (i K w q n : ℕ) : Type 0 where
@@ -92,8 +94,9 @@ pub record Stepped (P J D high q w : ℕ) : Type 0 where
   pub q-high : q ≤ horizonTick
   pub w-high : w ≤ horizonTick
 
--- a task set whose tasks up to i have these loads and periods, and whose task i has J and D
-pub record Flat (s : Tasks) (loads periods : List ℕ) (i J D : ℕ) : Type 0 where
+-- a task set with this frame, if any, whose tasks up to i have these loads and periods, and whose task i has J and D
+pub record Flat (s : Tasks) (o : Option Frame) (loads periods : List ℕ) (i J D : ℕ) : Type 0 where
+  pub frame-is : SameFrame o (s .frame)
   pub load-is : (m : ℕ) → m ≤ i → load s m ≡ column loads m
   pub period-is : (m : ℕ) → m ≤ i → s .period m ≡ column periods m
   pub jitter-is : s .jitter i ≡ J
@@ -105,14 +108,14 @@ pub record Walkable (loads periods keeps : List ℕ) (i J D : ℕ) : Type 0 wher
   pub periods-long : i < length periods
   pub own : InRange (column periods i) J (column loads i) D
 
--- the least kept jitter of task i, for every task set with these columns
-abbrev pub LeastOf : List ℕ → List ℕ → List ℕ → ℕ → ℕ → ℕ → Least → Type 0
-LeastOf loads periods keeps i J D r = (s : Tasks) → Flat s loads periods i J D → LeastIs s (take i keeps) i r
+-- the least kept jitter of task i, for every task set with these columns and this frame
+abbrev pub LeastOf : Option Frame → List ℕ → List ℕ → List ℕ → ℕ → ℕ → ℕ → Least → Type 0
+LeastOf o loads periods keeps i J D r = (s : Tasks) → Flat s o loads periods i J D → LeastIs s (take i keeps) i r
 
 -- and of a task that may be spared, that is, not judged: then 0, with the worst value 0 and no evaluation
-abbrev pub KeepOf : Bool → List ℕ → List ℕ → List ℕ → ℕ → ℕ → ℕ → Least → Type 0
-KeepOf true loads periods keeps i J D r = r ≡ Keep 0 0 0 0
-KeepOf false loads periods keeps i J D r = LeastOf loads periods keeps i J D r
+abbrev pub KeepOf : Bool → Option Frame → List ℕ → List ℕ → List ℕ → ℕ → ℕ → ℕ → Least → Type 0
+KeepOf true o loads periods keeps i J D r = r ≡ Keep 0 0 0 0
+KeepOf false o loads periods keeps i J D r = LeastOf o loads periods keeps i J D r
 
 -- the evaluations of a task in a choice: those of its verdict, and none where it is not judged
 unfoldable pub evaluationsFor : Scope → Tasks → (ℕ → ℕ) → ℕ → ℕ
@@ -134,10 +137,10 @@ pub record ChoicesAre (c : Scope) (s : Tasks) (r : Choices) : Type 0 where
   -- the evaluations are those of the verdicts at the chosen kept jitters, added up over the tasks that are judged
   pub counted : r .evaluations ≡ sum (λ j. evaluationsFor c s (column (r .keep)) j) (r .fitted)
 
--- one of the first n tasks is low
-unfoldable pub anyLow : Tasks → ℕ → Bool
-anyLow s zero = false
-anyLow s (suc n) = anyLow s n || s .low n
+-- one of the first n tasks is low, given which ones are
+unfoldable pub anyLow : (ℕ → Bool) → ℕ → Bool
+anyLow low zero = false
+anyLow low (suc n) = anyLow low n || low n
 
 -- the choice that is the answer, and which of the two it is
 pub record DecisionIs (s : Tasks) (r : Decision) : Type 0 where

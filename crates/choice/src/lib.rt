@@ -9,6 +9,8 @@ ghost use Rattle.model.specs.Checks.{refusalOf};
 ghost use Rattle.model.specs.Choice.{scopeIn, choice};
 ghost use Rattle.model.specs.Calls.{choiceInputs, choiceCall, columnAfter, keptColumn, worstColumn};
 ghost use Rattle.taskset.specs.TaskSet.{viewOf, refusalIn};
+ghost use Rattle.frame.specs.FrameView.{framedOf};
+ghost use Rattle.frame.specs.WindowColumns.{columnFrame, Supplies};
 ghost use Rattle.demand.specs.Columns.{Factored};
 ghost use Rattle.choice.specs.Choices.{
   Searched,
@@ -29,6 +31,13 @@ use demand::above_load;
 use demand::columns_of;
 use demand::factors_of;
 use demand::once_each;
+use demand::start_at;
+use demand::tally_of;
+use frame::Frame;
+use frame::check_sheet;
+use frame::reach_from;
+use frame::starts_of;
+use frame::supply_of;
 use numbers::larger;
 use numbers::less;
 use numbers::wide;
@@ -36,7 +45,7 @@ use taskset::Checked;
 use taskset::PICKUP;
 use taskset::TaskSet;
 
-// W(q) with the length of its list of t, or that it is over the horizon H or there is none.
+// W(q) with how many t count for it, or that it is over the horizon H or there is none.
 pub enum Window {
     Within { window: u32, tries: u64 },
     Over,
@@ -91,37 +100,65 @@ fn product(n: u32, x: u32) -> u64
     wide(n) * wide(x)
 }
 
-// W(q) of task n, by its list of t: from q + 1 loads of its own and `once`, one load of each task above, on with the demand in the t just tried.
+// W(q) of task n, start by start of the frame: from the ticks that q + 1 loads of its own and `once`, one load of each task above, take, on with those of the demand in
+// the t just tried; the largest of the starts. Without a frame there is one start, and every t of the search counts.
 fn window_of(
     loads: &[u32],
     periods: &[u32],
     highs: &[u32],
     lows: &[u32],
     keeps: &[u32],
+    framed: bool,
+    ticks: u32,
+    per: u32,
+    count: usize,
+    first: &[u32],
+    size: &[u32],
     n: usize,
     once: u64,
     q: u32,
 ) -> Window
     requires { ⌜ Searched (now loads) (now periods) (now keeps) n once q ⌝ }
     requires { ⌜ Factored (now periods) (now highs) (now lows) n ⌝ }
-    ensures { λ r. ⌜ WindowOf (now (loads .entry)) (now (periods .entry)) (now (keeps .entry)) n q r ⌝ }
+    requires { ⌜ Supplies framed ticks per count (now first) (now size) ⌝ }
+    ensures { λ r. ⌜
+        WindowOf (columnFrame framed ticks count (now (first .entry)) (now (size .entry))) (now (loads .entry)) (now (periods .entry)) (now (keeps .entry)) n q r
+        ⌝ }
 {
     let own = product(q + 1, loads[n]);
-    let mut t = own + once;
+    let need = own + once;
+    let starts = starts_of(framed, count);
+    let tally = tally_of(framed);
+    let begin = start_at(framed, ticks, per, count, first, size, 0, need);
+    let mut at = begin.at;
+    let mut before = begin.before;
+    let mut t = begin.t;
+    let mut w: u64 = 0;
+    let mut k = 0;
     let mut tries: u64 = 0;
     loop {
-        tries += 1;
+        tries += tally;
         if 10000000 < t {
             return Window::Over;
         }
         let d = own + above_load(loads, periods, highs, lows, keeps, n, t as u32);
-        if d <= t {
+        let x = reach_from(framed, ticks, per, count, first, size, at, before, d);
+        if t < x {
+            t = x;
+            continue;
+        }
+        w = larger(w, t);
+        k += 1;
+        if starts <= k {
             return Window::Within {
-                window: t as u32,
+                window: w as u32,
                 tries: tries,
             };
         }
-        t = d;
+        let next = start_at(framed, ticks, per, count, first, size, k, need);
+        at = next.at;
+        before = next.before;
+        t = next.t;
     }
 }
 
@@ -156,13 +193,23 @@ fn least_keep(
     highs: &[u32],
     lows: &[u32],
     keeps: &[u32],
+    framed: bool,
+    ticks: u32,
+    per: u32,
+    count: usize,
+    first: &[u32],
+    size: &[u32],
     i: usize,
     jitter: u32,
     deadline: u32,
 ) -> Least
     requires { ⌜ Walkable (now loads) (now periods) (now keeps) i jitter deadline ⌝ }
     requires { ⌜ Factored (now periods) (now highs) (now lows) i ⌝ }
-    ensures { λ r. ⌜ LeastOf (now (loads .entry)) (now (periods .entry)) (now (keeps .entry)) i jitter deadline r ⌝ }
+    requires { ⌜ Supplies framed ticks per count (now first) (now size) ⌝ }
+    ensures { λ r. ⌜
+        LeastOf (columnFrame framed ticks count (now (first .entry)) (now (size .entry))) (now (loads .entry)) (now (periods .entry)) (now (keeps .entry)) i jitter deadline
+        r
+        ⌝ }
 {
     let period = periods[i];
     let once = once_each(loads, periods, keeps, i);
@@ -170,7 +217,22 @@ fn least_keep(
     let mut high: u32 = 0;
     let mut evaluations: u64 = 0;
     loop {
-        let found = window_of(loads, periods, highs, lows, keeps, i, once, q);
+        let found = window_of(
+            loads,
+            periods,
+            highs,
+            lows,
+            keeps,
+            framed,
+            ticks,
+            per,
+            count,
+            first,
+            size,
+            i,
+            once,
+            q,
+        );
         let Window::Within { window, tries } = found else {
             return Least::Unfit;
         };
@@ -203,6 +265,12 @@ fn keep_for(
     highs: &[u32],
     lows: &[u32],
     keeps: &[u32],
+    framed: bool,
+    ticks: u32,
+    per: u32,
+    count: usize,
+    first: &[u32],
+    size: &[u32],
     i: usize,
     jitter: u32,
     deadline: u32,
@@ -210,7 +278,11 @@ fn keep_for(
 ) -> Least
     requires { ⌜ Walkable (now loads) (now periods) (now keeps) i jitter deadline ⌝ }
     requires { ⌜ Factored (now periods) (now highs) (now lows) i ⌝ }
-    ensures { λ r. ⌜ KeepOf spared (now (loads .entry)) (now (periods .entry)) (now (keeps .entry)) i jitter deadline r ⌝ }
+    requires { ⌜ Supplies framed ticks per count (now first) (now size) ⌝ }
+    ensures { λ r. ⌜
+        KeepOf spared (columnFrame framed ticks count (now (first .entry)) (now (size .entry))) (now (loads .entry)) (now (periods .entry)) (now (keeps .entry)) i jitter
+        deadline r
+        ⌝ }
 {
     if spared {
         return Least::Keep {
@@ -220,7 +292,22 @@ fn keep_for(
             evaluations: 0,
         };
     }
-    least_keep(loads, periods, highs, lows, keeps, i, jitter, deadline)
+    least_keep(
+        loads,
+        periods,
+        highs,
+        lows,
+        keeps,
+        framed,
+        ticks,
+        per,
+        count,
+        first,
+        size,
+        i,
+        jitter,
+        deadline,
+    )
 }
 
 // Whether a task is spared: a low one, where the high ones alone are judged.
@@ -230,11 +317,11 @@ fn is_spared(partial: bool, low: bool) -> bool
     partial && low
 }
 
-// A choice of a sheet within its limits, ordinary or, where it is a partial one, of the high tasks alone, from task 0 down to the first task that is judged and fits at no K. The lowest task is
-// above no other, so its factor is not needed.
-fn choices_of(s: TaskSet, partial: bool) -> Choices
-    requires { ⌜ Valid (viewOf s) ⌝ }
-    ensures { λ r. ⌜ ChoicesAre (scopeIn partial) (viewOf s) r ⌝ }
+// A choice of a sheet within its limits, ordinary or, where it is a partial one, of the high tasks alone, from task 0 down to the first task that is judged and fits at
+// no K. The lowest task is above no other, so its factor is not needed.
+fn choices_of(s: TaskSet, f: Frame, partial: bool) -> Choices
+    requires { ⌜ Valid (framedOf s f) ⌝ }
+    ensures { λ r. ⌜ ChoicesAre (scopeIn partial) (framedOf s f) r ⌝ }
 {
     let flat = columns_of(s);
     let loads = flat.loads;
@@ -243,6 +330,9 @@ fn choices_of(s: TaskSet, partial: bool) -> Choices
     let by = factors_of(&periods, count - 1);
     let highs = by.highs;
     let lows = by.lows;
+    let windows = supply_of(f);
+    let first = windows.first;
+    let size = windows.size;
     let mut keep: [u32; 32] = [0; 32];
     let mut worst: [u32; 32] = [0; 32];
     let mut evaluations: u64 = 0;
@@ -256,6 +346,12 @@ fn choices_of(s: TaskSet, partial: bool) -> Choices
             &highs,
             &lows,
             &keep,
+            windows.framed,
+            windows.ticks,
+            windows.per,
+            windows.count,
+            &first,
+            &size,
             i,
             own.jitter,
             own.deadline,
@@ -291,7 +387,7 @@ fn choices_of(s: TaskSet, partial: bool) -> Choices
 // Whether one of the first n tasks is low.
 fn any_low(s: TaskSet, n: usize) -> bool
     requires { ⌜ n ≤ 32 ⌝ }
-    ensures { λ r. ⌜ r ≡ anyLow (viewOf s) n ⌝ }
+    ensures { λ r. ⌜ r ≡ anyLow (viewOf s .low) n ⌝ }
 {
     let mut i = 0;
     while i < n {
@@ -306,11 +402,11 @@ fn any_low(s: TaskSet, n: usize) -> bool
 
 // The choice of a sheet within its limits: the ordinary one, and where a task fits at no K, the one of the high tasks alone. Without a low task down to that one both
 // are the same, and it is not made anew.
-fn decide(s: TaskSet) -> Decision
-    requires { ⌜ Valid (viewOf s) ⌝ }
-    ensures { λ r. ⌜ DecisionIs (viewOf s) r ⌝ }
+fn decide(s: TaskSet, f: Frame) -> Decision
+    requires { ⌜ Valid (framedOf s f) ⌝ }
+    ensures { λ r. ⌜ DecisionIs (framedOf s f) r ⌝ }
 {
-    let first = choices_of(s, false);
+    let first = choices_of(s, f, false);
     let fitted = first.fitted;
     if s.count <= fitted {
         return Decision {
@@ -319,7 +415,7 @@ fn decide(s: TaskSet) -> Decision
         };
     }
     if any_low(s, fitted + 1) {
-        let second = choices_of(s, true);
+        let second = choices_of(s, f, true);
         return Decision {
             choices: second,
             partial: true,
@@ -343,8 +439,8 @@ fn put(column: &[u32], n: usize, out: &mut [u32])
     }
 }
 
-// The checks of a choice before it is made: the sheet (5, 4, 6, 17), and room in both columns (13).
-pub fn check_room(s: TaskSet, kept: usize, worst: usize) -> Checked
+// The checks before a choice on a sheet without a frame: the sheet (5, 4, 6, 17), then room in both columns (13).
+fn check_slots(s: TaskSet, kept: usize, worst: usize) -> Checked
     ensures { λ r. ⌜ refusalIn r ≡ refusalOf (roomInputs (viewOf s) kept worst) ⌝ }
 {
     let whole = taskset::check(s);
@@ -367,21 +463,36 @@ pub fn check_room(s: TaskSet, kept: usize, worst: usize) -> Checked
     Checked::Fine
 }
 
-// Choice: for each task from task 0 down the least K in 0..J at which its verdict is "fits", given the choices above, into `kept`, and its largest R into `worst`.
+// The checks before a choice on a sheet with a frame or without: the sheet (5, 4, 6, 17), its frame (18), then room in both columns (13).
+pub fn check_room(s: TaskSet, f: Frame, kept: usize, worst: usize) -> Checked
+    ensures { λ r. ⌜ refusalIn r ≡ refusalOf (roomInputs (framedOf s f) kept worst) ⌝ }
+{
+    if f.present {
+        let whole = check_sheet(s, f);
+        let Checked::Fine = whole else {
+            return whole;
+        };
+        return check_slots(s, kept, worst);
+    }
+    check_slots(s, kept, worst)
+}
+
+// Choice on a sheet with a frame or without: for each task from task 0 down the least K in 0..J at which its verdict is "fits", given the choices above, into `kept`,
+// and its largest R into `worst`.
 // Where a task fits at no K, the choice is made anew with every low task kept at 0 and not judged, its worst value being 0; the answer tells which of the two it is.
 // A refusal, 15 at the first high task that fits at no K then included, leaves both columns.
-pub fn choose(s: TaskSet, kept: &mut [u32], worst: &mut [u32]) -> ChoiceAnswer
-    ensures { λ r. ⌜ scopeTold r ≡ choiceCall (viewOf s) (now (kept .entry)) (now (worst .entry)) ⌝ }
+pub fn choose(s: TaskSet, f: Frame, kept: &mut [u32], worst: &mut [u32]) -> ChoiceAnswer
+    ensures { λ r. ⌜ scopeTold r ≡ choiceCall (framedOf s f) (now (kept .entry)) (now (worst .entry)) ⌝ }
     ensures { λ _. ⌜
         now (kept .exit)
-        ≡ columnAfter (refusalOf (choiceInputs (viewOf s) (now (kept .entry)) (now (worst .entry)))) (keptColumn (choice (viewOf s))) (now (kept .entry))
+        ≡ columnAfter (refusalOf (choiceInputs (framedOf s f) (now (kept .entry)) (now (worst .entry)))) (keptColumn (choice (framedOf s f))) (now (kept .entry))
         ⌝ }
     ensures { λ _. ⌜
         now (worst .exit)
-        ≡ columnAfter (refusalOf (choiceInputs (viewOf s) (now (kept .entry)) (now (worst .entry)))) (worstColumn (choice (viewOf s))) (now (worst .entry))
+        ≡ columnAfter (refusalOf (choiceInputs (framedOf s f) (now (kept .entry)) (now (worst .entry)))) (worstColumn (choice (framedOf s f))) (now (worst .entry))
         ⌝ }
 {
-    let checked = check_room(s, kept.len(), worst.len());
+    let checked = check_room(s, f, kept.len(), worst.len());
     if let Checked::Refused { number, place } = checked {
         return ChoiceAnswer::Refused {
             number: number,
@@ -389,7 +500,7 @@ pub fn choose(s: TaskSet, kept: &mut [u32], worst: &mut [u32]) -> ChoiceAnswer
         };
     }
     let count = s.count;
-    let decided = decide(s);
+    let decided = decide(s, f);
     let c = decided.choices;
     let fitted = c.fitted;
     if fitted < count {

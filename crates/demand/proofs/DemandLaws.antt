@@ -1,20 +1,17 @@
 -- Laws of the demand, and of the search for W(q) by a rising list.
-use Prim.Native.Nat.{ℕ, suc, _+_, _-_, _*_, _≤_, _<_}
+use Prim.Native.Nat.{ℕ, zero, suc, _+_, _*_, _≤_, _<_}
 use mathlib.Core.Path.{_≡_}
 use mathlib.Core.Logic.{dite}
-use mathlib.Core.Option.{some, none}
 use native.Mathlib.Omega.{arith}
 use native.Mathlib.Nat.{le-mul-of-pos-right}
-use native.Mathlib.Decide.{decLt, decLe}
-use borrow.Author.Tests.{le-leb, lt-leb}
+use native.Mathlib.Decide.{decLt}
 use Rattle.model.specs.Series.{sum}
-use Rattle.model.specs.Limits.{horizonTick}
-use Rattle.model.specs.Tasks.{Tasks, load}
-use Rattle.model.specs.Demand.{aboveLoad, demand, meets, window}
-use Rattle.model.proofs.SearchLaws.{first-none, first-is}
-use Rattle.model.proofs.SeriesLaws.{sum-le}
+use Rattle.model.specs.Tasks.{Tasks, load, boardOf, ourTicks}
+use Rattle.model.specs.Demand.{aboveLoad, demand}
+use Rattle.model.proofs.SeriesLaws.{sum-le, on-le}
+use Rattle.model.proofs.SupplyLaws.{supply-next, supply-high}
 use Rattle.response.proofs.LoadSums.{loads-rise}
-use Rattle.response.proofs.WindowLaws.{Window}
+use Rattle.response.proofs.WindowLaws.{Window, TooShortFrom}
 use Rattle.demand.proofs.ArrivalCountLaws.{arrivals-some}
 use Rattle.demand.specs.Searching.{TooShort}
 
@@ -48,23 +45,6 @@ pub demand-own : (s : Tasks) (k : ℕ → ℕ) (i q t : ℕ) → suc q * load s 
 unfolding demand
 demand-own s k i q t = omega arith
 
--- w is W(q) where it is the least t ≥ 1 whose demand is met, and not over H
-pub window-found : (s : Tasks) (k : ℕ → ℕ) (i q w : ℕ) → Window s k i q w → window s k i q ≡ some w
-unfolding window meets
-window-found s k i q w f =
-    first-is (meets s k i q) horizonTick 1 w
-    (record {
-      holds = le-leb _ _ (f .met);
-      low = f .low;
-      high = omega arith;
-      before = λ x l h. lt-leb _ _ (f .least x l h);
-    })
-
--- there is no W(q) up to H where every t up to H is too short
-pub window-beyond : (s : Tasks) (k : ℕ → ℕ) (i q t : ℕ) → horizonTick < t → TooShort s k i q t → window s k i q ≡ none
-unfolding window meets
-window-beyond s k i q t h f = first-none (meets s k i q) horizonTick 1 (λ x l g. lt-leb _ _ (f x l (omega arith)))
-
 -- below the first member of the list of t, and below the next one, every t is too short
 module _ (s : Tasks) (k : ℕ → ℕ) (i : ℕ) (p : Periodic s i) where
   -- what is below the first member is too short
@@ -76,15 +56,35 @@ module _ (s : Tasks) (k : ℕ → ℕ) (i : ℕ) (p : Periodic s i) where
   pub short-next : (q t : ℕ) → TooShort s k i q t → TooShort s k i q (demand s k i q t)
   short-next q t f x l h = dite (decLt x t) (λ b. f x l b) (λ b. omega (arith, demand-mono s k i p q t x (omega arith)))
 
+-- the same from a start u: t′ is the least number of ticks among which, from u on, as many as some demand are ours
+module _ (s : Tasks) (k : ℕ → ℕ) (i : ℕ) (p : Periodic s i) (q u : ℕ) where
+  -- what is below the first number tried is too short
+  pub from-start : (t : ℕ) → ((x : ℕ) → x < t → ourTicks s u x < suc q * load s i + sum (load s) i) → TooShortFrom s k i q u t
+  unfolding demand
+  from-start t h x a b = omega (arith, h x b, above-once s k i p x a)
+
+  -- and what is below the next one
+  pub from-next
+      : (t t′ : ℕ) → TooShortFrom s k i q u t → ((x : ℕ) → x < t′ → ourTicks s u x < demand s k i q t) → TooShortFrom s k i q u t′
+  from-next t t′ f h x a b = dite (decLt x t) (λ l. f x a l) (λ l. omega (arith, h x b, demand-mono s k i p q t x (omega arith)))
+
 module _ (s : Tasks) (k : ℕ → ℕ) (i : ℕ) where
   -- with one job more it is longer
   pub window-rises : Periodic s i → 1 ≤ load s i → (q v w : ℕ) → Window s k i q v → Window s k i (suc q) w → v < w
-  window-rises p h q v w f g = dite (decLe w v) (λ b. absurd (shorter b)) (λ b. omega arith)
+  window-rises p h q v w f g = go (g .met (f .worst))
     where
-      -- the tick before w would do for q
-      two : 2 ≤ w
-      two = omega (arith, demand-next s k i q w, demand-own s k i q w)
+      go : (t : ℕ) × (1 ≤ t) × (t ≤ w) × (demand s k i (suc q) t ≤ ourTicks s (f .worst) t) → v < w
+      go (zero, low, high, met) = absurd (omega arith)
+      go (suc t, low, high, met) = dite (decLt t v) (λ b. absurd (shorter b)) (λ b. omega arith)
+        where
+          one : ourTicks s (f .worst) (suc t) ≤ suc (ourTicks s (f .worst) t)
+          one = omega (arith, supply-next (boardOf s .ours) (f .worst) t, on-le (boardOf s .ours (f .worst + t)) 1)
 
-      shorter : w ≤ v → ⊥
-      shorter b =
-          omega (arith, demand-next s k i q w, f .least (w - 1) (omega (arith, two)) (omega arith), demand-mono s k i p q (w - 1) w (omega arith))
+          -- the tick before would do for q
+          some-tick : 1 ≤ t
+          some-tick =
+              omega (arith, met, demand-next s k i q (suc t), demand-own s k i q (suc t), supply-high (boardOf s .ours) (f .worst) (suc t))
+
+          shorter : t < v → ⊥
+          shorter b =
+              omega (arith, one, met, demand-next s k i q (suc t), demand-mono s k i p q t (suc t) (omega arith), f .least t some-tick b)

@@ -1,6 +1,7 @@
 -- Laws of the columns: the sums step by step, the copy of a task set's columns, the factors of its periods.
 use Prim.Native.Nat.{ℕ, _+_, _*_, _≤_, _<_}
 use mathlib.Core.Path.{_≡_, refl, sym, ap, _∙_}
+use mathlib.Core.Option.{Option}
 use mathlib.Core.List.{List}
 use native.Mathlib.Omega.{arith}
 use native.Mathlib.Nat.{add-zero, mul-le-mul}
@@ -8,6 +9,7 @@ use native.Mathlib.Numerals.{add-one}
 use lib.ListN.{set, replicate}
 use Rattle.model.specs.Series.{sum}
 use Rattle.model.specs.Limits.{maxTasks, maxTime, horizonTick}
+use Rattle.model.specs.Frame.{Frame}
 use Rattle.model.specs.Tasks.{load, Valid}
 use Rattle.model.specs.Arrival.{ceilDiv, arrivals}
 use Rattle.model.specs.Demand.{aboveLoad}
@@ -22,14 +24,16 @@ use Rattle.demand.specs.Columns.{columnLoad, flatTasks, Small, Tried, Pe
 use Rattle.demand.proofs.ArrivalCountLaws.{arrivals-ceil}
 
 -- the loads of a task set without a charge are its column
-pub flat-loads : (loads periods : List ℕ) (J D : ℕ) → load (flatTasks loads periods J D) ≡ column loads
-flat-loads loads periods J D = λ x j. add-zero (column loads j) x
+pub flat-loads : (o : Option Frame) (loads periods : List ℕ) (J D : ℕ) → load (flatTasks o loads periods J D) ≡ column loads
+flat-loads o loads periods J D = λ x j. add-zero (column loads j) x
 
 -- the sum over the columns is the load of the tasks above
-pub column-above : (loads periods keeps : List ℕ) (J D n t : ℕ) → columnLoad loads periods keeps n t ≡ aboveLoad (flatTasks loads periods J D) (column keeps) n t
+pub column-above
+    : (o : Option Frame) (loads periods keeps : List ℕ) (J D n t : ℕ)
+    → columnLoad loads periods keeps n t ≡ aboveLoad (flatTasks o loads periods J D) (column keeps) n t
 unfolding columnLoad aboveLoad
-column-above loads periods keeps J D n t =
-    ap (λ f. sum (λ j. f j * arrivals (column periods j) (column keeps j) t) n) (sym (flat-loads loads periods J D))
+column-above o loads periods keeps J D n t =
+    ap (λ f. sum (λ j. f j * arrivals (column periods j) (column keeps j) t) n) (sym (flat-loads o loads periods J D))
 
 -- what the search meets can be divided by the period of a task
 pub divided : (E P h l K x : ℕ) → Small E P K → IsFactor P h l → x ≤ horizonTick + maxTime → Divided x P h l

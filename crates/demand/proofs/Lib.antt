@@ -2,7 +2,9 @@
 pub mod ArrivalCountLaws
 pub mod DemandLaws
 pub mod ListLaws
+pub mod SeekLaws
 pub mod FlatColumnLaws
 pub mod TaskCallLaws
-pub mod WindowSearchLaws
+pub mod FramedCallLaws
+pub mod SeekColumnLaws
 pub mod TriedListLaws

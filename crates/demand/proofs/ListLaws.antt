@@ -19,8 +19,8 @@ use Rattle.model.specs.Evaluations.{triedAt, endsAt, tried}
 use Rattle.model.proofs.SearchLaws.{first-is}
 use Rattle.model.proofs.SeriesLaws.{below-suc}
 use Rattle.model.proofs.TableLaws.{length-table}
-use Rattle.response.proofs.WindowLaws.{Window}
-use Rattle.demand.proofs.DemandLaws.{Periodic, demand-mono, demand-own, short-start, short-next, window-beyond}
+use Rattle.response.proofs.WindowLaws.{PlainWindow, plain-beyond}
+use Rattle.demand.proofs.DemandLaws.{Periodic, demand-mono, demand-own, short-start, short-next}
 use Rattle.demand.specs.Searching.{TooShort, Search}
 
 module _ (s : Tasks) (k : ℕ → ℕ) (i : ℕ) (p : Periodic s i) (e : 1 ≤ load s i) where
@@ -86,15 +86,15 @@ module _ (s : Tasks) (k : ℕ → ℕ) (i : ℕ) (p : Periodic s i) (e : 1 ≤ l
     ended h = rw (list-is h, length-table (triedAt s k i q) (suc m)) (omega arith)
 
     -- the last member is W(q) where its demand is met
-    pub search-found : t ≤ horizonTick → demand s k i q t ≤ t → Window s k i q t
+    pub search-found : t ≤ horizonTick → demand s k i q t ≤ t → PlainWindow s k i q t
     search-found l h = record { low = omega (arith, f .low); high = l; met = h; least = f .short }
 
     pub found-length : demand s k i q t ≤ t → length (tried s k i q) ≡ m + 1
     found-length h = ended (ends-met h)
 
     -- and there is none up to H where it is over H
-    pub search-over : horizonTick < t → window s k i q ≡ none
-    search-over h = window-beyond s k i q t h (f .short)
+    pub search-over : s .frame ≡ none → horizonTick < t → window s k i q ≡ none
+    search-over bare h = plain-beyond s k i bare q t h (f .short)
 
     pub over-length : horizonTick < t → length (tried s k i q) ≡ m + 1
     over-length h = ended (ends-over h)

@@ -10,18 +10,19 @@ use lib.ListN.{length, getD}
 use Rattle.model.specs.Search.{first}
 use Rattle.model.specs.Series.{sum, table}
 use Rattle.model.specs.Limits.{horizonTick}
-use Rattle.model.specs.Tasks.{Tasks, load}
+use Rattle.model.specs.Frame.{Frame}
+use Rattle.model.specs.Tasks.{Tasks, Valid, load}
 use Rattle.model.specs.Arrival.{arrivals}
 use Rattle.model.specs.Demand.{aboveLoad, demand, window}
 use Rattle.model.specs.Verdict.{stops}
-use Rattle.model.specs.Evaluations.{triedAt, endsAt, tried, taken, evaluations}
+use Rattle.model.specs.Evaluations.{triedAt, endsAt, tried, taken, countedAt, evaluations}
 use Rattle.model.proofs.SeriesLaws.{below-suc, le-or-lt, sum-le, sum-eq, sum-ones, sum-scale, sum-strict}
 use Rattle.model.proofs.SearchLaws.{first-found}
 use Rattle.model.proofs.TableLaws.{length-table, getD-table}
 use Rattle.response.proofs.ArrivalLaws.{arrivals-mono}
-use Rattle.response.proofs.WindowLaws.{Window, window-some, window-none}
+use Rattle.response.proofs.WindowLaws.{PlainWindow, plain-some, plain-none, plain-found}
 use Rattle.demand.proofs.ArrivalCountLaws.{arrivals-some}
-use Rattle.demand.proofs.DemandLaws.{Periodic, window-found}
+use Rattle.demand.proofs.DemandLaws.{Periodic}
 use Rattle.demand.proofs.ListLaws.{demand-reaches, search-start, search-next, ends-over, ends-met, list-is, search-found, search-over}
 use Rattle.demand.specs.Searching.{Search}
 use Rattle.demand.specs.TriedList.{arrivalsAbove, memberAt, lastOf, TriedList, TriedLists, EvaluationsFew}
@@ -134,7 +135,7 @@ module _ (s : Tasks) (k : ℕ → ℕ) (i : ℕ) (p : Periodic s i) (e : 1 ≤ l
       )
 
   -- the list whose last member is at place m
-  module _ (m : ℕ) (r : Reached s k i q m) (d : Ends s k i q (triedAt s k i q m)) where
+  module _ (bare : s .frame ≡ none) (m : ℕ) (r : Reached s k i q m) (d : Ends s k i q (triedAt s k i q m)) where
     -- it is the table of the m + 1 members
     list-table : tried s k i q ≡ table (triedAt s k i q) (suc m)
     list-table = list-is s k i p e q m _ (r .search) (go d)
@@ -165,15 +166,15 @@ module _ (s : Tasks) (k : ℕ → ℕ) (i : ℕ) (p : Periodic s i) (e : 1 ≤ l
       where
         go : Ends s k i q (triedAt s k i q m) → triedAt s k i q m ≡ w
         go (inl over) =
-            let g : none ≡ some w = sym (search-over s k i p e q m _ (r .search) over) ∙ h in
+            let g : none ≡ some w = sym (search-over s k i p e q m _ (r .search) bare over) ∙ h in
             let z : _≡_ {A = ℕ} 0 1 = cc in absurd (omega arith)
         go (inr within) =
-            Option·some-injective _ _ (sym (window-found s k i q _ (search-found s k i p e q m _ (r .search) (within .0) (within .1))) ∙ h)
+            Option·some-injective _ _ (sym (plain-found s k i bare q _ (search-found s k i p e q m _ (r .search) (within .0) (within .1))) ∙ h)
 
     -- with a demand that equals it
     last-met : (w : ℕ) → window s k i q ≡ some w → demand s k i q w ≡ w
     last-met w h =
-        let f : Window s k i q w = window-some s k i q w h in omega (arith, f .met, demand-reaches s k i p e q w (f .least))
+        let f : PlainWindow s k i q w = plain-some s k i bare q w h in omega (arith, f .met, demand-reaches s k i p e q w (f .least))
 
     -- and over H where there is none
     last-over : window s k i q ≡ none → horizonTick < triedAt s k i q m
@@ -181,7 +182,7 @@ module _ (s : Tasks) (k : ℕ → ℕ) (i : ℕ) (p : Periodic s i) (e : 1 ≤ l
       where
         go : Ends s k i q (triedAt s k i q m) → horizonTick < triedAt s k i q m
         go (inl over) = over
-        go (inr within) = absurd (omega (arith, within .1, window-none s k i q h _ (omega (arith, r .search .low)) (within .0)))
+        go (inr within) = absurd (omega (arith, within .1, plain-none s k i bare q h _ (omega (arith, r .search .low)) (within .0)))
 
     -- all that is promised of it
     list-holds : TriedList s k i q
@@ -200,7 +201,8 @@ module _ (s : Tasks) (k : ℕ → ℕ) (i : ℕ) (p : Periodic s i) (e : 1 ≤ l
 
 -- so it is for every task of a sheet within its limits: its load and the periods of the tasks above are at least 1
 pub tried-list : TriedLists
-tried-list s v k i h q = let l : Ended s k i q = list-ends s k i periodic own-load q in list-holds s k i periodic own-load q (l .m) (l .reached) (l .ends)
+tried-list s v bare k i h q =
+    let l : Ended s k i q = list-ends s k i periodic own-load q in list-holds s k i periodic own-load q bare (l .m) (l .reached) (l .ends)
   where
     periodic : Periodic s i
     periodic j l = v .in-range j (omega arith) .period-low
@@ -217,12 +219,21 @@ taken-few s k i = go (first (stops s k i) (suc horizonTick) 0) refl
     go none h = rw (taken, h) (omega arith)
     go (some q) h = rw (taken, h) (first-found (stops s k i) (suc horizonTick) 0 q h .high)
 
+-- of each of them at most H + 1 members count
+counted-few : (s : Tasks) → Valid s → (k : ℕ → ℕ) (i : ℕ) → i < s .count → (q : ℕ) → countedAt s k i q ≤ suc horizonTick
+unfolding countedAt
+counted-few s v k i h q = go (s .frame) refl
+  where
+    go : (o : Option Frame) → s .frame ≡ o → countedAt s k i q ≤ suc horizonTick
+    go none e = rw (countedAt, e) (tried-list s v e k i h q .few)
+    go (some f) e = rw (countedAt, e) (omega arith)
+
 pub evaluations-few : EvaluationsFew
 unfolding evaluations
 evaluations-few s v k i h =
     omega (
       arith,
-      sum-scale (λ q. length (tried s k i q)) (λ q. 1) (suc horizonTick) (taken s k i) (λ q l. omega (arith, tried-list s v k i h q .few)),
+      sum-scale (countedAt s k i) (λ q. 1) (suc horizonTick) (taken s k i) (λ q l. omega (arith, counted-few s v k i h q)),
       sum-ones (taken s k i),
       taken-few s k i,
     )

@@ -2,11 +2,13 @@
 use Prim.Native.Nat.{ℕ, _*_, _≤_, _<_}
 use mathlib.Core.Path.{_≡_}
 use mathlib.Core.Bool.{false}
+use mathlib.Core.Option.{Option}
 use mathlib.Core.List.{List}
 use lib.ListN.{length}
 use Rattle.model.specs.Series.{sum}
 use Rattle.model.specs.Limits.{maxTasks, maxTime, horizonTick}
 use Rattle.model.specs.Slots.{Holds}
+use Rattle.model.specs.Frame.{Frame}
 use Rattle.model.specs.Tasks.{Tasks, load}
 use Rattle.model.specs.Arrival.{arrivals}
 use Rattle.model.specs.Choice.{column}
@@ -18,9 +20,9 @@ use Rattle.quotient.specs.Factor.{highOf, lowOf, IsFactor}
 unfoldable pub columnLoad : List ℕ → List ℕ → List ℕ → ℕ → ℕ → ℕ
 columnLoad loads periods keeps n t = sum (λ j. column loads j * arrivals (column periods j) (column keeps j) t) n
 
--- a task set with these loads and periods and no charge, whose tasks have jitter J and deadline D and are high
-abbrev pub flatTasks : List ℕ → List ℕ → ℕ → ℕ → Tasks
-flatTasks loads periods J D = record {
+-- a task set with this frame, if any, these loads and periods and no charge, whose tasks have jitter J and deadline D and are high
+abbrev pub flatTasks : Option Frame → List ℕ → List ℕ → ℕ → ℕ → Tasks
+flatTasks o loads periods J D = record {
   count = 0;
   period = column periods;
   jitter = λ j. J;
@@ -28,6 +30,7 @@ flatTasks loads periods J D = record {
   deadline = λ j. D;
   low = λ j. false;
   charge = 0;
+  frame = o;
 }
 
 -- the numbers of a task are within document 01's limits

@@ -2,4 +2,5 @@
 pub mod Columns
 pub mod ArrivalAnswer
 pub mod Searching
+pub mod Seeking
 pub mod TriedList

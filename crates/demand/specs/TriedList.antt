@@ -37,9 +37,9 @@ pub record TriedList (s : Tasks) (k : ℕ → ℕ) (i q : ℕ) : Type 0 where
   pub short : (w : ℕ) → window s k i q ≡ some w → length (tried s k i q) + i ≤ 1 + arrivalsAbove s k i w
   pub few : length (tried s k i q) ≤ suc horizonTick
 
--- so it is for every task of a sheet within its limits, with any kept jitters, and every q
+-- so it is for every task of a sheet within its limits and without a frame, with any kept jitters, and every q
 abbrev pub TriedLists : Type 0
-TriedLists = (s : Tasks) → Valid s → (k : ℕ → ℕ) (i : ℕ) → i < s .count → (q : ℕ) → TriedList s k i q
+TriedLists = (s : Tasks) → Valid s → s .frame ≡ none → (k : ℕ → ℕ) (i : ℕ) → i < s .count → (q : ℕ) → TriedList s k i q
 
 -- and the number of evaluations of a verdict fits 64 bits: at most H + 1 lists of at most H + 1 members
 abbrev pub EvaluationsFew : Type 0

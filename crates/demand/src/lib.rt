@@ -1,14 +1,24 @@
 // Arrival count and demand.
 ghost use mathlib.Core.Path.{_≡_};
-ghost use Prim.Native.Nat.{_≤_};
+ghost use Prim.Native.Nat.{_≤_, _<_};
 ghost use Rattle.model.specs.Tasks.{Valid};
 ghost use Rattle.model.specs.Arrival as model_arrival;
 ghost use Rattle.model.specs.Checks.{refusalOf};
 ghost use Rattle.model.specs.Calls.{taskInputs, arrivalCall};
 ghost use Rattle.taskset.specs.TaskSet.{viewOf, refusalIn};
+ghost use Rattle.model.specs.Limits.{maxTick};
+ghost use Rattle.frame.specs.FrameView.{framedOf};
+ghost use Rattle.frame.specs.Starts.{startsOf};
+ghost use Rattle.frame.specs.WindowColumns.{columnFrame, Supplies};
 ghost use Rattle.quotient.specs.Factor.{IsFactor};
+ghost use Rattle.demand.specs.Seeking.{tallyOf, Started};
 ghost use Rattle.demand.specs.Columns.{Small, Tried, Columns, Periods, Factored, IsTerm, IsLoad, IsOnce, Copied, Prepared};
 ghost use Rattle.demand.specs.ArrivalAnswer.{arrivalIn};
+use frame::Frame;
+use frame::check_sheet;
+use frame::reach_from;
+use frame::start_of;
+use frame::within;
 use numbers::wide;
 use quotient::ceil_div;
 use quotient::factor_of;
@@ -31,6 +41,13 @@ pub struct TaskColumns {
 pub struct FactorColumns {
     pub highs: [u32; 32],
     pub lows: [u32; 32],
+}
+
+// A start of the search for W(q): its place in the frame, the ticks of the windows before it, and the first number of ticks tried from it.
+pub struct Start {
+    pub at: u32,
+    pub before: u32,
+    pub t: u64,
 }
 
 // Arrival count: ceil((t + K) ÷ P) in t ticks for t ≥ 1, zero in 0 ticks.
@@ -91,6 +108,42 @@ pub fn once_each(loads: &[u32], periods: &[u32], keeps: &[u32], n: usize) -> u64
         j += 1;
     }
     sum
+}
+
+// How much a number of ticks that the search tries counts as an evaluation: 1, and 0 with a frame.
+pub fn tally_of(framed: bool) -> u64
+    ensures { λ r. ⌜ r ≡ tallyOf framed ⌝ }
+{
+    if framed {
+        return 0;
+    }
+    1
+}
+
+// Start n of the search, and the least number of ticks from it among which `need` are ours.
+pub fn start_at(
+    framed: bool,
+    ticks: u32,
+    per: u32,
+    count: usize,
+    first: &[u32],
+    size: &[u32],
+    n: usize,
+    need: u64,
+) -> Start
+    requires { ⌜ Supplies framed ticks per count (now first) (now size) ⌝ }
+    requires { ⌜ n < startsOf (columnFrame framed ticks count (now first) (now size)) ⌝ }
+    requires { ⌜ need ≤ maxTick ⌝ }
+    ensures { λ r. ⌜ Started framed ticks count (now (first .entry)) (now (size .entry)) n need r ⌝ }
+{
+    let at = start_of(framed, ticks, count, first, size, n);
+    let before = within(first, size, count, at);
+    let t = reach_from(framed, ticks, per, count, first, size, at, before, need);
+    Start {
+        at: at,
+        before: before,
+        t: t,
+    }
 }
 
 // Loads and periods of the tasks of a sheet, worked out once: the load is E + S. Slots past the count are 0.
@@ -157,6 +210,20 @@ pub fn check_call(s: TaskSet, task: usize, kept: &[u32]) -> Checked
         };
     }
     taskset::check_kept(s, kept)
+}
+
+// The same on a sheet with a frame or without: the sheet, its frame (18), then 14, 13, 12.
+pub fn check_framed(s: TaskSet, f: Frame, task: usize, kept: &[u32]) -> Checked
+    ensures { λ r. ⌜ refusalIn r ≡ refusalOf (taskInputs (framedOf s f) task (now (kept .entry))) ⌝ }
+{
+    if f.present {
+        let whole = check_sheet(s, f);
+        let Checked::Fine = whole else {
+            return whole;
+        };
+        return check_call(s, task, kept);
+    }
+    check_call(s, task, kept)
 }
 
 // Arrival count of one task in t ticks, with kept jitters.

@@ -1,6 +1,7 @@
 -- Laws of the two calls together: what is written is read again, and what is read passes the checks of the calls on values.
 use Prim.Native.Nat.{ℕ, zero, suc, _-_, _≤_, _<_}
 use mathlib.Core.Path.{_≡_, refl, sym, ap, ap₂, _∙_}
+use mathlib.Core.Option.{none}
 use mathlib.Core.List.{List, [], _∷_, _++_, map}
 use native.Mathlib.Omega.{arith}
 use lib.ListN.{length, getD, replicate, length-map, length-append, List·getD-append, List·getD-map}
@@ -71,6 +72,7 @@ view-set c l = λ t. record {
   deadline = λ i. pad l (maxTasks - length l) i t .deadline;
   low = λ i. pad l (maxTasks - length l) i t .low;
   charge = c;
+  frame = none;
 }
 
 -- the releases of the columns that are written

@@ -11,6 +11,7 @@ use Rattle.model.specs.Limits.{maxTasks, maxReleases, maxTick, maxShortTick}
 use Rattle.model.specs.Tasks.{Release, Valid}
 use Rattle.model.specs.Refusal.{Refusal, refused, answered}
 use Rattle.model.specs.Checks.{releaseFault, checkReleases}
+use Rattle.model.proofs.FrameLaws.{unframed-ruled}
 use Rattle.model.proofs.CheckLaws.{in-range-yes, entry-fine, valid-of, valid-passes}
 use Rattle.model.proofs.TraceLaws.{Passed, passed-of, releases-next, passes-cons}
 use Rattle.taskset.specs.declared.Task.{Task}
@@ -441,7 +442,7 @@ good-valid : (s : State) → Good s → 1 ≤ length (s .tasks) → ValidFile (r
 unfolding checkReleases
 good-valid s g l =
     record {
-      tasks = sym (valid-passes (sheetWith (s .charge) (s .tasks)) (record { some-task = l; few-tasks = g .few-tasks; in-range = g .ranged; carried = g .loaded }));
+      tasks = sym (valid-passes (sheetWith (s .charge) (s .tasks)) (record { some-task = l; few-tasks = g .few-tasks; in-range = g .ranged; carried = g .loaded; framed = unframed-ruled }));
       releases = ap (checkReleases (sheetWith (s .charge) (s .tasks)) 0 0) (sym (append-nil (s .releases))) ∙ g .checked [];
       few = g .few-releases;
     }

@@ -46,6 +46,7 @@ module _ (s : TaskSet) (h : s .count ≤ length (s .tasks)) where
         deadline = λ i l. ap (λ t. t .deadline) (sym (getD-take (s .count) (s .tasks) i noTask l));
         low = λ i l. ap (λ t. t .low) (sym (getD-take (s .count) (s .tasks) i noTask l));
         charge = refl;
+        frame = tt;
       }
 
   -- entries past the count that are 0 stand as in the set of its tasks

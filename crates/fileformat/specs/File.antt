@@ -22,7 +22,7 @@ pub record File : Type 0 where
   pub tasks : List Task
   pub releases : List Release
 
--- the sheet of a charge and a list of tasks
+-- the sheet of a charge and a list of tasks; files hold no frame
 abbrev pub sheetWith : ℕ → List Task → Tasks
 sheetWith c l = record {
   count = length l;
@@ -32,6 +32,7 @@ sheetWith c l = record {
   deadline = λ i. getD l i noTask .deadline;
   low = λ i. getD l i noTask .low;
   charge = c;
+  frame = none;
 }
 
 -- without a charge

@@ -9,13 +9,14 @@ use Rattle.model.specs.Run.{jobs, finishAt, responseAt}
 use Rattle.model.specs.Claims.{Trace}
 use Rattle.trace.proofs.ReadyAtLaws.{ready-from}
 use Rattle.theory.proofs.FinishLaws.{finish-late}
-use Rattle.guarantee.proofs.PlainRun.{all-ours, works}
+use Rattle.processor.specs.FinishBound.{Framed}
+use Rattle.guarantee.proofs.BoardRun.{served, works}
 
-module _ (s : Tasks) (k : ℕ → ℕ) (l : List Release) (tr : Trace s l) (p : ℕ) (h : p < length l) where
+module _ (s : Tasks) (v : Framed s) (k : ℕ → ℕ) (l : List Release) (tr : Trace s l) (p : ℕ) (h : p < length l) where
   -- a job finishes after the first tick in which it may run
   pub start-first : jobs s k l .start p < finishAt s k l p
   unfolding finishAt
-  start-first = finish-late (jobs s k l) (all-ours s k l) p h (works s k l tr p h)
+  start-first = finish-late (jobs s k l) (served s v k l) p h (works s k l tr p h)
 
   -- release and response together are the finish
   pub response-exact : releaseAt l p .tick + responseAt s k l p ≡ finishAt s k l p

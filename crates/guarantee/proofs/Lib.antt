@@ -1,5 +1,5 @@
 -- Demand 3 and what follows from it, proved. From the ground up.
-pub mod PlainRun
+pub mod BoardRun
 pub mod FitsOfVerdict
 pub mod LateOfVerdict
 pub mod LimitShareOfRun
@@ -11,3 +11,4 @@ pub mod ExactResponse
 pub mod IdleLaws
 pub mod RunBounds
 pub mod PickupLaws
+pub mod WholeFrame

@@ -2,6 +2,7 @@
 pub mod Demand3
 pub mod OnProcessor
 pub mod Pickup
+pub mod WholeFrame
 pub mod Idle
 pub mod RunBounds
 pub mod ChoiceSafe

@@ -2,17 +2,18 @@
 -- (`tick-picks`, `finish-later`, `bound-later`, `ready-finished`).
 use Prim.Native.Nat.{ℕ, _+_, _≤_, _<_}
 use mathlib.Core.Path.{_≡_}
-use mathlib.Core.Bool.{Bool, true}
+use mathlib.Core.Bool.{Bool, true, false}
 use mathlib.Core.Option.{Option, some, none}
 use mathlib.Core.List.{List}
 use lib.ListN.{length}
 use lib.IntN.{pos, _+ℤ_, _-ℤ_}
-use Rattle.model.specs.Processor.{Processor, pickup, plain}
-use Rattle.model.specs.Tasks.{Tasks, Release, releaseAt}
+use Rattle.model.specs.Processor.{Processor, pickup}
+use Rattle.model.specs.Tasks.{Tasks, boardOf, Release, releaseAt}
 use Rattle.model.specs.Ready.{readyAt}
 use Rattle.model.specs.Run.{jobsOn, jobs, runs, finishOf, finishAt}
 use Rattle.model.specs.Bound.{maxZ, minZ, offset, bound}
 use Rattle.model.specs.Claims.{Trace, Finished}
+use Rattle.processor.specs.FinishBound.{Framed}
 
 -- the job at p was ready before tick t and is unfinished at t
 pub record Waits (s : Tasks) (k : ℕ → ℕ) (l : List Release) (t p : ℕ) : Type 0 where
@@ -29,18 +30,22 @@ abbrev pub Picks : Tasks → (ℕ → ℕ) → List Release → ℕ → Option �
 Picks s k l t none = (q : ℕ) → Waits s k l t q → ⊥
 Picks s k l t (some p) = Waits s k l t p × ((q : ℕ) → Waits s k l t q → GoesFirst l p q)
 
--- that job runs in tick t: none sooner than the tick after its ready tick, and none is kept waiting longer by the kernel
+-- in a tick that is ours that job runs: none sooner than the tick after its ready tick, and none is kept waiting longer by the kernel; in any other none runs
 abbrev pub TickPicks : Type 0
-TickPicks = (s : Tasks) (k : ℕ → ℕ) (l : List Release) → Trace s l → (t : ℕ) → Picks s k l t (runs (jobs s k l) t)
+TickPicks =
+    (s : Tasks) → Framed s → (k : ℕ → ℕ) (l : List Release) → Trace s l → (t : ℕ)
+    → (boardOf s .ours t ≡ true → Picks s k l t (runs (jobs s k l) t)) × (boardOf s .ours t ≡ false → runs (jobs s k l) t ≡ none)
 
--- a processor with a charge on which a job may run in its ready tick, as before R-2
-abbrev pub atOnce : ℕ → Processor
-atOnce charge = record { start = λ ready. ready; work = plain charge .work; ours = plain charge .ours }
+-- the processor of a sheet, but a job may run in its ready tick, as before R-2, and ours are the ticks that are the pickup before one of ours. Without a frame
+-- every tick is ours there too
+abbrev pub atOnce : Tasks → Processor
+atOnce s = record { start = λ ready. ready; work = boardOf s .work; ours = λ t. boardOf s .ours (t + pickup); turn = boardOf s .turn }
 
 -- each job finishes the pickup later than there
 abbrev pub FinishLater : Type 0
 FinishLater =
-    (s : Tasks) (k : ℕ → ℕ) (l : List Release) → Trace s l → (p : ℕ) → p < length l → finishAt s k l p ≡ finishOf (jobsOn (atOnce (s .charge)) s k l) p + pickup
+    (s : Tasks) → Framed s → (k : ℕ → ℕ) (l : List Release) → Trace s l → (p : ℕ) → p < length l
+    → finishAt s k l p ≡ finishOf (jobsOn (atOnce s) s k l) p + pickup
 
 -- R(q) is document 01's, and the pickup
 abbrev pub BoundLater : Type 0

@@ -4,7 +4,7 @@ use mathlib.Core.Path.{_≡_}
 use mathlib.Core.Option.{some, none}
 use mathlib.Core.List.{List}
 use lib.ListN.{length}
-use Rattle.model.specs.Tasks.{Tasks, Release, releaseAt, load, Valid}
+use Rattle.model.specs.Tasks.{Tasks, Release, releaseAt, load, ourTicks, Valid}
 use Rattle.model.specs.Arrival.{arrivals}
 use Rattle.model.specs.Ready.{place}
 use Rattle.model.specs.Run.{jobs, finishAt}
@@ -31,8 +31,8 @@ pub record InWindow (s : Tasks) (k : ℕ → ℕ) (i : ℕ) (l : List Release) (
 pub record TaskBounds (s : Tasks) (k : ℕ → ℕ) (i : ℕ) (l : List Release) : Type 0 where
   -- a task runs at most load × σ(t) of the t ticks from u on
   pub limit : (u t : ℕ) → Finished s k l (isTask i) u → used s k l (isTask i) u t ≤ load s i * arrivals (s .period i) (k i) t
-  -- the tasks above leave over n − Σ load_j σ_j(n) of the t ticks from u on, for every n ≤ t
-  pub share : (u t n : ℕ) → n ≤ t → Finished s k l (isAbove i) u → n - aboveLoad s k i n ≤ leftOver s k l (isAbove i) u t
+  -- the tasks above leave over (our ticks among n) − Σ load_j σ_j(n) of the t ticks from u on, for every n ≤ t
+  pub share : (u t n : ℕ) → n ≤ t → Finished s k l (isAbove i) u → ourTicks s u n - aboveLoad s k i n ≤ leftOver s k l (isAbove i) u t
   -- where the walk of the verdict stops without a late q, every job is finished so
   pub window : (d : Walked s k i) (p : ℕ) → p < length l → releaseAt l p .task ≡ i → InWindow s k i l (d .last) p
 

@@ -28,7 +28,7 @@ module _ (s : Tasks) (kept : List ℕ) (n : ℕ) (task tick cost ready finish : 
 
   module _ (e : Cleared s kept n task tick cost ready finish) where
     -- the ticks at which the jobs in columns stop are the definition's
-    same-stops : stopsOf (jobsOf n task cost (s .charge) (readyWritten s kept n task tick cost ready)) ≡ stopTicks s (column kept) (releasesOf n task tick cost)
+    same-stops : stopsOf (jobsOf (s .frame) n task cost (s .charge) (readyWritten s kept n task tick cost ready)) ≡ stopTicks s (column kept) (releasesOf n task tick cost)
     unfolding stopTicks readyList finishList
     same-stops =
         ap₂ _++_
@@ -44,9 +44,9 @@ module _ (s : Tasks) (kept : List ℕ) (n : ℕ) (task tick cost ready finish : 
     -- a run that is not refused
     pub jump-answered : (o : List ℕ) (stops : ℕ)
         → o ≡ readyWritten s kept n task tick cost ready
-        → stops ≡ different (stopsOf (jobsOf n task cost (s .charge) o))
+        → stops ≡ different (stopsOf (jobsOf (s .frame) n task cost (s .charge) o))
         → answered stops ≡ jumpCall s kept n task tick cost ready finish
     unfolding jumpCall stopCount
     jump-answered o stops g f =
-        ap answered (f ∙ ap (λ x. different (stopsOf (jobsOf n task cost (s .charge) x))) g ∙ ap different same-stops)
+        ap answered (f ∙ ap (λ x. different (stopsOf (jobsOf (s .frame) n task cost (s .charge) x))) g ∙ ap different same-stops)
         ∙ answers (runInputs s kept n task tick cost ready finish) _ (e .clear)

@@ -4,6 +4,7 @@ use Prim.Native.Nat.{ℕ, suc, _+_, _-_, _*_, _≤_, _<_}
 use mathlib.Core.Path.{_≡_, refl, sym, ap, _∙_}
 use mathlib.Core.Logic.{_⊎_, inl, inr}
 use mathlib.Core.Bool.{true}
+use mathlib.Core.Option.{Option}
 use mathlib.Core.List.{List, _++_}
 use native.Mathlib.Omega.{arith}
 use lib.Dec.{leb}
@@ -11,15 +12,18 @@ use lib.ListN.{getD, set, drop, length-append}
 use Rattle.model.specs.Limits.{maxTime}
 use Rattle.model.specs.Series.{table}
 use Rattle.model.specs.Stops.{has, different}
+use Rattle.model.specs.Frame.{Frame, oursIn, supply}
 use Rattle.model.specs.Run.{Jobs, leftAt, finishOf}
 use Rattle.model.specs.Slots.{Holds}
 use Rattle.model.proofs.SeriesLaws.{le-by}
+use Rattle.model.proofs.SupplyLaws.{supply-longer}
 use Rattle.model.proofs.TableLaws.{length-table}
 use Rattle.model.proofs.StopLaws.{has-append, has-behind, has-either, has-table, table-has, below, below-none, below-next, below-all, below-le}
 use Rattle.theory.proofs.RunLaws.{left-le}
-use Rattle.theory.proofs.WorkLaws.{supply-all}
-use Rattle.theory.proofs.FinishLaws.{finish-by, finish-done, finish-late}
-use Rattle.theory.proofs.JumpLaws.{Keeps, Rests, NoStart, left-rests, left-keeps, left-others, rests, keeps, finish-keeps, finish-soonest, rests-none, keeps-only}
+use Rattle.theory.proofs.FinishLaws.{finish-by, finish-done, finish-not, finish-late}
+use Rattle.theory.proofs.JumpLaws.{Keeps, Rests, NoStart, left-rests, left-keeps, left-others, rests, keeps, finish-keeps, left-supplied, rests-none, keeps-only}
+use Rattle.frame.specs.Reached.{Reached}
+use Rattle.frame.proofs.ReachedLaws.{reached-exact, reached-low, reached-high}
 use Rattle.queues.specs.Queues.{jobsOf, maxFinish, firstFrom, nextOf, topReady, never, wakeOf, workOf, Runnable}
 use Rattle.queues.proofs.SearchedLaws.{work-in}
 use Rattle.queues.proofs.HeadLaws.{Ordered, Heads, May, start-soon, head-first, head-none, heads-rest, heads-run, heads-done}
@@ -30,39 +34,37 @@ use Rattle.jumps.specs.Jumps.{stopsOf, Queued, Waking, Sinces}
 use Rattle.jumps.proofs.WakeLaws.{awake-start, waking-later, since-top, sinces-done}
 
 -- what holds at tick t, a stop or the beginning. The column of finish ticks held `held`
-pub record Moment (n tasks : ℕ) (task cost : List ℕ) (charge : ℕ) (ready held : List ℕ) (t wake stops : ℕ)
+pub record Moment (o : Option Frame) (n tasks : ℕ) (task cost : List ℕ) (charge : ℕ) (ready held : List ℕ) (t wake stops : ℕ)
     (head since left coming due finish : List ℕ) : Type 0 where
-  pub can : Runnable n tasks task cost charge ready held
-  pub heads : Heads (jobsOf n task cost charge ready) tasks t head
-  pub lefts : Lefts (jobsOf n task cost charge ready) tasks t head left
+  pub can : Runnable o n tasks task cost charge ready held
+  pub heads : Heads (jobsOf o n task cost charge ready) tasks t head
+  pub lefts : Lefts (jobsOf o n task cost charge ready) tasks t head left
   pub sinces : Sinces n tasks ready head since
   pub waking : Waking n tasks task ready t wake coming due
-  pub written : Written (jobsOf n task cost charge ready) t finish held
-  pub counted : stops ≡ below (stopsOf (jobsOf n task cost charge ready)) (suc t)
+  pub written : Written (jobsOf o n task cost charge ready) t finish held
+  pub counted : stops ≡ below (stopsOf (jobsOf o n task cost charge ready)) (suc t)
   pub time : t ≤ maxFinish
 
--- the job that runs from t on: the oldest unfinished one of task i. It ends at `end` at the earliest
-pub record Front (n tasks t : ℕ) (head left : List ℕ) (i end : ℕ) : Type 0 where
+-- the job that runs from t on: the oldest unfinished one of task i
+pub record Front (n tasks : ℕ) (head left : List ℕ) (i : ℕ) : Type 0 where
   pub task-in : i < tasks
   pub inside : getD head i 0 < n
   pub some-left : 1 ≤ getD left i 0
   pub left-high : getD left i 0 ≤ maxTime
-  pub end-is : end ≡ t + getD left i 0
-  pub end-soon : end ≤ maxFinish
 
-module _ (n tasks : ℕ) (task cost : List ℕ) (charge : ℕ) (ready held : List ℕ) (r : Runnable n tasks task cost charge ready held) where
+module _ (o : Option Frame) (n tasks : ℕ) (task cost : List ℕ) (charge : ℕ) (ready held : List ℕ) (r : Runnable o n tasks task cost charge ready held) where
   abbrev j : Jobs
-  j = jobsOf n task cost charge ready
+  j = jobsOf o n task cost charge ready
 
   order : Ordered j tasks
-  order = ordered n tasks task cost charge ready held r
+  order = ordered o n tasks task cost charge ready held r
 
   pub queued : Queued n tasks task ready
   queued =
       record {
         few-tasks = r .few-tasks;
         task-long = r .task-long;
-        timely = timely n tasks task cost charge ready held r;
+        timely = timely o n tasks task cost charge ready held r;
         known = r .known;
         in-order = r .in-order;
       }
@@ -113,22 +115,22 @@ module _ (n tasks : ℕ) (task cost : List ℕ) (charge : ℕ) (ready held : Lis
       → Holds (λ i. nextOf task n i 0) tasks 32 head
       → Holds (λ i. wakeOf ready n (getD head i 0)) tasks 32 since
       → Holds (λ i. workOf cost charge n (getD head i 0)) tasks 32 left
-      → Moment n tasks task cost charge ready held 0 0 0 head since left head since held
+      → Moment o n tasks task cost charge ready held 0 0 0 head since left head since held
   moment-start head since left a d b =
       record {
         can = r;
-        heads = heads-start n tasks task cost charge ready held r head a;
-        lefts = lefts-start n tasks task cost charge ready head left b;
+        heads = heads-start o n tasks task cost charge ready held r head a;
+        lefts = lefts-start o n tasks task cost charge ready head left b;
         sinces = record { long = d .long; each = d .each };
         waking = record { awake = awake-start n tasks task ready head since a d; next = λ l. absurd (omega arith) };
         written = written-start j held (r .finish-long) (r .work-low);
-        counted = sym (below-none (stopsOf j) 1 (λ x l h. stop-by x ⊥ h (λ p g e. omega arith) (λ p g e. omega (arith, finish-late j (order .all) p g (r .work-low p g)))));
+        counted = sym (below-none (stopsOf j) 1 (λ x l h. stop-by x ⊥ h (λ p g e. omega arith) (λ p g e. omega (arith, finish-late j (order .served) p g (r .work-low p g)))));
         time = omega arith;
       }
 
   -- a moment at which the next start tick after it is known, and the search for the job that runs was made
   module _ (t wake stops : ℕ) (head since left coming due finish : List ℕ)
-      (s : Moment n tasks task cost charge ready held t wake stops head since left coming due finish) (new : ℕ) (later soon : List ℕ)
+      (s : Moment o n tasks task cost charge ready held t wake stops head since left coming due finish) (new : ℕ) (later soon : List ℕ)
       (w : Waking n tasks task ready t new later soon) (ahead : t < new) (i : ℕ) (found-first : i ≡ firstFrom (λ k. leb (getD since k 0) t) tasks 0) where
     e : i ≡ topReady head ready n tasks t
     e = since-top n tasks ready head since t i (s .sinces) found-first
@@ -161,7 +163,7 @@ module _ (n tasks : ℕ) (task cost : List ℕ) (charge : ℕ) (ready held : Lis
     later-waking u h = waking-later n tasks task ready t u new later soon h ahead w
 
     -- no job may run: on to the next start tick
-    pub moment-wait : i ≡ tasks → (new ≡ never → ⊥) → Moment n tasks task cost charge ready held new new (stops + 1) head since left later soon finish
+    pub moment-wait : i ≡ tasks → (new ≡ never → ⊥) → Moment o n tasks task cost charge ready held new new (stops + 1) head since left later soon finish
     moment-wait g h =
         record {
           can = r;
@@ -170,7 +172,7 @@ module _ (n tasks : ℕ) (task cost : List ℕ) (charge : ℕ) (ready held : Lis
           sinces = s .sinces;
           waking = later-waking new (omega arith);
           written = written-rest j t finish held (s .written) new same;
-          counted = one-more new ahead (omega arith) (new-stop h .0) (λ q a b d. rests-none j (order .all) t q (new - t) a (r .work-low q a) rest b (omega arith));
+          counted = one-more new ahead (omega arith) (new-stop h .0) (λ q a b d. rests-none j (order .served) t q (new - t) a (r .work-low q a) rest b (omega arith));
           time = new-stop h .1;
         }
       where
@@ -180,7 +182,7 @@ module _ (n tasks : ℕ) (task cost : List ℕ) (charge : ℕ) (ready held : Lis
         rest : Rests j t (new - t)
         rest =
             rests j t (new - t) (no-start (new - t) (omega arith))
-            (head-none j tasks order t head (s .heads) (none-found n tasks task cost charge ready head t (s .time) i e g))
+            (head-none j tasks order t head (s .heads) (none-found o n tasks task cost charge ready head t (s .time) i e g))
 
         same : (q : ℕ) → leftAt j new q ≡ leftAt j t q
         same q = rw to at (left-rests j t (new - t) rest q)
@@ -191,7 +193,7 @@ module _ (n tasks : ℕ) (task cost : List ℕ) (charge : ℕ) (ready held : Lis
       no-later p a = le-by (j .start p) t (λ b. omega (arith, w .next ahead .low p a (r .known p a) b, start-soon j tasks order p a))
 
       done : (p : ℕ) → p < n → leftAt j t p ≡ 0
-      done p a = head-none j tasks order t head (s .heads) (none-found n tasks task cost charge ready head t (s .time) i e g) p a (no-later p a)
+      done p a = head-none j tasks order t head (s .heads) (none-found o n tasks task cost charge ready head t (s .time) i e g) p a (no-later p a)
 
       pub moment-end : (finish ≡ table (finishOf j) n ++ drop n held) × (stops ≡ different (stopsOf j))
       moment-end = (
@@ -199,13 +201,13 @@ module _ (n tasks : ℕ) (task cost : List ℕ) (charge : ℕ) (ready held : Lis
         s .counted
             ∙ below-all (stopsOf j) (suc t)
             (λ x y. stop-by x (x < suc t) y (λ p a z. omega (arith, no-later p a))
-            (λ p a z. omega (arith, finish-by j (order .all) p a (r .work-low p a) t (done p a)))),
+            (λ p a z. omega (arith, finish-by j (order .served) p a (r .work-low p a) t (done p a)))),
       )
 
     -- some job may run
     module _ (g : i ≡ tasks → ⊥) where
       found : (i < tasks) × May j t head i
-      found = one-found n tasks task cost charge ready head t (s .time) i e g
+      found = one-found o n tasks task cost charge ready head t (s .time) i e g
 
       unfinished : 0 < leftAt j t (getD head i 0)
       unfinished = s .heads .unfinished i (found .0) (found .1 .0)
@@ -213,114 +215,130 @@ module _ (n tasks : ℕ) (task cost : List ℕ) (charge : ℕ) (ready held : Lis
       is-left : getD left i 0 ≡ leftAt j t (getD head i 0)
       is-left = s .lefts .each i (found .0) (found .1 .0)
 
-      -- it keeps the processor up to the next start tick, while it has work left
-      kept : (k : ℕ) → t + k ≤ new → k ≤ getD left i 0 → Keeps j t (getD head i 0) k
-      kept k a b =
-          keeps j t (getD head i 0) (found .1 .0) (found .1 .1)
-          (head-first j tasks order t head (s .heads) i (found .0) (found .1) (none-above n tasks task cost charge ready head t (s .time) i e))
-          k (no-start k a) (omega (arith, supply-all j t (order .all) k, is-left))
-
-      pub front : (end : ℕ) → end ≡ t + getD left i 0 → Front n tasks t head left i end
-      front end x =
+      pub front : Front n tasks head left i
+      front =
           record {
             task-in = found .0;
             inside = found .1 .0;
             some-left = omega (arith, is-left, unfinished);
             left-high = omega (arith, is-left, left-le j t (getD head i 0), r .workable .high (getD head i 0) (found .1 .0));
-            end-is = x;
-            end-soon = omega (
+          }
+
+      -- its work left takes d ticks
+      module _ (d : ℕ) (takes : Reached (oursIn o) t (getD left i 0) d) where
+        pub some-ticks : 1 ≤ d
+        some-ticks = reached-low (oursIn o) t (getD left i 0) d (front .some-left) takes
+
+        -- it does not finish sooner, and so it ends by the largest finish tick
+        pub end-soon : t + d ≤ maxFinish
+        end-soon =
+            omega (
               arith,
-              is-left,
-              finish-soonest j (order .all) t (getD head i 0) (found .1 .0) (r .work-low (getD head i 0) (found .1 .0)) unfinished,
+              not-yet,
+              reached-high (oursIn o) t (getD left i 0) d (finishOf j (getD head i 0) - t) takes
+                  (omega (arith, is-left, left-supplied j (order .served) t (getD head i 0) (finishOf j (getD head i 0) - t) (found .1 .0) some-work (omega arith))),
               r .finish-high (getD head i 0) (found .1 .0),
-            );
-          }
+            )
+          where
+            some-work : 1 ≤ j .work (getD head i 0)
+            some-work = r .work-low (getD head i 0) (found .1 .0)
 
-      -- another job starts before it ends
-      pub moment-cut : (end : ℕ) → end ≡ t + getD left i 0 → new < end
-          → Moment n tasks task cost charge ready held new new (stops + 1) head since (set left i (end - new)) later soon finish
-      moment-cut end x b =
-          record {
-            can = r;
-            heads = heads-run j tasks order t head (s .heads) new i (getD head i 0) (found .0) refl (found .1 .0) other (omega (arith, rest));
-            lefts = lefts-run j tasks order t head left (s .heads) (s .lefts) new i (found .0) (found .1 .0) other (end - new) (sym rest);
-            sinces = s .sinces;
-            waking = later-waking new (omega arith);
-            written = written-run j t finish held (s .written) new (getD head i 0) other (omega (arith, rest));
-            counted = one-more new ahead (omega arith) (new-stop not-never .0) none-ends;
-            time = new-stop not-never .1;
-          }
-        where
-          to : t + (new - t) ≡ new
-          to = omega arith
+            not-yet : t < finishOf j (getD head i 0)
+            not-yet = finish-not j (order .served) (getD head i 0) (found .1 .0) some-work t unfinished
 
-          not-never : new ≡ never → ⊥
-          not-never y = omega (arith, front end x .end-soon)
+        -- it keeps the processor up to the next start tick, while it has work left
+        kept : (k : ℕ) → t + k ≤ new → k ≤ d → Keeps j t (getD head i 0) k
+        kept k a b =
+            keeps j t (getD head i 0) (found .1 .0) (found .1 .1)
+            (head-first j tasks order t head (s .heads) i (found .0) (found .1) (none-above o n tasks task cost charge ready head t (s .time) i e))
+            k (no-start k a)
+            (omega (arith, supply-longer (oursIn o) t k d b, reached-exact (oursIn o) t (getD left i 0) d takes, is-left))
 
-          long : Keeps j t (getD head i 0) (new - t)
-          long = kept (new - t) (omega arith) (omega arith)
+        -- another job starts before it ends
+        module _ (b : new < t + d) where
+          -- less is done by then than it has left
+          pub cut-less : supply (oursIn o) t (new - t) < getD left i 0
+          cut-less = takes .least (new - t) (omega arith)
 
-          other : (q : ℕ) → (q ≡ getD head i 0 → ⊥) → leftAt j new q ≡ leftAt j t q
-          other q m = rw to at (left-others j t (getD head i 0) (new - t) long q m)
+          pub moment-cut : (rest : ℕ) → rest ≡ getD left i 0 - supply (oursIn o) t (new - t)
+              → Moment o n tasks task cost charge ready held new new (stops + 1) head since (set left i rest) later soon finish
+          moment-cut rest x =
+              record {
+                can = r;
+                heads = heads-run j tasks order t head (s .heads) new i (getD head i 0) (found .0) refl (found .1 .0) other (omega (arith, still, cut-less));
+                lefts = lefts-run j tasks order t head left (s .heads) (s .lefts) new i (found .0) (found .1 .0) other rest (omega (arith, still));
+                sinces = s .sinces;
+                waking = later-waking new (omega arith);
+                written = written-run j t finish held (s .written) new (getD head i 0) other (omega (arith, still, cut-less));
+                counted = one-more new ahead (omega arith) (new-stop not-never .0) none-ends;
+                time = new-stop not-never .1;
+              }
+            where
+              to : t + (new - t) ≡ new
+              to = omega arith
 
-          -- what it has left at the next start tick
-          rest : leftAt j new (getD head i 0) ≡ end - new
-          rest =
-              let a : leftAt j new (getD head i 0) + (new - t) ≡ leftAt j t (getD head i 0) =
-              rw (to, supply-all j t (order .all) (new - t)) at (left-keeps j t (getD head i 0) (new - t) long)
-              in
-              omega (arith, is-left)
+              not-never : new ≡ never → ⊥
+              not-never y = omega (arith, end-soon)
 
-          -- it does not finish before, nor does another
-          none-ends : (q : ℕ) → q < n → t < finishOf j q → finishOf j q < new → ⊥
-          none-ends q a c d =
-              let y : q ≡ getD head i 0 = keeps-only j (order .all) t (getD head i 0) q (new - t) a (r .work-low q a) long c (omega arith) in
-              let z : leftAt j new q ≡ 0 = finish-done j (order .all) q a (r .work-low q a) new (omega arith) in
-              omega (arith, rest, ap (leftAt j new) y)
+              long : Keeps j t (getD head i 0) (new - t)
+              long = kept (new - t) (omega arith) (omega arith)
 
-      -- it ends before another starts, or when it does
-      pub moment-done : (end next start work : ℕ)
-          → end ≡ t + getD left i 0
-          → end ≤ new
-          → next ≡ nextOf task n i (getD head i 0 + 1)
-          → start ≡ wakeOf ready n next
-          → work ≡ workOf cost charge n next
-          → Moment n tasks task cost charge ready held end new (stops + 1) (set head i next) (set since i start) (set left i work) later soon
-          (set finish (getD head i 0) end)
-      moment-done end next start work x b f a c =
-          record {
-            can = r;
-            heads = heads-done j tasks order t head (s .heads) end i (getD head i 0) (found .0) refl (found .1 .0) other gone next f;
-            lefts = lefts-done j tasks order t head left (s .heads) (s .lefts) end i (found .0) (found .1 .0) other gone next work f
-                (λ d. c ∙ work-in cost charge n next d);
-            sinces = sinces-done n tasks ready head since (r .few-tasks) (s .heads .long) (s .sinces) i next start (found .0) a;
-            waking = later-waking end (omega arith);
-            written = written-done j t finish held (s .written) end (getD head i 0) other (found .1 .0) ends;
-            counted = one-more end (omega (arith, is-left, unfinished)) b (rw ends at (finish-stop (getD head i 0) (found .1 .0))) none-ends;
-            time = front end x .end-soon;
-          }
-        where
-          to : t + getD left i 0 ≡ end
-          to = sym x
+              other : (q : ℕ) → (q ≡ getD head i 0 → ⊥) → leftAt j new q ≡ leftAt j t q
+              other q m = rw to at (left-others j t (getD head i 0) (new - t) long q m)
 
-          long : Keeps j t (getD head i 0) (getD left i 0)
-          long = kept (getD left i 0) (omega arith) (omega arith)
+              -- what it has left at the next start tick
+              still : leftAt j new (getD head i 0) + supply (oursIn o) t (new - t) ≡ getD left i 0
+              still = (rw to at (left-keeps j t (getD head i 0) (new - t) long)) ∙ sym is-left
 
-          other : (q : ℕ) → (q ≡ getD head i 0 → ⊥) → leftAt j end q ≡ leftAt j t q
-          other q m = rw to at (left-others j t (getD head i 0) (getD left i 0) long q m)
+              -- it does not finish before, nor does another
+              none-ends : (q : ℕ) → q < n → t < finishOf j q → finishOf j q < new → ⊥
+              none-ends q a c m =
+                  let y : q ≡ getD head i 0 = keeps-only j (order .served) t (getD head i 0) q (new - t) a (r .work-low q a) long c (omega arith) in
+                  let z : leftAt j new q ≡ 0 = finish-done j (order .served) q a (r .work-low q a) new (omega arith) in
+                  omega (arith, still, cut-less, ap (leftAt j new) y)
 
-          ends : finishOf j (getD head i 0) ≡ end
-          ends =
-              finish-keeps j (order .all) t (getD head i 0) (getD left i 0) (found .1 .0) (r .work-low (getD head i 0) (found .1 .0))
-              (omega (arith, is-left, unfinished))
-              long
-              (sym is-left)
-              ∙ to
+        -- it ends before another starts, or when it does
+        pub moment-done : (end next start work : ℕ)
+            → end ≡ t + d
+            → end ≤ new
+            → next ≡ nextOf task n i (getD head i 0 + 1)
+            → start ≡ wakeOf ready n next
+            → work ≡ workOf cost charge n next
+            → Moment o n tasks task cost charge ready held end new (stops + 1) (set head i next) (set since i start) (set left i work) later soon
+            (set finish (getD head i 0) end)
+        moment-done end next start work x b f a c =
+            record {
+              can = r;
+              heads = heads-done j tasks order t head (s .heads) end i (getD head i 0) (found .0) refl (found .1 .0) other gone next f;
+              lefts = lefts-done j tasks order t head left (s .heads) (s .lefts) end i (found .0) (found .1 .0) other gone next work f
+                  (λ m. c ∙ work-in cost charge n next m);
+              sinces = sinces-done n tasks ready head since (r .few-tasks) (s .heads .long) (s .sinces) i next start (found .0) a;
+              waking = later-waking end (omega arith);
+              written = written-done j t finish held (s .written) end (getD head i 0) other (found .1 .0) ends;
+              counted = one-more end (omega (arith, some-ticks)) b (rw ends at (finish-stop (getD head i 0) (found .1 .0))) none-ends;
+              time = omega (arith, end-soon);
+            }
+          where
+            to : t + d ≡ end
+            to = sym x
 
-          gone : leftAt j end (getD head i 0) ≡ 0
-          gone = finish-done j (order .all) (getD head i 0) (found .1 .0) (r .work-low (getD head i 0) (found .1 .0)) end (omega (arith, ends))
+            long : Keeps j t (getD head i 0) d
+            long = kept d (omega arith) (omega arith)
 
-          none-ends : (q : ℕ) → q < n → t < finishOf j q → finishOf j q < end → ⊥
-          none-ends q a b d =
-              let y : q ≡ getD head i 0 = keeps-only j (order .all) t (getD head i 0) q (getD left i 0) a (r .work-low q a) long b (omega arith) in
-              omega (arith, ends, ap (finishOf j) y)
+            other : (q : ℕ) → (q ≡ getD head i 0 → ⊥) → leftAt j end q ≡ leftAt j t q
+            other q m = rw to at (left-others j t (getD head i 0) d long q m)
+
+            ends : finishOf j (getD head i 0) ≡ end
+            ends =
+                finish-keeps j (order .served) t (getD head i 0) d (found .1 .0) (r .work-low (getD head i 0) (found .1 .0)) some-ticks long
+                (omega (arith, takes .least (d - 1) (omega (arith, some-ticks)), is-left))
+                (omega (arith, takes .enough, is-left))
+                ∙ to
+
+            gone : leftAt j end (getD head i 0) ≡ 0
+            gone = finish-done j (order .served) (getD head i 0) (found .1 .0) (r .work-low (getD head i 0) (found .1 .0)) end (omega (arith, ends))
+
+            none-ends : (q : ℕ) → q < n → t < finishOf j q → finishOf j q < end → ⊥
+            none-ends q a b m =
+                let y : q ≡ getD head i 0 = keeps-only j (order .served) t (getD head i 0) q d a (r .work-low q a) long b (omega arith) in
+                omega (arith, ends, ap (finishOf j) y)

@@ -10,7 +10,7 @@ use lib.ListN.{length, getD, set, length-set}
 use lib.Seq.{getD-set-same, getD-set-other}
 use lib.Dec.{leb, eqb}
 use borrow.Author.Tests.{leb-true, leb-false, eq-eqb, ne-eqb, eqb-true, eqb-false}
-use Rattle.model.proofs.SameAnswers.{first-eq}
+use Rattle.model.proofs.SearchLaws.{first-eq}
 use Rattle.model.proofs.SeriesLaws.{below-suc, le-by, le-or-lt, clash, and-left, and-right}
 use Rattle.theory.proofs.JumpLaws.{same-or}
 use Rattle.model.specs.Slots.{Holds}

@@ -1,4 +1,7 @@
 // The run that jumps: from one moment to the next at which a job may run for the first time or finishes, never tick by tick.
+use frame::Frame;
+use frame::our_ticks;
+use frame::reach;
 use numbers::wide;
 use queues::NEVER;
 use queues::first_jobs;
@@ -12,22 +15,24 @@ use taskset::Checked;
 use taskset::TaskSet;
 ghost use mathlib.Core.Path.{_≡_};
 ghost use mathlib.Core.List.{_++_};
-ghost use Prim.Native.Nat.{_≤_, _<_};
+ghost use Prim.Native.Nat.{_-_, _≤_, _<_};
 ghost use lib.Dec.{leb};
 ghost use lib.ListN.{length, getD, drop};
 ghost use Rattle.model.specs.Series.{table};
 ghost use Rattle.model.specs.Stops.{different};
+ghost use Rattle.model.specs.Frame as model_frame;
 ghost use Rattle.model.specs.Choice.{column};
 ghost use Rattle.model.specs.Slots.{Holds};
 ghost use Rattle.model.specs.Checks.{refusalOf};
 ghost use Rattle.model.specs.Ready.{readyList};
 ghost use Rattle.model.specs.Run.{finishOf, finishList};
 ghost use Rattle.model.specs.Calls.{releasesOf, columnAfter, runInputs, jumpCall};
-ghost use Rattle.taskset.specs.TaskSet.{viewOf};
+ghost use Rattle.frame.specs.FrameView.{framedOf};
+ghost use Rattle.frame.specs.WindowColumns.{columnFrame, Supplies};
 ghost use Rattle.queues.specs.Queues.{jobsOf, never, firstFrom, wakeOf, Timely, Runnable};
 ghost use Rattle.jumps.specs.Jumps.{jumpIn, stopsOf, comes, comingOf, Queued, Next, Awake, Waking};
 
-// What the run that jumps answers: how often it stopped, or document 01's number and place.
+// What the run that jumps answers: how often it stopped, or the documents' number and place.
 pub enum JumpAnswer {
     Ran { stops: u32 },
     Refused { number: u32, place: usize },
@@ -144,9 +149,40 @@ fn top_started(since: &[u64; 32], tasks: usize, t: u64) -> usize
     tasks
 }
 
-// The finish ticks of the run of n jobs, in the first n slots of the column lent, and how often the run stopped. At tick t `head` has the
-// oldest unfinished job of each task, `since` its start tick, `left` the ticks of work that it has left; the next start tick after t is `wake`.
+// The work that a job with `left` ticks of it at tick t has at tick u, where it runs in every tick of ours between them.
+fn left_after(
+    framed: bool,
+    ticks: u32,
+    per: u32,
+    windows: usize,
+    first: &[u32],
+    size: &[u32],
+    left: u32,
+    t: u64,
+    u: u64,
+) -> u32
+    requires { ⌜ Supplies framed ticks per windows (now first) (now size) ⌝ }
+    requires { ⌜ t ≤ u ⌝ }
+    requires { ⌜ model_frame.supply (model_frame.oursIn (columnFrame framed ticks windows (now first) (now size))) t (u - t) ≤ left ⌝ }
+    ensures { λ r. ⌜
+        r ≡ left - model_frame.supply (model_frame.oursIn (columnFrame framed ticks windows (now (first .entry)) (now (size .entry)))) t (u - t)
+        ⌝ }
+{
+    let before = our_ticks(framed, ticks, per, windows, first, size, t);
+    let done = our_ticks(framed, ticks, per, windows, first, size, u) - before;
+    left - done as u32
+}
+
+// The finish ticks of the run of n jobs in a frame, if any, in the first n slots of the column lent, and how often the run stopped. At tick t
+// `head` has the oldest unfinished job of each task, `since` its start tick, `left` the ticks of work that it has left; the next start tick
+// after t is `wake`.
 fn fill_finish(
+    framed: bool,
+    ticks: u32,
+    per: u32,
+    windows: usize,
+    first: &[u32],
+    size: &[u32],
     task: &[u32],
     cost: &[u32],
     charge: u32,
@@ -155,12 +191,19 @@ fn fill_finish(
     tasks: usize,
     finish: &mut [u64],
 ) -> u32
-    requires { ⌜ Runnable n tasks (now task) (now cost) charge (now ready) (now finish) ⌝ }
+    requires { ⌜ Supplies framed ticks per windows (now first) (now size) ⌝ }
+    requires { ⌜ Runnable (columnFrame framed ticks windows (now first) (now size)) n tasks (now task) (now cost) charge (now ready) (now finish) ⌝ }
     ensures finishes { λ _. ⌜
         now (finish .exit)
-        ≡ table (finishOf (jobsOf n (now (task .entry)) (now (cost .entry)) charge (now (ready .entry)))) n ++ drop n (now (finish .entry))
+        ≡ table (finishOf (jobsOf (columnFrame framed ticks windows (now (first .entry)) (now (size .entry))) n (now (task .entry)) (now (cost .entry)) charge
+        (now (ready .entry)))) n
+        ++ drop n (now (finish .entry))
         ⌝ }
-    ensures stops { λ r. ⌜ r ≡ different (stopsOf (jobsOf n (now (task .entry)) (now (cost .entry)) charge (now (ready .entry)))) ⌝ }
+    ensures stops { λ r. ⌜
+        r
+        ≡ different (stopsOf (jobsOf (columnFrame framed ticks windows (now (first .entry)) (now (size .entry))) n (now (task .entry)) (now (cost .entry)) charge
+        (now (ready .entry))))
+        ⌝ }
 {
     let mut head = first_jobs(task, n, tasks);
     let mut since = first_starts(&head, ready, n, tasks);
@@ -181,9 +224,9 @@ fn fill_finish(
             stops += 1;
             continue;
         }
-        let end = t + wide(left[i]);
+        let end = t + reach(framed, ticks, per, windows, first, size, t, wide(left[i]));
         if wake < end {
-            left[i] = (end - wake) as u32;
+            left[i] = left_after(framed, ticks, per, windows, first, size, left[i], t, wake);
             t = wake;
             stops += 1;
             continue;
@@ -199,10 +242,12 @@ fn fill_finish(
     }
 }
 
-// The run of a list of releases with kept jitters, from moment to moment: ready and finish ticks are written to the first slots of the two
-// columns, and the answer is how often it stopped. A refusal has document 01's number and place, and leaves both columns as they were.
+// The run of a list of releases with kept jitters, in a frame, if any, from moment to moment: ready and finish ticks are written to the
+// first slots of the two columns, and the answer is how often it stopped. A refusal has the documents' number and place, and leaves both
+// columns as they were.
 pub fn run(
     s: TaskSet,
+    f: Frame,
     kept: &[u32],
     count: usize,
     task: &[u32],
@@ -213,22 +258,22 @@ pub fn run(
 ) -> JumpAnswer
     ensures answer { λ r. ⌜
         jumpIn r
-        ≡ jumpCall (viewOf s) (now (kept .entry)) count (now (task .entry)) (now (tick .entry)) (now (cost .entry)) (now (ready .entry)) (now (finish .entry))
+        ≡ jumpCall (framedOf s f) (now (kept .entry)) count (now (task .entry)) (now (tick .entry)) (now (cost .entry)) (now (ready .entry)) (now (finish .entry))
         ⌝ }
     ensures ticks { λ _. ⌜
         now (ready .exit)
         ≡ columnAfter (refusalOf
-        (runInputs (viewOf s) (now (kept .entry)) count (now (task .entry)) (now (tick .entry)) (now (cost .entry)) (now (ready .entry)) (now (finish .entry))))
-        (readyList (viewOf s) (column (now (kept .entry))) (releasesOf count (now (task .entry)) (now (tick .entry)) (now (cost .entry)))) (now (ready .entry))
+        (runInputs (framedOf s f) (now (kept .entry)) count (now (task .entry)) (now (tick .entry)) (now (cost .entry)) (now (ready .entry)) (now (finish .entry))))
+        (readyList (framedOf s f) (column (now (kept .entry))) (releasesOf count (now (task .entry)) (now (tick .entry)) (now (cost .entry)))) (now (ready .entry))
         ⌝ }
     ensures finishes { λ _. ⌜
         now (finish .exit)
         ≡ columnAfter (refusalOf
-        (runInputs (viewOf s) (now (kept .entry)) count (now (task .entry)) (now (tick .entry)) (now (cost .entry)) (now (ready .entry)) (now (finish .entry))))
-        (finishList (viewOf s) (column (now (kept .entry))) (releasesOf count (now (task .entry)) (now (tick .entry)) (now (cost .entry)))) (now (finish .entry))
+        (runInputs (framedOf s f) (now (kept .entry)) count (now (task .entry)) (now (tick .entry)) (now (cost .entry)) (now (ready .entry)) (now (finish .entry))))
+        (finishList (framedOf s f) (column (now (kept .entry))) (releasesOf count (now (task .entry)) (now (tick .entry)) (now (cost .entry)))) (now (finish .entry))
         ⌝ }
 {
-    let checked = trace::check_and_shape(s, kept, count, task, tick, cost, ready, finish.len());
+    let checked = queues::check_and_shape(s, f, kept, count, task, tick, cost, ready, finish.len());
     if let Checked::Refused { number, place } = checked {
         return JumpAnswer::Refused {
             number: number,
@@ -237,6 +282,23 @@ pub fn run(
     }
     let tasks = s.count;
     let charge = s.charge as u32;
-    let stops = fill_finish(task, cost, charge, ready, count, tasks, finish);
+    let supply = frame::supply_of(f);
+    let first = supply.first;
+    let size = supply.size;
+    let stops = fill_finish(
+        supply.framed,
+        supply.ticks,
+        supply.per,
+        supply.count,
+        &first,
+        &size,
+        task,
+        cost,
+        charge,
+        ready,
+        count,
+        tasks,
+        finish,
+    );
     JumpAnswer::Ran { stops: stops }
 }

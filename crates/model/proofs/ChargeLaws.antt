@@ -1,26 +1,24 @@
 -- A sheet with a charge is the sheet with E + S for E; one without a charge is document 01's.
-use Prim.Native.Nat.{ℕ, zero, suc, _+_}
-use mathlib.Core.Path.{_≡_, refl, sym, ap, ap₂, _∙_}
+use Prim.Native.Nat.{ℕ, _+_}
+use mathlib.Core.Path.{_≡_, refl, ap, _∙_}
 use mathlib.Core.Bool.{Bool, true, false, not}
 use mathlib.Core.Option.{Option, some, none}
-use mathlib.Core.List.{List, [], _∷_, _++_}
+use mathlib.Core.List.{[], _∷_}
 use native.Mathlib.Omega.{arith}
 use native.Mathlib.Nat.{add-zero}
-use lib.IntN.{pos}
 use lib.Dec.{ltb, eqb}
 use Rattle.model.specs.Search.{first}
 use Rattle.model.specs.Limits.{maxTasks}
 use Rattle.model.specs.Tasks.{Tasks, Valid, load}
-use Rattle.model.specs.Verdict.{verdict}
-use Rattle.model.specs.Choice.{Choice, unfit, chosen, andKeep, isFits, worstOf, leastKeep, Scope, ordinary, high-only, judges, keepFor, worstFor, choiceNext, choiceOf, scopeAfter}
 use Rattle.model.specs.Refusal.{Refusal, refuse, firstOf}
-use Rattle.model.specs.Checks.{inRange, entryFault, faultOf, faultAt, isFault, refuseAt, refuseIf, refuseBy, checkEntries, checkTasks}
+use Rattle.model.specs.Checks.{inRange, entryFault, faultOf, faultAt, isFault, refuseAt, refuseIf, refuseBy, checkEntries, checkFrame, checkTasks}
 use Rattle.model.specs.Charge.{oldCheckTasks, UnchargedIsChecked, UnchargedIsCost}
 use Rattle.model.specs.Charge.{absorbed, AbsorbedIsValid, AbsorbedIsJudged, AbsorbedIsCounted, AbsorbedIsChosen}
-use Rattle.model.proofs.SearchLaws.{first-found}
+use Rattle.model.proofs.SearchLaws.{first-eq, first-found}
+use Rattle.model.proofs.FrameLaws.{frame-itself}
 use Rattle.model.proofs.CheckLaws.{in-range-of, entry-outside, entry-fine}
-use Rattle.model.proofs.SameAnswers.{first-eq}
 use Rattle.model.proofs.SameVerdict.{Same, verdict-same, evaluations-same}
+use Rattle.model.proofs.SameChoice.{SameChosen, scope-by, choice-by}
 
 pub uncharged-work : UnchargedIsCost
 uncharged-work cost = add-zero cost
@@ -35,10 +33,20 @@ entry-uncharged P J E D = go (inRange P J E D) refl
         let h = in-range-of P J E D e in
         rw e (entry-fine 0 P J E D e (record { load-period = omega (arith, h .cost-period); load-deadline = omega (arith, h .cost-deadline) }))
 
+-- a check that passes decides nothing
+unframed : (a b c : Option Refusal) → firstOf (a ∷ b ∷ c ∷ none ∷ []) ≡ firstOf (a ∷ b ∷ c ∷ [])
+unfolding firstOf
+unframed (some r) b c = refl
+unframed none (some r) c = refl
+unframed none none (some r) = refl
+unframed none none none = refl
+
 pub uncharged-checked : UnchargedIsChecked
-unfolding checkTasks oldCheckTasks checkEntries refuseBy refuseAt faultAt isFault
-uncharged-checked s e = λ x.
-    firstOf (refuseIf (eqb (s .count) 0) 5 0 ∷ refuseIf (ltb maxTasks (s .count)) 4 maxTasks ∷ entries x ∷ [])
+unfolding checkTasks oldCheckTasks checkEntries refuseBy refuseAt faultAt isFault checkFrame
+uncharged-checked s e bare =
+    (λ x.
+    firstOf (refuseIf (eqb (s .count) 0) 5 0 ∷ refuseIf (ltb maxTasks (s .count)) 4 maxTasks ∷ entries x ∷ checkFrame (bare x) ∷ []))
+    ∙ unframed (refuseIf (eqb (s .count) 0) 5 0) (refuseIf (ltb maxTasks (s .count)) 4 maxTasks) _
   where
     outside : ℕ → Bool
     outside i = not (inRange (s .period i) (s .jitter i) (s .cost i) (s .deadline i))
@@ -83,10 +91,18 @@ absorbed-valid s v = record {
   carried = λ i l.
       let g = v .carried i l in
       record { load-period = omega (arith, g .load-period); load-deadline = omega (arith, g .load-deadline) };
+  framed = v .framed;
 }
 
 absorbed-same : (s : Tasks) (k : ℕ → ℕ) (i : ℕ) → Same (absorbed s) s k k i
-absorbed-same s k i = record { loads = λ j l. add-zero (load s j); periods = λ j l. refl; keeps = λ j l. refl; jitter = refl; deadline = refl }
+absorbed-same s k i = record {
+  loads = λ j l. add-zero (load s j);
+  periods = λ j l. refl;
+  keeps = λ j l. refl;
+  jitter = refl;
+  deadline = refl;
+  frame = frame-itself (s .frame);
+}
 
 pub absorbed-verdict : AbsorbedIsJudged
 absorbed-verdict s k i = verdict-same (absorbed s) s k k i (absorbed-same s k i)
@@ -94,35 +110,8 @@ absorbed-verdict s k i = verdict-same (absorbed s) s k k i (absorbed-same s k i)
 pub absorbed-evaluations : AbsorbedIsCounted
 absorbed-evaluations s k i = evaluations-same (absorbed s) s k k i (absorbed-same s k i)
 
-judges-same : (c : Scope) (s : Tasks) (i : ℕ) → judges c (absorbed s) i ≡ judges c s i
-unfolding judges
-judges-same ordinary s i = refl
-judges-same high-only s i = refl
-
-least-same : (s : Tasks) (above : List ℕ) (i : ℕ) → leastKeep (absorbed s) above i ≡ leastKeep s above i
-unfolding leastKeep
-least-same s above i = λ x. first (λ K. isFits (absorbed-verdict s (andKeep above K) i x)) (suc (s .jitter i)) 0
-
-keep-same : (c : Scope) (s : Tasks) (above : List ℕ) (i : ℕ) → keepFor c (absorbed s) above i ≡ keepFor c s above i
-unfolding keepFor
-keep-same c s above i = λ x. elim (judges-same c s i x) [ true ↦ least-same s above i x | false ↦ some 0 ]
-
-worst-same : (c : Scope) (s : Tasks) (above : List ℕ) (K i : ℕ) → worstFor c (absorbed s) above K i ≡ worstFor c s above K i
-unfolding worstFor
-worst-same c s above K i = λ x. elim (judges-same c s i x) [ true ↦ worstOf (absorbed-verdict s (andKeep above K) i x) | false ↦ pos 0 ]
-
-next-same : (c : Scope) (s : Tasks) (i : ℕ) (r : Choice) → choiceNext c (absorbed s) i r ≡ choiceNext c s i r
-unfolding choiceNext
-next-same c s i (unfit n) = refl
-next-same c s i (chosen ks ws) = λ x.
-    elim (keep-same c s ks i x) [ none ↦ unfit i | some K ↦ chosen (ks ++ (K ∷ [])) (ws ++ (worst-same c s ks K i x ∷ [])) ]
-
-choices-same : (c : Scope) (s : Tasks) (n : ℕ) → choiceOf c (absorbed s) n ≡ choiceOf c s n
-unfolding choiceOf
-choices-same c s zero = refl
-choices-same c s (suc n) = ap (choiceNext c (absorbed s) n) (choices-same c s n) ∙ next-same c s n (choiceOf c s n)
-
 pub absorbed-choice : AbsorbedIsChosen
-absorbed-choice s =
-    let e = choices-same ordinary s (s .count) in
-    (ap scopeAfter e, ap (λ r. choiceOf (scopeAfter r) (absorbed s) (s .count)) e ∙ choices-same (scopeAfter _) s (s .count))
+absorbed-choice s = (scope-by (absorbed s) s same, choice-by (absorbed s) s same)
+  where
+    same : SameChosen (absorbed s) s
+    same = record { count = refl; jitter = λ i. refl; low = λ i. refl; verdicts = absorbed-verdict s }

@@ -67,6 +67,7 @@ jobs-same s k l =
       start = λ p h. ap (plain 0 .start) (ready-same s k l p);
       work = λ p h. add-zero _ ∙ cost-at (s .charge) l p h;
       ours = λ t. refl;
+      turn = refl;
     }
 
 pub absorbed-run : AbsorbedIsRun

@@ -12,13 +12,15 @@ use lib.Dec.{leb, ltb}
 use lib.IntN.{ℤ}
 use Rattle.model.specs.Limits.{maxTasks, maxTime, maxReleases}
 use Rattle.model.specs.Search.{first}
+use Rattle.model.specs.Frame.{Frame, InRules}
 use Rattle.model.specs.Processor.{plain}
 use Rattle.model.specs.Tasks.{Tasks, InRange, Carried, Valid, load}
 use Rattle.model.specs.Choice.{Choice, unfit, chosen}
 use Rattle.model.specs.Refusal.{Refusal, refuse, firstOf}
-use Rattle.model.specs.Checks.{Lent, inRange, carries, entryFault, faultOf, faultAt, isFault, refuseAt, refuseIf, refuseBy, checkEntries, checkTasks, checkTask, checkCount, checkSlots, checkKept, checkChoice}
+use Rattle.model.specs.Checks.{Lent, inRange, carries, entryFault, faultOf, faultAt, isFault, refuseAt, refuseIf, refuseBy, checkEntries, checkFrame, checkTasks, checkTask, checkCount, checkSlots, checkKept, checkChoice}
 use Rattle.model.specs.Calls.{unfitOf}
 use Rattle.model.proofs.SearchLaws.{first-none, first-found, first-nothing}
+use Rattle.model.proofs.FrameCheckLaws.{ruled-of, ruled-passes}
 
 -- a test that cannot hold does not
 pub is-false : (b : Bool) → (b ≡ true → ⊥) → b ≡ false
@@ -163,7 +165,7 @@ pub refuses-many : (s : Tasks) → maxTasks < s .count → refuse 4 maxTasks ≡
 unfolding checkTasks refuseIf firstOf
 refuses-many s h = rw (checkTasks, ne-eqb (s .count) 0 (λ e. omega arith), lt-ltb maxTasks (s .count) h)
 
-entries : (s : Tasks) → 1 ≤ s .count → s .count ≤ maxTasks → checkTasks s ≡ firstOf (checkEntries s ∷ [])
+entries : (s : Tasks) → 1 ≤ s .count → s .count ≤ maxTasks → checkTasks s ≡ firstOf (checkEntries s ∷ checkFrame (s .frame) ∷ [])
 unfolding checkTasks refuseIf firstOf
 entries s l h = rw (checkTasks, ne-eqb (s .count) 0 (λ e. omega arith), le-ltb maxTasks (s .count) h)
 
@@ -174,14 +176,23 @@ pub refuses-entry
 unfolding checkEntries refuseBy firstOf
 refuses-entry s i r l h e f = sym (entries s l h ∙ rw (checkEntries, e, refuseBy, ← f))
 
--- a sheet within the limits
-pub passes : (s : Tasks) → 1 ≤ s .count → s .count ≤ maxTasks → first (wrong s) (s .count) 0 ≡ none → none ≡ checkTasks s
+-- 18: the frame decides where no task is wrong
+pub frame-decides : (s : Tasks) → 1 ≤ s .count → s .count ≤ maxTasks → first (wrong s) (s .count) 0 ≡ none → checkFrame (s .frame) ≡ checkTasks s
 unfolding checkEntries refuseBy firstOf
-passes s l h e = sym (entries s l h ∙ rw (checkEntries, e))
+frame-decides s l h e = sym (entries s l h ∙ rw (checkEntries, e) (alone (checkFrame (s .frame))))
+  where
+    alone : (o : Option Refusal) → firstOf (o ∷ []) ≡ o
+    alone none = refl
+    alone (some r) = refl
+
+-- a sheet within the limits, without a frame
+pub passes : (s : Tasks) → s .frame ≡ none → 1 ≤ s .count → s .count ≤ maxTasks → first (wrong s) (s .count) 0 ≡ none → none ≡ checkTasks s
+unfolding checkFrame
+passes s f l h e = ap checkFrame (sym f) ∙ frame-decides s l h e
 
 -- a sheet that passes its check is within the limits
 pub valid-of : (s : Tasks) → checkTasks s ≡ none → Valid s
-valid-of s h = record { some-task = low; few-tasks = high; in-range = λ i l. fine i l .0; carried = λ i l. fine i l .1 }
+valid-of s h = record { some-task = low; few-tasks = high; in-range = λ i l. fine i l .0; carried = λ i l. fine i l .1; framed = ruled }
   where
     no-refusal : {r : Refusal} → some r ≡ checkTasks s → ⊥
     no-refusal e = let e′ = e ∙ h in let z : _≡_ {A = ℕ} 0 1 = cc in omega arith
@@ -205,6 +216,9 @@ valid-of s h = record { some-task = low; few-tasks = high; in-range = λ i l. fi
         go none e = refl
         go (some i) e = absurd (there i (faultOf s i) refl e)
 
+    ruled : (f : Frame) → s .frame ≡ some f → InRules f
+    ruled = ruled-of (s .frame) (sym (frame-decides s low high nothing ∙ h))
+
     fine : (i : ℕ) → i < s .count → InRange (s .period i) (s .jitter i) (s .cost i) (s .deadline i) × Carried (s .period i) (s .deadline i) (load s i)
     fine i l =
         entry-of (s .charge) (s .period i) (s .jitter i) (s .cost i) (s .deadline i)
@@ -213,7 +227,8 @@ valid-of s h = record { some-task = low; few-tasks = high; in-range = λ i l. fi
 -- and a sheet within them passes
 pub valid-passes : (s : Tasks) → Valid s → none ≡ checkTasks s
 valid-passes s v =
-    passes s (v .some-task) (v .few-tasks)
+    ruled-passes (s .frame) (v .framed)
+    ∙ frame-decides s (v .some-task) (v .few-tasks)
     (first-none (wrong s) (s .count) 0
     (λ i l g. no-fault (faultOf s i) (entry-fine _ _ _ _ _ (in-range-yes _ _ _ _ (v .in-range i (omega arith))) (v .carried i (omega arith)))))
 

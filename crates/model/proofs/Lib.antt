@@ -1,13 +1,19 @@
 -- Laws of the definitions: searches, sums and tables, checks and their order, traces; the sums and figures of the documents proved. From the ground up.
 pub mod SearchLaws
+pub mod SeriesLaws
+pub mod SupplyLaws
+pub mod LargestLaws
+pub mod FrameLaws
+pub mod FrameCheckLaws
 pub mod CheckLaws
+pub mod FramedLaws
 pub mod OrderLaws
 pub mod TableLaws
 pub mod SlotLaws
 pub mod RefusalPlaces
-pub mod SeriesLaws
 pub mod StopLaws
 pub mod SameVerdict
+pub mod SameChoice
 pub mod TraceLaws
 pub mod OldListLaws
 pub mod ChargeLaws

@@ -11,6 +11,7 @@ use Rattle.model.specs.Run.{finishAt, finishList}
 use Rattle.model.specs.Checks.{faultOf, checkEntries, checkTasks}
 use Rattle.model.specs.Choice.{Choice, unfit, chosen, Scope, ordinary, high-only, judges, keepFor, worstFor, choiceNext, choiceOf, scopeAfter, scope}
 use Rattle.model.specs.Marks.{oldNext, oldChoiceOf, oldChoice, HighIsChosen, FittingIsChosen, remarked, MarksAreNotChecked, MarksAreNotJudged, MarksAreNotReady, MarksAreNotRun}
+use Rattle.model.proofs.FrameLaws.{frame-itself}
 use Rattle.model.proofs.SameVerdict.{judged-same}
 
 -- the ordinary choice is document 01's
@@ -62,13 +63,13 @@ fitting-chosen s ks ws h =
 
 -- checks, verdicts, ready ticks and runs
 pub marks-checked : MarksAreNotChecked
-unfolding checkTasks checkEntries faultOf
+unfolding checkTasks checkEntries
 marks-checked low s = refl
 
 pub marks-judged : MarksAreNotJudged
 marks-judged low s k i =
     judged-same (remarked low s) s k k i
-    (record { loads = λ j l. refl; periods = λ j l. refl; keeps = λ j l. refl; jitter = refl; deadline = refl })
+    (record { loads = λ j l. refl; periods = λ j l. refl; keeps = λ j l. refl; jitter = refl; deadline = refl; frame = frame-itself (s .frame) })
 
 pub marks-ready : MarksAreNotReady
 unfolding readyList readyAt

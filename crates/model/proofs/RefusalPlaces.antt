@@ -1,28 +1,30 @@
 -- Numbers and places of refusals are bounded: a number is one of document 01's, and a place is not over what goes into the call and the limits.
 use Prim.Native.Nat.{ℕ, zero, suc, _+_, _≤_, _<_}
 use mathlib.Core.Path.{_≡_, refl, sym, ap, _∙_}
-use mathlib.Core.Bool.{Bool, true, false, _||_}
+use mathlib.Core.Bool.{Bool, true, false, _&&_, _||_, not}
 use mathlib.Core.Logic.{_⊎_, inl, inr}
 use mathlib.Core.Option.{Option, some, none}
 use mathlib.Core.List.{List, [], _∷_}
 use native.Mathlib.Omega.{arith}
-use borrow.Author.Tests.{ltb-false}
+use borrow.Author.Tests.{ltb-false, leb-true, not-false}
 use lib.Dec.{leb, ltb, eqb}
 use lib.ListN.{length, getD}
-use Rattle.model.specs.Limits.{maxTasks, maxReleases, maxTick}
+use Rattle.model.specs.Limits.{maxTasks, maxReleases, maxTick, maxWindows}
+use Rattle.model.specs.Frame.{Frame}
 use Rattle.model.specs.Tasks.{Tasks, Release}
 use Rattle.model.specs.Choice.{Choice, unfit, chosen, Scope, keepFor, choiceNext, choiceOf, scope, choice}
 use Rattle.model.specs.Refusal.{Refusal, refuse, refused, answered, firstOf}
-use Rattle.model.specs.Checks.{Lent, Inputs, refuseAt, refuseIf, faultOf, faultAt, refuseBy, checkEntries, checkTasks, checkTask, checkCount, checkSlots, checkKept, releaseFault, checkReleases, checkChoice, refusalOf, answerOf}
+use Rattle.model.specs.Checks.{Lent, Inputs, refuseAt, refuseIf, faultOf, faultAt, refuseBy, checkEntries, checkWindows, checkFrame, checkTasks, checkTask, checkCount, checkSlots, checkKept, releaseFault, checkReleases, checkChoice, refusalOf, answerOf}
 use Rattle.model.specs.Calls.{releasesOf, taskInputs, choiceInputs, unfitOf, listInputs, readyInputs, runInputs}
 use Rattle.model.proofs.SearchLaws.{first-found}
+use Rattle.model.proofs.SeriesLaws.{and-right}
 use Rattle.model.proofs.TableLaws.{length-table}
 use Rattle.model.proofs.CheckLaws.{entry-number, valid-of, count-of}
 use Rattle.model.proofs.OrderLaws.{answers, refuses}
 
--- the largest number of a refusal: 15 in document 01; 16 is that of a text's line, 17 of a load over P or D
+-- the largest number of a refusal: 15 in document 01; 16 is that of a text's line, 17 of a load over P or D, 18 of a frame
 abbrev pub largestNumber : ℕ
-largestNumber = 17
+largestNumber = 18
 
 -- a refusal with one of these numbers and a place of at most B
 pub record Within (B : ℕ) (r : Refusal) : Type 0 where
@@ -83,7 +85,24 @@ unfolding refuseIf
 passes true n p e = let z : _≡_ {A = ℕ} 0 1 = cc in absurd (omega arith)
 passes false n p e = refl
 
--- the sheet: a task below the count, which is at most 32
+-- a frame: place 17 or 16, or a window below the count, which is at most 16
+frame-within : (o : Option Frame) (r : Refusal) → some r ≡ checkFrame o → Within maxTasks r
+unfolding checkFrame checkWindows
+frame-within none r e = let z : _≡_ {A = ℕ} 0 1 = cc in absurd (omega arith)
+frame-within (some f) r e =
+    by-first _ _ r (within-if maxTasks _ 18 17 r (omega arith) (omega arith) (omega arith))
+    (λ _.
+    by-first _ _ r (within-if maxTasks _ 18 16 r (omega arith) (omega arith) (omega arith))
+    (λ n.
+    by-last _ r
+    (within-at maxTasks 18 _ r (omega arith) (omega arith)
+    (λ k g. omega (arith, first-found _ (f .count) 0 k g .high, few (passes _ 18 16 n))))))
+    e
+  where
+    few : not (leb 1 (f .count) && leb (f .count) maxWindows) ≡ false → f .count ≤ maxWindows
+    few h = leb-true _ _ (and-right (leb 1 (f .count)) _ (not-false _ h))
+
+-- the sheet: a task below the count, which is at most 32, or its frame
 pub tasks-within : (s : Tasks) (r : Refusal) → some r ≡ checkTasks s → Within maxTasks r
 unfolding checkTasks checkEntries
 tasks-within s r =
@@ -91,9 +110,10 @@ tasks-within s r =
     (λ _.
     by-first _ _ r (within-if maxTasks _ 4 maxTasks r (omega arith) (omega arith) (omega arith))
     (λ n.
-    by-last _ r
+    by-first _ _ r
     (within-entry s _ r
-    (λ i f. omega (arith, first-found _ (s .count) 0 i f .high, ltb-false maxTasks (s .count) (passes _ 4 maxTasks n))))))
+    (λ i f. omega (arith, first-found _ (s .count) 0 i f .high, ltb-false maxTasks (s .count) (passes _ 4 maxTasks n))))
+    (λ _. by-last _ r (frame-within (s .frame) r))))
 
 -- every lent slice needs at most B slots
 pub data Needs (B : ℕ) : List Lent → Type 0 where

@@ -30,18 +30,13 @@ use Rattle.model.specs.Checks.{entryFault, faultOf, faultAt, isFault, re
 use Rattle.model.specs.Calls.{lends, releasesOf, columnAfter, taskInputs, arrivalCall, verdictCall, unfitOf, choiceInputs, choiceCall, keptColumn, worstColumn, listInputs, traceCall, readyInputs, runInputs, jumpCall}
 use Rattle.model.specs.SameTasks.{SameTasks, SameAnswers, SameTasksAnswerSame}
 use Rattle.model.proofs.SeriesLaws.{le-or-lt}
-use Rattle.model.proofs.SearchLaws.{first-found}
+use Rattle.model.proofs.SearchLaws.{first-eq, first-found}
+use Rattle.model.proofs.FrameLaws.{ours-same, turn-same}
+use Rattle.model.proofs.FrameCheckLaws.{frame-same}
 use Rattle.model.proofs.CheckLaws.{valid-of, task-of}
 use Rattle.model.proofs.OrderLaws.{accepted-of, column-kept, answers, refuses}
 use Rattle.model.proofs.TraceLaws.{fault-task, trace-of}
 use Rattle.model.proofs.SameVerdict.{Same, verdict-same, judged-same}
-
--- tests that agree on the numbers looked at give equal searches
-pub first-eq : (f g : ℕ → Bool) (n t : ℕ) → ((m : ℕ) → t ≤ m → m < t + n → f m ≡ g m) → first f n t ≡ first g n t
-unfolding first
-first-eq f g zero t h = refl
-first-eq f g (suc n) t h = λ x.
-    elim (h t (omega arith) (omega arith) x) [ true ↦ some t | false ↦ first-eq f g n (suc t) (λ m l b. h m (omega arith) (omega arith)) x ]
 
 -- equal refusals and equal values where nothing is refused give equal answers ..
 pub answer-same : {A : Type 0} (c c′ : Inputs) (a a′ : A) → refusalOf c ≡ refusalOf c′ → (none ≡ refusalOf c → a ≡ a′) → answerOf c a ≡ answerOf c′ a′
@@ -80,6 +75,7 @@ module _ (s s′ : Tasks) (same : SameTasks s s′) where
       (refuseIf (eqb (same .count x) 0) 5 0
       ∷ refuseIf (ltb maxTasks (same .count x)) 4 maxTasks
       ∷ entries x
+      ∷ frame-same (s .frame) (s′ .frame) (same .frame) x
       ∷ [])
     where
       each : (i : ℕ) → i < s .count → faultOf s i ≡ faultOf s′ i
@@ -153,6 +149,7 @@ module _ (s s′ : Tasks) (same : SameTasks s s′) where
     keeps = λ j l. refl;
     jitter = same .jitter i h;
     deadline = same .deadline i h;
+    frame = same .frame;
   }
 
   -- its verdict
@@ -219,19 +216,17 @@ module _ (s s′ : Tasks) (same : SameTasks s s′) where
     finish-list-same : (k : ℕ → ℕ) → finishList s k l ≡ finishList s′ k l
     unfolding finishList finishAt
     finish-list-same k =
-        ap₂
-        (λ (f : ℕ → ℕ) (S : ℕ). table
+        λ x. table
         (finishOf
         (record {
           count = length l;
           task = λ p. releaseAt l p .task;
-          start = λ p. plain S .start (f p);
-          work = λ p. plain S .work (releaseAt l p .cost);
-          ours = plain S .ours;
+          start = λ p. plain 0 .start (ready-same k x p);
+          work = λ p. plain (same .charge x) .work (releaseAt l p .cost);
+          ours = ours-same (s .frame) (s′ .frame) (same .frame) x;
+          turn = turn-same (s .frame) (s′ .frame) (same .frame) x;
         }))
-        (length l))
-        (ready-same k)
-        (same .charge)
+        (length l)
 
     stop-count-same : (k : ℕ → ℕ) → stopCount s k l ≡ stopCount s′ k l
     unfolding stopCount stopTicks

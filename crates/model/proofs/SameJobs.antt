@@ -1,5 +1,5 @@
 -- Jobs that agree at each place of the list have the same run: nothing past the list matters.
-use Prim.Native.Nat.{ℕ, zero, suc, _+_, _<_, max, pred}
+use Prim.Native.Nat.{ℕ, zero, suc, _+_, _*_, _<_, max, pred}
 use mathlib.Core.Path.{_≡_, refl, ap, _∙_}
 use mathlib.Core.Bool.{Bool, true, false, cond, _&&_}
 use mathlib.Core.Option.{Option, some, none}
@@ -68,6 +68,7 @@ pub record SameJobs (j k : Jobs) : Type 0 where
   pub start : (p : ℕ) → p < j .count → j .start p ≡ k .start p
   pub work : (p : ℕ) → p < j .count → j .work p ≡ k .work p
   pub ours : (t : ℕ) → j .ours t ≡ k .ours t
+  pub turn : j .turn ≡ k .turn
 
 module _ (j k : Jobs) (same : SameJobs j k) where
   -- where the same work is left the same job is picked
@@ -97,8 +98,8 @@ module _ (j k : Jobs) (same : SameJobs j k) where
   end-same : endOf j ≡ endOf k
   unfolding endOf
   end-same =
-      (λ x. most-eq _ _ (j .count) (same .start) x + sum-eq _ _ (j .count) (same .work) x)
-      ∙ ap (λ n. most (k .start) n + sum (k .work) n) (same .count)
+      (λ x. most-eq _ _ (j .count) (same .start) x + sum-eq _ _ (j .count) (same .work) x * same .turn x)
+      ∙ ap (λ n. most (k .start) n + sum (k .work) n * k .turn) (same .count)
 
   -- each job finishes at the same tick
   pub finish-same : (p : ℕ) → finishOf j p ≡ finishOf k p

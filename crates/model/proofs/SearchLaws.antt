@@ -26,6 +26,13 @@ module _ (test : ℕ → Bool) where
   first-none zero t h = refl
   first-none (suc n) t h = rw (first, h t (omega arith) (omega arith)) (first-none n (suc t) (λ m l g. h m (omega arith) (omega arith)))
 
+-- tests that agree on the numbers looked at give equal searches
+pub first-eq : (f g : ℕ → Bool) (n t : ℕ) → ((m : ℕ) → t ≤ m → m < t + n → f m ≡ g m) → first f n t ≡ first g n t
+unfolding first
+first-eq f g zero t h = refl
+first-eq f g (suc n) t h = λ x.
+    elim (h t (omega arith) (omega arith) x) [ true ↦ some t | false ↦ first-eq f g n (suc t) (λ m l b. h m (omega arith) (omega arith)) x ]
+
 -- what a search that ends at m says of the n numbers from t on
 pub record Found (test : ℕ → Bool) (n t m : ℕ) : Type 0 where
   pub holds : test m ≡ true

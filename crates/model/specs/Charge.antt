@@ -3,7 +3,7 @@
 use Prim.Native.Nat.{ℕ}
 use mathlib.Core.Path.{_≡_}
 use mathlib.Core.Bool.{not}
-use mathlib.Core.Option.{Option}
+use mathlib.Core.Option.{Option, none}
 use mathlib.Core.List.{List, [], _∷_, map}
 use lib.Dec.{ltb, eqb}
 use Rattle.model.specs.Search.{first}
@@ -27,9 +27,9 @@ oldCheckTasks s =
     ∷ refuseAt 6 (first (λ i. not (inRange (s .period i) (s .jitter i) (s .cost i) (s .deadline i))) (s .count) 0)
     ∷ [])
 
--- `uncharged-checked`: a sheet without a charge gets document 01's refusals
+-- `uncharged-checked`: a sheet without a charge and without a frame gets document 01's refusals
 abbrev pub UnchargedIsChecked : Type 0
-UnchargedIsChecked = (s : Tasks) → s .charge ≡ 0 → checkTasks s ≡ oldCheckTasks s
+UnchargedIsChecked = (s : Tasks) → s .charge ≡ 0 → s .frame ≡ none → checkTasks s ≡ oldCheckTasks s
 
 -- `uncharged-work`: without a charge a job takes its cost; so the load of a task is its E
 abbrev pub UnchargedIsCost : Type 0
@@ -37,7 +37,7 @@ UnchargedIsCost = (cost : ℕ) → plain 0 .work cost ≡ cost
 
 -- the sheet with E + S for each E, and no charge
 abbrev pub absorbed : Tasks → Tasks
-absorbed s = record { count = s .count; period = s .period; jitter = s .jitter; cost = load s; deadline = s .deadline; low = s .low; charge = 0 }
+absorbed s = record { count = s .count; period = s .period; jitter = s .jitter; cost = load s; deadline = s .deadline; low = s .low; charge = 0; frame = s .frame }
 
 -- `absorbed-valid`, `absorbed-verdict`, `absorbed-evaluations`, `absorbed-choice`: it is valid where the sheet is, and has the sheet's verdicts with their evaluations,
 -- and its choice, ordinary or not

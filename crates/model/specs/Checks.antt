@@ -1,11 +1,12 @@
 -- The checks of a call on values, and their order.
-use Prim.Native.Nat.{ℕ, suc}
-use mathlib.Core.Bool.{Bool, true, false, _&&_, _||_}
+use Prim.Native.Nat.{ℕ, zero, suc, _+_}
+use mathlib.Core.Bool.{Bool, true, false, _&&_, _||_, not}
 use mathlib.Core.Option.{Option, some, none}
 use mathlib.Core.List.{List, [], _∷_}
 use lib.Dec.{leb, ltb, eqb}
 use Rattle.model.specs.Search.{first}
-use Rattle.model.specs.Limits.{maxTasks, maxTime, maxReleases, maxTick}
+use Rattle.model.specs.Limits.{maxTasks, maxTime, maxReleases, maxTick, maxFrame, maxWindows}
+use Rattle.model.specs.Frame.{Frame}
 use Rattle.model.specs.Processor.{plain}
 use Rattle.model.specs.Tasks.{Tasks, Release}
 use Rattle.model.specs.Refusal.{Refusal, refuse, Answer, refused, answered, firstOf}
@@ -55,9 +56,37 @@ refuseBy f (some p) = faultAt p (f p)
 unfoldable pub checkEntries : Tasks → Option Refusal
 checkEntries s = refuseBy (faultOf s) (first (λ i. isFault (faultOf s i)) (s .count) 0)
 
--- the sheet: 5, 4, then 6 and 17 by task
+-- the least first tick of window k: "over the first + length before it"
+unfoldable pub floorOf : Frame → ℕ → ℕ
+floorOf f zero = 0
+floorOf f (suc k) = f .first k + f .size k + 1
+
+-- a window with this first tick and length is within the rules, given the least first tick and the frame's ticks
+unfoldable pub allowed : ℕ → ℕ → ℕ → ℕ → Bool
+allowed low first size ticks = leb low first && leb 1 size && leb (first + size) ticks
+
+-- window k is outside them
+unfoldable pub isOutside : Frame → ℕ → Bool
+isOutside f k = not (allowed (floorOf f k) (f .first k) (f .size k) (f .ticks))
+
+-- 18 (document 02, R-10): "the frame (place 17), the count (place 16), then the windows in order (the window's place)"; windows past the count are not looked at
+unfoldable pub checkWindows : Frame → Option Refusal
+checkWindows f =
+    firstOf
+    (refuseIf (not (leb 1 (f .ticks) && leb (f .ticks) maxFrame)) 18 17
+    ∷ refuseIf (not (leb 1 (f .count) && leb (f .count) maxWindows)) 18 16
+    ∷ refuseAt 18 (first (isOutside f) (f .count) 0)
+    ∷ [])
+
+-- no frame is never refused
+unfoldable pub checkFrame : Option Frame → Option Refusal
+checkFrame none = none
+checkFrame (some f) = checkWindows f
+
+-- the sheet: 5, 4, then 6 and 17 by task, then 18
 unfoldable pub checkTasks : Tasks → Option Refusal
-checkTasks s = firstOf (refuseIf (eqb (s .count) 0) 5 0 ∷ refuseIf (ltb maxTasks (s .count)) 4 maxTasks ∷ checkEntries s ∷ [])
+checkTasks s =
+    firstOf (refuseIf (eqb (s .count) 0) 5 0 ∷ refuseIf (ltb maxTasks (s .count)) 4 maxTasks ∷ checkEntries s ∷ checkFrame (s .frame) ∷ [])
 
 -- 14: no such task
 unfoldable pub checkTask : Tasks → Option ℕ → Option Refusal
@@ -116,7 +145,7 @@ pub record Inputs : Type 0 where
   pub releases : List Release
   pub unfit : Option ℕ
 
--- the order of checks: the sheet (5, 4, then 6 and 17 by task), 14, the list's count (10), 13, 12, the releases in order (7, 8, 9), then 15
+-- the order of checks: the sheet (5, 4, then 6 and 17 by task, then 18), 14, the list's count (10), 13, 12, the releases in order (7, 8, 9), then 15
 unfoldable pub refusalOf : Inputs → Option Refusal
 refusalOf c =
     firstOf

@@ -1,7 +1,7 @@
 -- Share, limit, lateness, and demand 3 as one claim about a task set, kept jitters and a task.
 use Prim.Native.Nat.{ℕ, suc, _+_, _-_, _*_, _≤_, _<_}
 use mathlib.Core.Path.{_≡_}
-use mathlib.Core.Bool.{Bool, true, false, not}
+use mathlib.Core.Bool.{Bool, true, false, not, _&&_}
 use mathlib.Core.Option.{Option, some, none}
 use mathlib.Core.List.{List}
 use lib.ListN.{length}
@@ -9,7 +9,7 @@ use lib.IntN.{ℤ}
 use lib.Dec.{ltb, eqb}
 use Rattle.model.specs.Series.{on, sum, most}
 use Rattle.model.specs.Limits.{maxShortTick}
-use Rattle.model.specs.Tasks.{Tasks, Release, releaseAt, load}
+use Rattle.model.specs.Tasks.{Tasks, Release, releaseAt, load, boardOf, ourTicks}
 use Rattle.model.specs.Arrival.{arrivals}
 use Rattle.model.specs.Gap.{Legal}
 use Rattle.model.specs.Run.{Jobs, jobs, runs, finishAt, responseAt}
@@ -48,18 +48,19 @@ Finished s k l us u = (p : ℕ) → p < length l → us (releaseAt l p .task) �
 unfoldable pub used : Tasks → (ℕ → ℕ) → List Release → (ℕ → Bool) → ℕ → ℕ → ℕ
 used s k l us u t = sum (λ n. on (ofTasks us (jobs s k l) (runs (jobs s k l) (u + n))) 1) t
 
--- of the t ticks from u on, those that such tasks leave over: no job of theirs runs in them
+-- of the t ticks from u on, those that such tasks leave over: they are ours, and no job of theirs runs in them ("only ours count as left over", document 02, R-10)
 unfoldable pub leftOver : Tasks → (ℕ → ℕ) → List Release → (ℕ → Bool) → ℕ → ℕ → ℕ
-leftOver s k l us u t = sum (λ n. on (not (ofTasks us (jobs s k l) (runs (jobs s k l) (u + n)))) 1) t
+leftOver s k l us u t = sum (λ n. on (boardOf s .ours (u + n) && not (ofTasks us (jobs s k l) (runs (jobs s k l) (u + n)))) 1) t
 
 -- "limit": from a tick at which its own jobs that may run before it are finished, a task runs at most (E + S) × σ(t) of the next t ticks
 abbrev pub Limit : Tasks → (ℕ → ℕ) → ℕ → List Release → Type 0
 Limit s k i l = (u t : ℕ) → Finished s k l (isTask i) u → used s k l (isTask i) u t ≤ load s i * arrivals (s .period i) (k i) t
 
 -- "share": from a tick at which every job of the tasks above that may run before it is finished, the next t ticks leave over
--- at least the largest of n − (sum of (E_j + S) × σ_j(n)), n from 0 to t
+-- at least the largest of (our ticks among the first n) − (sum of (E_j + S) × σ_j(n)), n from 0 to t; without a frame our ticks among n are n
 abbrev pub Share : Tasks → (ℕ → ℕ) → ℕ → List Release → Type 0
-Share s k i l = (u t : ℕ) → Finished s k l (isAbove i) u → most (λ n. n - aboveLoad s k i n) (suc t) ≤ leftOver s k l (isAbove i) u t
+Share s k i l =
+    (u t : ℕ) → Finished s k l (isAbove i) u → most (λ n. ourTicks s u n - aboveLoad s k i n) (suc t) ≤ leftOver s k l (isAbove i) u t
 
 -- "late": response > D
 abbrev pub Late : Tasks → (ℕ → ℕ) → List Release → ℕ → Type 0

@@ -30,9 +30,13 @@ tried s k i q = table (triedAt s k i q) (elim (first (endsAt s k i q) (suc horiz
 unfoldable pub taken : Tasks → (ℕ → ℕ) → ℕ → ℕ
 taken s k i = elim (first (stops s k i) (suc horizonTick) 0) [ none ↦ suc horizonTick | some q ↦ suc q ]
 
+-- how many count for one q: the length of its list, and none with a frame ("with one, its number is 0": document 02, R-10)
+unfoldable pub countedAt : Tasks → (ℕ → ℕ) → ℕ → ℕ → ℕ
+countedAt s k i q = elim (s .frame) [ none ↦ length (tried s k i q) | some f ↦ 0 ]
+
 -- "the number of evaluations": the lengths of the lists, "added up over the q that the verdict took"
 unfoldable pub evaluations : Tasks → (ℕ → ℕ) → ℕ → ℕ
-evaluations s k i = sum (λ q. length (tried s k i q)) (taken s k i)
+evaluations s k i = sum (countedAt s k i) (taken s k i)
 
 -- what the call "verdict" answers: the verdict, and the number of its evaluations
 pub record Judged : Type 0 where

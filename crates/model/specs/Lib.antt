@@ -3,6 +3,7 @@ pub mod Search
 pub mod Series
 pub mod Slots
 pub mod Limits
+pub mod Frame
 pub mod Processor
 pub mod Tasks
 pub mod Arrival

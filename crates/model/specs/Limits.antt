@@ -25,6 +25,13 @@ maxShortTick = 1000000000
 abbrev pub maxCharge : ℕ
 maxCharge = 255
 
+-- ticks of a frame, and its windows (document 02, R-10)
+abbrev pub maxFrame : ℕ
+maxFrame = 10000
+
+abbrev pub maxWindows : ℕ
+maxWindows = 16
+
 -- "horizon H"
 abbrev pub horizonTick : ℕ
 horizonTick = 10000000

@@ -49,6 +49,7 @@ remarked low s = record {
   deadline = s .deadline;
   low = low;
   charge = s .charge;
+  frame = s .frame;
 }
 
 -- `marks-checked`, `marks-judged`, `marks-ready`, `marks-run`: it has the same refusals, verdicts with their evaluations, ready ticks and runs

@@ -1,22 +1,24 @@
 -- The run: tick by tick, job by job. A job is its place in the list of releases.
-use Prim.Native.Nat.{ℕ, zero, suc, _+_, _-_, pred}
+use Prim.Native.Nat.{ℕ, zero, suc, _+_, _-_, _*_, pred}
 use mathlib.Core.Bool.{Bool, true, false, cond, _&&_}
 use mathlib.Core.Option.{Option, some, none}
 use mathlib.Core.List.{List}
 use lib.ListN.{length}
 use lib.Dec.{leb, ltb, eqb}
 use Rattle.model.specs.Series.{on, sum, most, table}
-use Rattle.model.specs.Processor.{Processor, plain}
-use Rattle.model.specs.Tasks.{Tasks, Release, releaseAt}
+use Rattle.model.specs.Processor.{Processor}
+use Rattle.model.specs.Tasks.{Tasks, Release, releaseAt, boardOf}
 use Rattle.model.specs.Ready.{readyAt}
 
--- jobs by place in the list: their task, the first tick in which each may run, the ticks of work each needs; and the ticks in which the processor is ours
+-- jobs by place in the list: their task, the first tick in which each may run, the ticks of work each needs; the ticks in which the processor is ours, and a
+-- number of ticks among which, from any tick on, one at least is ours
 pub record Jobs : Type 0 where
   pub count : ℕ
   pub task : ℕ → ℕ
   pub start : ℕ → ℕ
   pub work : ℕ → ℕ
   pub ours : ℕ → Bool
+  pub turn : ℕ
 
 -- a job may run in tick t and is unfinished; left is the work that each job has left
 unfoldable pub pending : Jobs → (ℕ → ℕ) → ℕ → ℕ → Bool
@@ -59,9 +61,9 @@ isJob (some q) p = eqb p q
 unfoldable pub runsIn : Jobs → ℕ → ℕ → Bool
 runsIn j p t = isJob (runs j t) p
 
--- a tick by which every job is finished, where every tick is ours
+-- a tick by which every job is finished: from the last start on, each tick of work takes a turn at most
 unfoldable pub endOf : Jobs → ℕ
-endOf j = most (j .start) (j .count) + sum (j .work) (j .count)
+endOf j = most (j .start) (j .count) + sum (j .work) (j .count) * j .turn
 
 -- "finish": the last tick it ran, plus 1
 unfoldable pub finishOf : Jobs → ℕ → ℕ
@@ -75,11 +77,12 @@ jobsOn m s k l = record {
   start = λ p. m .start (readyAt s k l p);
   work = λ p. m .work (releaseAt l p .cost);
   ours = m .ours;
+  turn = m .turn;
 }
 
 -- the jobs of a list of releases
 abbrev pub jobs : Tasks → (ℕ → ℕ) → List Release → Jobs
-jobs s k l = jobsOn (plain (s .charge)) s k l
+jobs s k l = jobsOn (boardOf s) s k l
 
 -- the finish of the release at p in "the run" of a list
 unfoldable pub finishAt : Tasks → (ℕ → ℕ) → List Release → ℕ → ℕ

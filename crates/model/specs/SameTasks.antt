@@ -1,9 +1,11 @@
--- "Entries of a sheet past its count are not looked at .. and do not matter": sheets that agree on the tasks below the count,
--- and the same answer of every call on values.
+-- "Entries of a sheet past its count are not looked at .. and do not matter", nor do "windows past the count" of its frame: sheets that agree on the tasks and on
+-- the windows below the counts, and the same answer of every call on values.
 -- proofs/SameAnswers.antt proves that the first gives the second (`same-answers`).
 use Prim.Native.Nat.{ℕ, _<_}
 use mathlib.Core.Path.{_≡_}
+use mathlib.Core.Option.{Option, some, none}
 use mathlib.Core.List.{List}
+use Rattle.model.specs.Frame.{Frame}
 use Rattle.model.specs.Tasks.{Tasks}
 use Rattle.model.specs.Ready.{readyList}
 use Rattle.model.specs.Run.{finishList}
@@ -11,7 +13,21 @@ use Rattle.model.specs.Choice.{column, choice}
 use Rattle.model.specs.Checks.{refusalOf}
 use Rattle.model.specs.Calls.{releasesOf, columnAfter, arrivalCall, verdictCall, choiceInputs, choiceCall, keptColumn, worstColumn, traceCall, readyInputs, runInputs, jumpCall}
 
--- the same count and charge, and the same P, J, E, D and mark of every task below the count
+-- the same ticks and count, and the same first tick and length of every window below the count
+pub record SameWindows (f g : Frame) : Type 0 where
+  pub ticks : f .ticks ≡ g .ticks
+  pub count : f .count ≡ g .count
+  pub first : (k : ℕ) → k < f .count → f .first k ≡ g .first k
+  pub size : (k : ℕ) → k < f .count → f .size k ≡ g .size k
+
+-- no frame, or such frames
+abbrev pub SameFrame : Option Frame → Option Frame → Type 0
+SameFrame none none = Unit
+SameFrame none (some g) = ⊥
+SameFrame (some f) none = ⊥
+SameFrame (some f) (some g) = SameWindows f g
+
+-- the same count and charge, the same P, J, E, D and mark of every task below the count, and the same frame
 pub record SameTasks (s s′ : Tasks) : Type 0 where
   pub count : s .count ≡ s′ .count
   pub period : (i : ℕ) → i < s .count → s .period i ≡ s′ .period i
@@ -20,6 +36,7 @@ pub record SameTasks (s s′ : Tasks) : Type 0 where
   pub deadline : (i : ℕ) → i < s .count → s .deadline i ≡ s′ .deadline i
   pub low : (i : ℕ) → i < s .count → s .low i ≡ s′ .low i
   pub charge : s .charge ≡ s′ .charge
+  pub frame : SameFrame (s .frame) (s′ .frame)
 
 -- of each call on values, whatever else goes in: the same refusal, the same value, and the same in every lent column afterwards
 pub record SameAnswers (s s′ : Tasks) : Type 0 where

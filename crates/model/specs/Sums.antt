@@ -7,7 +7,8 @@ use mathlib.Core.Option.{Option, some, none}
 use mathlib.Core.List.{List, [], _∷_, map}
 use lib.ListN.{length, getD}
 use lib.IntN.{pos}
-use Rattle.model.specs.Tasks.{Tasks, Release}
+use Rattle.model.specs.Frame.{Frame}
+use Rattle.model.specs.Tasks.{Tasks, Release, withFrame}
 use Rattle.model.specs.Arrival.{arrivals}
 use Rattle.model.specs.Gap.{gap}
 use Rattle.model.specs.Ready.{readyTicks, readyList}
@@ -43,6 +44,7 @@ marked S lows l = record {
   deadline = λ i. entry l i .D;
   low = λ i. getD lows i false;
   charge = S;
+  frame = none;
 }
 
 -- with a charge and no low task, and without a charge
@@ -51,6 +53,24 @@ charged S = marked S []
 
 abbrev pub sheet : List Entry → Tasks
 sheet = charged 0
+
+-- first tick and length of a window, and a frame of some ticks with some windows, its count being theirs
+pub record Stretch : Type 0 where
+  pub first : ℕ
+  pub size : ℕ
+
+abbrev pub stretch : ℕ → ℕ → Stretch
+stretch a n = record { first = a; size = n }
+
+abbrev pub frameWith : ℕ → ℕ → List Stretch → Frame
+frameWith n c l = record { ticks = n; count = c; first = λ k. getD l k (stretch 0 0) .first; size = λ k. getD l k (stretch 0 0) .size }
+
+abbrev pub frame : ℕ → List Stretch → Frame
+frame n l = frameWith n (length l) l
+
+-- a sheet with a frame
+abbrev pub framed : Frame → List Entry → Tasks
+framed f l = withFrame (some f) (sheet l)
 
 -- one line of a sum
 pub data Row : Type 0 where
@@ -86,6 +106,16 @@ pub data Row : Type 0 where
   counted : ℕ → List Entry → List ℕ → ℕ → ℕ → Row
   -- marks and sheet: which of the two choices, and the choice
   choseBy : List Bool → List Entry → Scope → Choice → Row
+  -- frame, sheet, kept jitters and task: W at some q
+  windowsIn : Frame → List Entry → List ℕ → ℕ → List ℕ → List ℕ → Row
+  -- frame, sheet, kept jitters and task: the verdict, and the number of its evaluations
+  judgedIn : Frame → List Entry → List ℕ → ℕ → Verdict → ℕ → Row
+  -- frame and sheet: the choice
+  choseIn : Frame → List Entry → Choice → Row
+  -- frame, sheet, kept jitters and releases: finish ticks of the run
+  ranIn : Frame → List Entry → List ℕ → List Release → List ℕ → Row
+  -- charge, frame and sheet: the refusal of its check, if any
+  checkedIn : ℕ → Frame → List Entry → Option Refusal → Row
 
 abbrev pub Holds : Row → Type 0
 Holds (counts P K ts ns) = map (arrivals P K) ts ≡ ns
@@ -103,6 +133,11 @@ Holds (ranAt S l ks rs fs) = finishList (charged S l) (column ks) rs ≡ fs
 Holds (checked S l o) = checkTasks (charged S l) ≡ o
 Holds (tries S l ks i q ts) = tried (charged S l) (column ks) i q ≡ ts
 Holds (counted S l ks i n) = evaluations (charged S l) (column ks) i ≡ n
+Holds (windowsIn f l ks i qs ns) = map (window (framed f l) (column ks) i) qs ≡ map some ns
+Holds (judgedIn f l ks i v n) = (verdict (framed f l) (column ks) i ≡ v) × (evaluations (framed f l) (column ks) i ≡ n)
+Holds (choseIn f l c) = choice (framed f l) ≡ c
+Holds (ranIn f l ks rs fs) = finishList (framed f l) (column ks) rs ≡ fs
+Holds (checkedIn S f l o) = checkTasks (withFrame (some f) (charged S l)) ≡ o
 Holds (choseBy lows l c r) = (scope (marked 0 lows l) ≡ c) × (choice (marked 0 lows l) ≡ r)
 
 abbrev pub AllRows : List Row → Type 0
@@ -200,11 +235,50 @@ markedChoices =
     ∷ choseBy (true ∷ true ∷ []) (task 10 0 2 6 ∷ task 10 0 2 4 ∷ []) high-only (chosen (0 ∷ 0 ∷ []) (pos 0 ∷ pos 0 ∷ []))
     ∷ []
 
+-- a frame of 10 ticks of which 2, 3, 4, 7 and 8 are ours
+abbrev pub ten : Frame
+ten = frame 10 (stretch 2 3 ∷ stretch 7 2 ∷ [])
+
+-- a task of load 2 alone: W is largest at the starts after the windows, 5 ticks from tick 9 on (9, 0, 1, 2, 3), then 9 ticks from tick 5 on, then 14 from tick 9 on;
+-- R is W and the pickup, so it fits with D 6 and not with D 5; a task below another; one that takes more than is ours of each frame of 4; an all-window frame
+abbrev pub frameVerdicts : List Row
+frameVerdicts =
+    windowsIn ten (task 10 0 2 10 ∷ []) (0 ∷ []) 0 (0 ∷ 1 ∷ 2 ∷ []) (5 ∷ 9 ∷ 14 ∷ [])
+    ∷ judgedIn ten (task 10 0 2 6 ∷ []) (0 ∷ []) 0 (fits (pos 6) 0) 0
+    ∷ judgedIn ten (task 10 0 2 5 ∷ []) (0 ∷ []) 0 (late 0 (pos 6)) 0
+    ∷ judgedIn ten (task 20 5 2 12 ∷ task 40 0 3 30 ∷ []) (5 ∷ 0 ∷ []) 1 (fits (pos 11) 0) 0
+    ∷ judgedIn (frame 4 (stretch 1 2 ∷ [])) (task 4 0 3 4 ∷ []) (0 ∷ []) 0 (late 0 (pos 8)) 0
+    ∷ judgedIn (frame 4 (stretch 0 4 ∷ [])) (task 20 5 2 12 ∷ task 40 0 3 30 ∷ []) (5 ∷ 0 ∷ []) 1 (fits (pos 6) 0) 0
+    ∷ []
+
+abbrev pub frameChoice : List Row
+frameChoice = choseIn ten (task 20 5 2 9 ∷ []) (chosen (2 ∷ []) (pos 9 ∷ [])) ∷ []
+
+-- the higher job runs in ticks 2 and 3, the other in 4, 7 and 8; the third is ready at 15 and runs in 17 and 18
+abbrev pub frameRun : List Row
+frameRun = ranIn ten (task 20 5 2 12 ∷ task 40 0 3 30 ∷ []) (5 ∷ 0 ∷ []) (release 0 0 2 ∷ release 1 0 3 ∷ release 0 15 2 ∷ []) (4 ∷ 9 ∷ 19 ∷ []) ∷ []
+
+-- 18: the ticks of the frame before its count, the count before the windows; a window up to the last tick, and one past it; windows that touch; a window of no tick;
+-- windows past the count do not matter; 17 before 18
+abbrev pub frameChecks : List Row
+frameChecks =
+    checkedIn 0 (frameWith 0 0 []) (busy ∷ []) (refuse 18 17)
+    ∷ checkedIn 0 (frame 10001 (stretch 0 1 ∷ [])) (busy ∷ []) (refuse 18 17)
+    ∷ checkedIn 0 (frame 10000 []) (busy ∷ []) (refuse 18 16)
+    ∷ checkedIn 0 (frameWith 10000 17 []) (busy ∷ []) (refuse 18 16)
+    ∷ checkedIn 0 (frame 10 (stretch 2 3 ∷ stretch 6 4 ∷ [])) (busy ∷ []) none
+    ∷ checkedIn 0 (frame 10 (stretch 2 3 ∷ stretch 6 5 ∷ [])) (busy ∷ []) (refuse 18 1)
+    ∷ checkedIn 0 (frame 10 (stretch 2 3 ∷ stretch 5 5 ∷ [])) (busy ∷ []) (refuse 18 1)
+    ∷ checkedIn 0 (frame 10 (stretch 2 0 ∷ [])) (busy ∷ []) (refuse 18 0)
+    ∷ checkedIn 0 (frameWith 10 1 (stretch 2 3 ∷ stretch 0 0 ∷ [])) (busy ∷ []) none
+    ∷ checkedIn 1 (frameWith 0 0 []) (busy ∷ []) (refuse 17 0)
+    ∷ []
+
 -- the sums, in document 01's order, 7 to 12 with the pickup of document 02's R-2; then R-2's own figures: the choice on the printed sheet, which ends in 15 at task 2,
 -- of its tasks 0 and 1 alone and with D 11, the run with D 11, and the stop of the walk, which has no pickup: W(0) = d_K(1), W(0) = d_K(1) + 1;
 -- then stops of R-5: no release, one, two with the same ready tick, a finish that is another's ready tick plus 1, a job that another interrupts, and the printed list;
 -- and a run in which the job of the higher task, though later in the list, goes before one with the same ready tick;
--- then the charges of R-4; then the lists and numbers of R-8; then the marks of R-9
+-- then the charges of R-4; then the lists and numbers of R-8; then the marks of R-9; then the frames of R-10
 abbrev pub pad : List (List Row)
 pad =
     (counts 6 5 (0 ∷ 1 ∷ 2 ∷ 7 ∷ 8 ∷ []) (0 ∷ 1 ∷ 2 ∷ 2 ∷ 3 ∷ []) ∷ [])
@@ -246,4 +320,8 @@ pad =
     ∷ triedLists
     ∷ evaluationCounts
     ∷ markedChoices
+    ∷ frameVerdicts
+    ∷ frameChoice
+    ∷ frameRun
+    ∷ frameChecks
     ∷ []

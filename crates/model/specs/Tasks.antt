@@ -1,12 +1,16 @@
 -- The task set (document 01's "sheet") as functions of the task number, and a release.
 use Prim.Native.Nat.{ℕ, _≤_, _<_}
+use mathlib.Core.Path.{_≡_}
 use mathlib.Core.Bool.{Bool}
+use mathlib.Core.Option.{Option, some}
 use mathlib.Core.List.{List}
 use lib.ListN.{getD}
 use Rattle.model.specs.Limits.{maxTasks, maxTime}
-use Rattle.model.specs.Processor.{plain}
+use Rattle.model.specs.Frame.{Frame, InRules, supply}
+use Rattle.model.specs.Processor.{Processor, board, plain}
 
--- "sheet": a count, P, J, E and D of each task, its mark, high or low (document 02, R-9), and the charge S; task 0 has the highest priority
+-- "sheet": a count, P, J, E and D of each task, its mark, high or low (document 02, R-9), the charge S (R-4), and the frame, if any (R-10); task 0 has the
+-- highest priority
 pub record Tasks : Type 0 where
   pub count : ℕ
   pub period : ℕ → ℕ
@@ -15,6 +19,28 @@ pub record Tasks : Type 0 where
   pub deadline : ℕ → ℕ
   pub low : ℕ → Bool
   pub charge : ℕ
+  pub frame : Option Frame
+
+-- a sheet with this frame, or without one, in place of its own
+abbrev pub withFrame : Option Frame → Tasks → Tasks
+withFrame o s = record {
+  count = s .count;
+  period = s .period;
+  jitter = s .jitter;
+  cost = s .cost;
+  deadline = s .deadline;
+  low = s .low;
+  charge = s .charge;
+  frame = o;
+}
+
+-- the processor of a sheet
+abbrev pub boardOf : Tasks → Processor
+boardOf s = board (s .charge) (s .frame)
+
+-- "our ticks among t ticks from" u
+abbrev pub ourTicks : Tasks → ℕ → ℕ → ℕ
+ourTicks s = supply (boardOf s .ours)
 
 -- the ticks that a job of full cost takes: E + S
 abbrev pub load : Tasks → ℕ → ℕ
@@ -41,6 +67,7 @@ pub record Valid (s : Tasks) : Type 0 where
   pub few-tasks : s .count ≤ maxTasks
   pub in-range : (i : ℕ) → i < s .count → InRange (s .period i) (s .jitter i) (s .cost i) (s .deadline i)
   pub carried : (i : ℕ) → i < s .count → Carried (s .period i) (s .deadline i) (load s i)
+  pub framed : (f : Frame) → s .frame ≡ some f → InRules f
 
 -- a release: its task, tick and cost
 pub record Release : Type 0 where

@@ -8,9 +8,10 @@ use native.Mathlib.Omega.{arith}
 use borrow.Author.Tests.{ltb-true, ltb-false}
 use lib.Dec.{leb, ltb, eqb}
 use Rattle.model.specs.Limits.{maxTick}
+use Rattle.model.specs.Frame.{Frame}
 use Rattle.model.specs.Tasks.{Tasks, Release}
 use Rattle.model.specs.Refusal.{Refusal, Answer, refused, answered, firstOf}
-use Rattle.model.specs.Checks.{Lent, Inputs, checkEntries, checkTasks, checkTask, checkCount, checkSlots, checkKept, releaseFault, checkReleases, checkChoice, refusalOf, answerOf}
+use Rattle.model.specs.Checks.{Lent, Inputs, checkEntries, checkWindows, checkFrame, checkTasks, checkTask, checkCount, checkSlots, checkKept, releaseFault, checkReleases, checkChoice, refusalOf, answerOf}
 use Rattle.model.specs.Checks.{inRange, carries, entryFault, faultOf, faultAt, refuseAt, refuseIf, refuseBy}
 use Rattle.model.proofs.CheckLaws.{slots-short, slots-next, slots-none, slots-first, slots-rest}
 use Rattle.nolkrada.specs.Interface.{afterSlots, tooFew, withSlots}
@@ -56,11 +57,18 @@ unfolding refuseBy
 side-by s none = omega arith
 side-by s (some p) = side-entry _ _ _ _ _ p
 
+-- 18
+frame-side : (o : Option Frame) → Side false (checkFrame o)
+unfolding checkFrame checkWindows afterSlots
+frame-side none = omega arith
+frame-side (some f) =
+    side-first false _ _ (side-if false _ 18 _ refl) (side-first false _ _ (side-if false _ 18 _ refl) (side-first false _ _ (side-at false 18 _ refl) (side-none false)))
+
 -- on which side each check stands
 tasks-side : (s : Tasks) → Side false (checkTasks s)
 unfolding checkTasks checkEntries afterSlots
 tasks-side s =
-    side-first false _ _ (side-if false _ 5 _ refl) (side-first false _ _ (side-if false _ 4 _ refl) (side-first false _ _ (side-by s _) (side-none false)))
+    side-first false _ _ (side-if false _ 5 _ refl) (side-first false _ _ (side-if false _ 4 _ refl) (side-first false _ _ (side-by s _) (side-first false _ _ (frame-side (s .frame)) (side-none false))))
 
 task-side : (s : Tasks) (o : Option ℕ) → Side false (checkTask s o)
 unfolding checkTask afterSlots

@@ -11,17 +11,16 @@ use Rattle.model.specs.Refusal.{Refusal, refused, answered}
 use Rattle.model.specs.Checks.{Inputs, refusalOf}
 use Rattle.model.specs.Calls.{columnAfter, choiceInputs, choiceCall, keptColumn, worstColumn}
 use Rattle.model.proofs.CheckLaws.{unfit-refused, chosen-passes}
-use Rattle.taskset.specs.TaskSet.{viewOf}
 use Rattle.choice.specs.Choices.{roomInputs}
 use Rattle.choice.proofs.ChoiceCallLaws.{room-decides, choice-decides}
-use Rattle.nolkrada.specs.Interface.{sheetFrom, refusalCode, codeOf, afterSlots, orTooFew, scopeWord, Ends}
+use Rattle.nolkrada.specs.Interface.{framedFrom, refusalCode, codeOf, afterSlots, orTooFew, scopeWord, Ends}
 use Rattle.nolkrada.proofs.InterfaceLaws.{few-before}
 use Rattle.nolkrada.proofs.ColumnEndLaws.{ends-stopped, ends-no-words, ends-refused, ends-answered}
 use Rattle.nolkrada.specs.Runs.{choiceAnswer, ColumnsEnd}
 
-module _ (sheet : List ℕ) (count charge : ℕ) (kept worst answer : List ℕ) where
+module _ (sheet : List ℕ) (count charge : ℕ) (frame kept worst answer : List ℕ) where
   abbrev tasks : Tasks
-  tasks = viewOf (sheetFrom sheet count charge)
+  tasks = framedFrom sheet count charge frame
 
   abbrev inputs : Inputs
   inputs = choiceInputs tasks kept worst
@@ -34,7 +33,7 @@ module _ (sheet : List ℕ) (count charge : ℕ) (kept worst answer : List ℕ) 
 
   -- how it ends
   abbrev ChoiceEnds : ℕ → List ℕ → List ℕ → List ℕ → Type 0
-  ChoiceEnds = ColumnsEnd scopeWord (choiceAnswer sheet count charge kept worst answer) keeps worsts kept worst answer
+  ChoiceEnds = ColumnsEnd scopeWord (choiceAnswer sheet count charge frame kept worst answer) keeps worsts kept worst answer
 
   stopped
       : (r number place : ℕ)

@@ -20,7 +20,7 @@ use Rattle.fileformat.proofs.RoundTrips.{decode-valid}
 use Rattle.fileformat.proofs.FilePlaces.{decode-within, write-limited}
 use Rattle.textformat.specs.TextSheet.{load}
 use Rattle.textformat.proofs.TextPlaces.{load-within}
-use Rattle.nolkrada.specs.Interface.{sheetFrom, refusalCode, codeOf, codeIn, asWords, tooFew, afterSlots, orTooFew, withSlots, oneWord, verdictWords, traceWords}
+use Rattle.nolkrada.specs.Interface.{sheetFrom, framedFrom, refusalCode, codeOf, codeIn, asWords, tooFew, afterSlots, orTooFew, withSlots, oneWord, verdictWords, traceWords}
 use Rattle.nolkrada.specs.Files.{readLent, readWithin, readAnswer, writeAnswer}
 use Rattle.nolkrada.specs.Texts.{loadLent, loadWithin, loadAnswer}
 use Rattle.nolkrada.specs.Runs.{jumpAnswer, choiceAnswer}
@@ -130,26 +130,26 @@ codes-tell = record {
   arrival = λ sheet count charge task kept t answer h.
       words-told 1 (length answer) oneWord _ (omega arith)
       (λ r. answer-within top _ _ r (task-limited (viewOf (sheetFrom sheet count charge)) top task kept (omega arith) (omega arith)));
-  verdict = λ sheet count charge task kept answer h.
+  verdict = λ sheet count charge frame task kept answer h.
       words-told 4 (length answer) verdictWords _ (omega arith)
-      (λ r. answer-within top _ _ r (task-limited (viewOf (sheetFrom sheet count charge)) top task kept (omega arith) (omega arith)));
-  choice = λ sheet count charge kept worst answer.
+      (λ r. answer-within top _ _ r (task-limited (framedFrom sheet count charge frame) top task kept (omega arith) (omega arith)));
+  choice = λ sheet count charge frame kept worst answer.
       slots-told 1 (length answer) _ (omega arith)
       (λ r e. within-more maxReleases top r (omega arith)
-      (answer-within maxReleases _ _ r (choice-limited (viewOf (sheetFrom sheet count charge)) kept worst) e));
+      (answer-within maxReleases _ _ r (choice-limited (framedFrom sheet count charge frame) kept worst) e));
   trace = λ sheet count charge n task tick cost answer.
       words-told 2 (length answer) traceWords _ (omega arith)
       (λ r e. within-more maxReleases top r (omega arith) (answer-within maxReleases _ _ r (list-limited (viewOf (sheetFrom sheet count charge)) n task tick cost) e));
   ready = λ sheet count charge kept n task tick cost ready.
       tells _ (λ r e. within-more maxReleases top r (omega arith)
       (refusal-within maxReleases _ (ready-limited (viewOf (sheetFrom sheet count charge)) kept n task tick cost ready) r e));
-  run = λ sheet count charge kept n task tick cost ready finish.
+  run = λ sheet count charge frame kept n task tick cost ready finish.
       tells _ (λ r e. within-more maxReleases top r (omega arith)
-      (refusal-within maxReleases _ (run-limited (viewOf (sheetFrom sheet count charge)) kept n task tick cost ready finish) r e));
-  jump = λ sheet count charge kept n task tick cost ready finish answer.
+      (refusal-within maxReleases _ (run-limited (framedFrom sheet count charge frame) kept n task tick cost ready finish) r e));
+  jump = λ sheet count charge frame kept n task tick cost ready finish answer.
       slots-told 1 (length answer) _ (omega arith)
       (λ r e. within-more maxReleases top r (omega arith)
-      (answer-within maxReleases _ _ r (run-limited (viewOf (sheetFrom sheet count charge)) kept n task tick cost ready finish) e));
+      (answer-within maxReleases _ _ r (run-limited (framedFrom sheet count charge frame) kept n task tick cost ready finish) e));
   read =
       λ file sheet task tick cost answer. tells-of _
       (λ r. read-within file (decode file) (length sheet) (length task) (length tick) (length cost) (length answer) r refl);

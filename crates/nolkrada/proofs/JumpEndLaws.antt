@@ -10,24 +10,23 @@ use Rattle.model.specs.Checks.{Inputs, refusalOf}
 use Rattle.model.specs.Ready.{readyList}
 use Rattle.model.specs.Run.{finishList}
 use Rattle.model.specs.Calls.{releasesOf, columnAfter, runInputs, jumpCall}
-use Rattle.taskset.specs.TaskSet.{viewOf}
-use Rattle.nolkrada.specs.Interface.{sheetFrom, refusalCode, codeOf, orTooFew, oneWord, Ends}
+use Rattle.nolkrada.specs.Interface.{framedFrom, refusalCode, codeOf, orTooFew, oneWord, Ends}
 use Rattle.nolkrada.proofs.ColumnEndLaws.{ends-stopped, ends-no-words, ends-refused, ends-answered}
 use Rattle.nolkrada.specs.Runs.{jumpAnswer, ColumnsEnd}
 
-module _ (sheet : List ℕ) (count charge : ℕ) (kept : List ℕ) (n : ℕ) (task tick cost ready finish answer : List ℕ) where
+module _ (sheet : List ℕ) (count charge : ℕ) (frame kept : List ℕ) (n : ℕ) (task tick cost ready finish answer : List ℕ) where
   abbrev inputs : Inputs
-  inputs = runInputs (viewOf (sheetFrom sheet count charge)) kept n task tick cost ready finish
+  inputs = runInputs (framedFrom sheet count charge frame) kept n task tick cost ready finish
 
   abbrev readies : List ℕ
-  readies = readyList (viewOf (sheetFrom sheet count charge)) (column kept) (releasesOf n task tick cost)
+  readies = readyList (framedFrom sheet count charge frame) (column kept) (releasesOf n task tick cost)
 
   abbrev finishes : List ℕ
-  finishes = finishList (viewOf (sheetFrom sheet count charge)) (column kept) (releasesOf n task tick cost)
+  finishes = finishList (framedFrom sheet count charge frame) (column kept) (releasesOf n task tick cost)
 
   -- how it ends
   abbrev JumpEnds : ℕ → List ℕ → List ℕ → List ℕ → Type 0
-  JumpEnds = ColumnsEnd oneWord (jumpAnswer sheet count charge kept n task tick cost ready finish answer) readies finishes ready finish answer
+  JumpEnds = ColumnsEnd oneWord (jumpAnswer sheet count charge frame kept n task tick cost ready finish answer) readies finishes ready finish answer
 
   -- where no word is lent: the refusal of the call without it, unless 13 comes first
   pub jump-stopped
@@ -45,7 +44,7 @@ module _ (sheet : List ℕ) (count charge : ℕ) (kept : List ℕ) (n : ℕ) (ta
   pub jump-refused
       : (r number place : ℕ) (ready′ finish′ : List ℕ)
       → 1 ≤ length answer
-      → refused (record { number = number; place = place }) ≡ jumpCall (viewOf (sheetFrom sheet count charge)) kept n task tick cost ready finish
+      → refused (record { number = number; place = place }) ≡ jumpCall (framedFrom sheet count charge frame) kept n task tick cost ready finish
       → r ≡ refusalCode number place
       → ready′ ≡ columnAfter (refusalOf inputs) readies ready
       → finish′ ≡ columnAfter (refusalOf inputs) finishes finish
@@ -56,7 +55,7 @@ module _ (sheet : List ℕ) (count charge : ℕ) (kept : List ℕ) (n : ℕ) (ta
   pub jump-ran
       : (k r : ℕ) (ready′ finish′ answer′ : List ℕ)
       → 1 ≤ length answer
-      → answered k ≡ jumpCall (viewOf (sheetFrom sheet count charge)) kept n task tick cost ready finish
+      → answered k ≡ jumpCall (framedFrom sheet count charge frame) kept n task tick cost ready finish
       → ready′ ≡ columnAfter (refusalOf inputs) readies ready
       → finish′ ≡ columnAfter (refusalOf inputs) finishes finish
       → Ends 1 (answered (k ∷ [])) answer r answer′

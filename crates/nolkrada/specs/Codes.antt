@@ -10,7 +10,7 @@ use Rattle.model.specs.Refusal.{Refusal, Answer, refused, answered}
 use Rattle.model.specs.Checks.{refusalOf}
 use Rattle.model.specs.Calls.{arrivalCall, verdictCall, traceCall, readyInputs, runInputs}
 use Rattle.taskset.specs.TaskSet.{viewOf}
-use Rattle.nolkrada.specs.Interface.{sheetFrom, codeOf, codeIn, asWords, withSlots, oneWord, verdictWords, traceWords}
+use Rattle.nolkrada.specs.Interface.{sheetFrom, framedFrom, codeOf, codeIn, asWords, withSlots, oneWord, verdictWords, traceWords}
 use Rattle.nolkrada.specs.Files.{readAnswer, writeAnswer}
 use Rattle.nolkrada.specs.Texts.{loadAnswer}
 use Rattle.nolkrada.specs.Runs.{jumpAnswer, choiceAnswer}
@@ -38,10 +38,10 @@ pub record CodesTell : Type 0 where
       → task < 4294967296
       → TellsOf (withSlots 1 (length answer) (asWords oneWord (arrivalCall (viewOf (sheetFrom sheet count charge)) task kept t)))
   pub verdict
-      : (sheet : List ℕ) (count charge task : ℕ) (kept answer : List ℕ)
+      : (sheet : List ℕ) (count charge : ℕ) (frame : List ℕ) (task : ℕ) (kept answer : List ℕ)
       → task < 4294967296
-      → TellsOf (withSlots 4 (length answer) (asWords verdictWords (verdictCall (viewOf (sheetFrom sheet count charge)) task kept)))
-  pub choice : (sheet : List ℕ) (count charge : ℕ) (kept worst answer : List ℕ) → TellsOf (choiceAnswer sheet count charge kept worst answer)
+      → TellsOf (withSlots 4 (length answer) (asWords verdictWords (verdictCall (framedFrom sheet count charge frame) task kept)))
+  pub choice : (sheet : List ℕ) (count charge : ℕ) (frame kept worst answer : List ℕ) → TellsOf (choiceAnswer sheet count charge frame kept worst answer)
   pub trace
       : (sheet : List ℕ) (count charge n : ℕ) (task tick cost answer : List ℕ)
       → TellsOf (withSlots 2 (length answer) (asWords traceWords (traceCall (viewOf (sheetFrom sheet count charge)) n task tick cost)))
@@ -49,11 +49,11 @@ pub record CodesTell : Type 0 where
       : (sheet : List ℕ) (count charge : ℕ) (kept : List ℕ) (n : ℕ) (task tick cost ready : List ℕ)
       → Tells (refusalOf (readyInputs (viewOf (sheetFrom sheet count charge)) kept n task tick cost ready))
   pub run
-      : (sheet : List ℕ) (count charge : ℕ) (kept : List ℕ) (n : ℕ) (task tick cost ready finish : List ℕ)
-      → Tells (refusalOf (runInputs (viewOf (sheetFrom sheet count charge)) kept n task tick cost ready finish))
+      : (sheet : List ℕ) (count charge : ℕ) (frame kept : List ℕ) (n : ℕ) (task tick cost ready finish : List ℕ)
+      → Tells (refusalOf (runInputs (framedFrom sheet count charge frame) kept n task tick cost ready finish))
   pub jump
-      : (sheet : List ℕ) (count charge : ℕ) (kept : List ℕ) (n : ℕ) (task tick cost ready finish answer : List ℕ)
-      → TellsOf (jumpAnswer sheet count charge kept n task tick cost ready finish answer)
+      : (sheet : List ℕ) (count charge : ℕ) (frame kept : List ℕ) (n : ℕ) (task tick cost ready finish answer : List ℕ)
+      → TellsOf (jumpAnswer sheet count charge frame kept n task tick cost ready finish answer)
   pub read : (file sheet task tick cost answer : List ℕ) → TellsOf (readAnswer file sheet task tick cost answer)
   pub load : (text sheet answer : List ℕ) → TellsOf (loadAnswer text sheet answer)
   pub write : (sheet : List ℕ) (count charge n : ℕ) (task tick cost out answer : List ℕ) → TellsOf (writeAnswer sheet count charge n task tick cost out answer)

@@ -8,6 +8,7 @@ use lib.ListN.{length, getD, drop, replicate}
 use lib.Dec.{leb, ltb, eqb}
 use lib.IntN.{natAbs}
 use Rattle.model.specs.Series.{table}
+use Rattle.model.specs.Tasks.{Tasks}
 use Rattle.model.specs.Verdict.{horizon, late, fits}
 use Rattle.model.specs.Evaluations.{Judged}
 use Rattle.model.specs.Choice.{Scope, ordinary, high-only}
@@ -15,6 +16,7 @@ use Rattle.model.specs.Refusal.{Refusal, Answer, refused, answered}
 use Rattle.taskset.specs.declared.Task.{Task}
 use Rattle.taskset.specs.declared.TaskSet.{TaskSet}
 use Rattle.taskset.specs.TaskSet.{noTask}
+use Rattle.frame.specs.FrameView.{framedOf, frameFrom}
 
 -- the entry of task i in a sheet passed as numbers: P, J, E, D and the mark of task 0, then of task 1, ..; the mark is 0 for high, another number for low; numbers
 -- past the end count as 0
@@ -30,6 +32,11 @@ taskAt l i = record {
 -- the sheet of such numbers, a count and a charge: entries past the count are 0
 abbrev pub sheetFrom : List ℕ → ℕ → ℕ → TaskSet
 sheetFrom l n c = record { tasks = table (taskAt l) (min n 32) ++ replicate (32 - n) noTask; count = n; charge = c }
+
+-- the same sheet with a frame passed as numbers: its ticks, its count, then first tick and length of each window; numbers past the end count as 0, and no number is no
+-- frame
+abbrev pub framedFrom : List ℕ → ℕ → ℕ → List ℕ → Tasks
+framedFrom l n c frame = framedOf (sheetFrom l n c) (frameFrom frame)
 
 -- a refusal as one number: number · 2^32 + place
 unfoldable pub refusalCode : ℕ → ℕ → ℕ

@@ -6,18 +6,17 @@ use lib.ListN.{length}
 use Rattle.model.specs.Choice.{Scope}
 use Rattle.model.specs.Refusal.{Answer}
 use Rattle.model.specs.Calls.{choiceCall, jumpCall}
-use Rattle.taskset.specs.TaskSet.{viewOf}
-use Rattle.nolkrada.specs.Interface.{sheetFrom, codeIn, wordsAfter, asWords, withSlots}
+use Rattle.nolkrada.specs.Interface.{framedFrom, codeIn, wordsAfter, asWords, withSlots}
 
 -- the run that jumps: the number of stops, with one word lent after the columns
-unfoldable pub jumpAnswer : List ℕ → ℕ → ℕ → List ℕ → ℕ → List ℕ → List ℕ → List ℕ → List ℕ → List ℕ → List ℕ → Answer ℕ
-jumpAnswer sheet count charge kept n task tick cost ready finish answer =
-    withSlots 1 (length answer) (jumpCall (viewOf (sheetFrom sheet count charge)) kept n task tick cost ready finish)
+unfoldable pub jumpAnswer : List ℕ → ℕ → ℕ → List ℕ → List ℕ → ℕ → List ℕ → List ℕ → List ℕ → List ℕ → List ℕ → List ℕ → Answer ℕ
+jumpAnswer sheet count charge frame kept n task tick cost ready finish answer =
+    withSlots 1 (length answer) (jumpCall (framedFrom sheet count charge frame) kept n task tick cost ready finish)
 
 -- the choice: which of the two it is, with one word lent after the columns
-unfoldable pub choiceAnswer : List ℕ → ℕ → ℕ → List ℕ → List ℕ → List ℕ → Answer Scope
-choiceAnswer sheet count charge kept worst answer =
-    withSlots 1 (length answer) (choiceCall (viewOf (sheetFrom sheet count charge)) kept worst)
+unfoldable pub choiceAnswer : List ℕ → ℕ → ℕ → List ℕ → List ℕ → List ℕ → List ℕ → Answer Scope
+choiceAnswer sheet count charge frame kept worst answer =
+    withSlots 1 (length answer) (choiceCall (framedFrom sheet count charge frame) kept worst)
 
 -- how such a call ends, given its answer, that as a word, and what it puts into the columns: what it returns, and what stands in the two columns and in the word
 pub record ColumnsEnd {A : Type 0} (word : A → List ℕ) (a : Answer A) (firsts seconds first second answer : List ℕ) (r : ℕ) (first′ second′ answer′ : List ℕ) : Type 0 where

@@ -4,7 +4,7 @@ ghost use mathlib.Core.Path.{_≡_};
 ghost use Prim.Native.Nat.{_+_, _≤_, _<_, min};
 ghost use mathlib.Core.Option.{some};
 ghost use mathlib.Core.List.{[], _∷_, _++_};
-ghost use lib.ListN.{length, getD, drop};
+ghost use lib.ListN.{length, drop};
 ghost use lib.Seq.{sets};
 ghost use Rattle.model.specs.Refusal.{answered};
 ghost use Rattle.model.specs.Checks.{refusalOf};
@@ -29,6 +29,7 @@ ghost use Rattle.reader.specs.Reader.{outcomeIn};
 ghost use Rattle.nolkrada.specs.Interface.{
   taskAt,
   sheetFrom,
+  framedFrom,
   refusalCode,
   codeOf,
   codeIn,
@@ -46,7 +47,9 @@ ghost use Rattle.nolkrada.specs.Texts.{loadAnswer, LoadEnds};
 ghost use Rattle.nolkrada.specs.Runs.{jumpAnswer, choiceAnswer, ColumnsEnd};
 use choice::ChoiceAnswer;
 use demand::ArrivalAnswer;
+use frame::frame_from;
 use jumps::JumpAnswer;
+use numbers::number_at;
 use reader::ReadOutcome;
 use taskset::Checked;
 use taskset::Task;
@@ -54,16 +57,6 @@ use taskset::TaskSet;
 use trace::TraceAnswer;
 use verdict::VerdictAnswer;
 use writer::WriteAnswer;
-
-// The number at a place, or 0 past the end.
-fn number_at(numbers: &[u32], at: usize) -> u32
-    ensures { λ r. ⌜ r ≡ getD (now (numbers .entry)) at 0 ⌝ }
-{
-    if at < numbers.len() {
-        return numbers[at];
-    }
-    0
-}
 
 // The entry of task i in a sheet passed as numbers.
 fn task_at(sheet: &[u32], i: usize) -> Task
@@ -240,23 +233,25 @@ pub extern "C" fn nolkrada_arrival_count(
     }
 }
 
-// The verdict of one task, with kept jitters, and the number of its evaluations: four words.
+// The verdict of one task, with kept jitters, on a sheet with a frame or without, and the number of its evaluations: four words.
 #[no_mangle]
 pub extern "C" fn nolkrada_verdict(
     sheet: &[u32],
     count: u32,
     charge: u8,
+    frame: &[u32],
     task: u32,
     kept: &[u32],
     answer: &mut [u64],
 ) -> u64
     ensures { λ r. ⌜
-        Ends 4 (asWords verdictWords (verdictCall (viewOf (sheetFrom (now (sheet .entry)) count charge)) task (now (kept .entry))))
+        Ends 4 (asWords verdictWords (verdictCall (framedFrom (now (sheet .entry)) count charge (now (frame .entry))) task (now (kept .entry))))
         (now (answer .entry)) r (now (answer .exit))
         ⌝ }
 {
     let s = sheet_from(sheet, count, charge);
-    let got = verdict::verdict(s, task as usize, kept);
+    let f = frame_from(frame);
+    let got = verdict::verdict(s, f, task as usize, kept);
     match got {
         VerdictAnswer::Refused { number, place } => slots_code(number, place, 4, answer.len()),
         VerdictAnswer::Horizon { q, evaluations } => put_four(answer, 0, q as u64, 0, evaluations),
@@ -279,26 +274,28 @@ pub extern "C" fn nolkrada_choice(
     sheet: &[u32],
     count: u32,
     charge: u8,
+    frame: &[u32],
     kept: &mut [u32],
     worst: &mut [u32],
     answer: &mut [u64],
 ) -> u64
     ensures { λ r. ⌜
-        ColumnsEnd scopeWord (choiceAnswer (now (sheet .entry)) count charge (now (kept .entry)) (now (worst .entry)) (now (answer .entry)))
-        (keptColumn (choice (viewOf (sheetFrom (now (sheet .entry)) count charge))))
-        (worstColumn (choice (viewOf (sheetFrom (now (sheet .entry)) count charge))))
+        ColumnsEnd scopeWord (choiceAnswer (now (sheet .entry)) count charge (now (frame .entry)) (now (kept .entry)) (now (worst .entry)) (now (answer .entry)))
+        (keptColumn (choice (framedFrom (now (sheet .entry)) count charge (now (frame .entry)))))
+        (worstColumn (choice (framedFrom (now (sheet .entry)) count charge (now (frame .entry)))))
         (now (kept .entry)) (now (worst .entry)) (now (answer .entry)) r (now (kept .exit)) (now (worst .exit)) (now (answer .exit))
         ⌝ }
 {
     let s = sheet_from(sheet, count, charge);
+    let f = frame_from(frame);
     if answer.len() < 1 {
-        let checked = choice::check_room(s, kept.len(), worst.len());
+        let checked = choice::check_room(s, f, kept.len(), worst.len());
         if let Checked::Refused { number, place } = checked {
             return slots_code(number, place, 1, answer.len());
         }
         return refusal_code(13, 1);
     }
-    let got = choice::choose(s, kept, worst);
+    let got = choice::choose(s, f, kept, worst);
     match got {
         ChoiceAnswer::Refused { number, place } => refusal_code(number, place),
         ChoiceAnswer::Ordinary => put_one(answer, 0),
@@ -370,6 +367,7 @@ pub extern "C" fn nolkrada_run(
     sheet: &[u32],
     count: u32,
     charge: u8,
+    frame: &[u32],
     kept: &[u32],
     n: u32,
     task: &[u32],
@@ -380,28 +378,29 @@ pub extern "C" fn nolkrada_run(
 ) -> u64
     ensures code { λ r. ⌜
         r
-        ≡ codeOf (refusalOf (runInputs (viewOf (sheetFrom (now (sheet .entry)) count charge)) (now (kept .entry)) n (now (task .entry)) (now (tick .entry)) (now (cost .entry))
+        ≡ codeOf (refusalOf (runInputs (framedFrom (now (sheet .entry)) count charge (now (frame .entry))) (now (kept .entry)) n (now (task .entry)) (now (tick .entry)) (now (cost .entry))
         (now (ready .entry)) (now (finish .entry))))
         ⌝ }
     ensures ticks { λ _. ⌜
         now (ready .exit)
         ≡ columnAfter (refusalOf
-        (runInputs (viewOf (sheetFrom (now (sheet .entry)) count charge)) (now (kept .entry)) n (now (task .entry)) (now (tick .entry)) (now (cost .entry)) (now (ready .entry))
+        (runInputs (framedFrom (now (sheet .entry)) count charge (now (frame .entry))) (now (kept .entry)) n (now (task .entry)) (now (tick .entry)) (now (cost .entry)) (now (ready .entry))
         (now (finish .entry))))
-        (readyList (viewOf (sheetFrom (now (sheet .entry)) count charge)) (column (now (kept .entry)))
+        (readyList (framedFrom (now (sheet .entry)) count charge (now (frame .entry))) (column (now (kept .entry)))
         (releasesOf n (now (task .entry)) (now (tick .entry)) (now (cost .entry)))) (now (ready .entry))
         ⌝ }
     ensures ends { λ _. ⌜
         now (finish .exit)
         ≡ columnAfter (refusalOf
-        (runInputs (viewOf (sheetFrom (now (sheet .entry)) count charge)) (now (kept .entry)) n (now (task .entry)) (now (tick .entry)) (now (cost .entry)) (now (ready .entry))
+        (runInputs (framedFrom (now (sheet .entry)) count charge (now (frame .entry))) (now (kept .entry)) n (now (task .entry)) (now (tick .entry)) (now (cost .entry)) (now (ready .entry))
         (now (finish .entry))))
-        (finishList (viewOf (sheetFrom (now (sheet .entry)) count charge)) (column (now (kept .entry)))
+        (finishList (framedFrom (now (sheet .entry)) count charge (now (frame .entry))) (column (now (kept .entry)))
         (releasesOf n (now (task .entry)) (now (tick .entry)) (now (cost .entry)))) (now (finish .entry))
         ⌝ }
 {
     let s = sheet_from(sheet, count, charge);
-    let checked = schedule::run(s, kept, n as usize, task, tick, cost, ready, finish);
+    let f = frame_from(frame);
+    let checked = schedule::run(s, f, kept, n as usize, task, tick, cost, ready, finish);
     code_of(checked)
 }
 
@@ -411,6 +410,7 @@ pub extern "C" fn nolkrada_jump(
     sheet: &[u32],
     count: u32,
     charge: u8,
+    frame: &[u32],
     kept: &[u32],
     n: u32,
     task: &[u32],
@@ -421,19 +421,21 @@ pub extern "C" fn nolkrada_jump(
     answer: &mut [u64],
 ) -> u64
     ensures { λ r. ⌜
-        ColumnsEnd oneWord (jumpAnswer (now (sheet .entry)) count charge (now (kept .entry)) n (now (task .entry)) (now (tick .entry)) (now (cost .entry)) (now (ready .entry))
+        ColumnsEnd oneWord (jumpAnswer (now (sheet .entry)) count charge (now (frame .entry)) (now (kept .entry)) n (now (task .entry)) (now (tick .entry)) (now (cost .entry)) (now (ready .entry))
         (now (finish .entry)) (now (answer .entry)))
-        (readyList (viewOf (sheetFrom (now (sheet .entry)) count charge)) (column (now (kept .entry)))
+        (readyList (framedFrom (now (sheet .entry)) count charge (now (frame .entry))) (column (now (kept .entry)))
         (releasesOf n (now (task .entry)) (now (tick .entry)) (now (cost .entry))))
-        (finishList (viewOf (sheetFrom (now (sheet .entry)) count charge)) (column (now (kept .entry)))
+        (finishList (framedFrom (now (sheet .entry)) count charge (now (frame .entry))) (column (now (kept .entry)))
         (releasesOf n (now (task .entry)) (now (tick .entry)) (now (cost .entry))))
         (now (ready .entry)) (now (finish .entry)) (now (answer .entry)) r (now (ready .exit)) (now (finish .exit)) (now (answer .exit))
         ⌝ }
 {
     let s = sheet_from(sheet, count, charge);
+    let f = frame_from(frame);
     if answer.len() < 1 {
-        let checked = trace::check_two(
+        let checked = queues::check_two(
             s,
+            f,
             kept,
             n as usize,
             task,
@@ -447,7 +449,7 @@ pub extern "C" fn nolkrada_jump(
         }
         return refusal_code(13, 1);
     }
-    let got = jumps::run(s, kept, n as usize, task, tick, cost, ready, finish);
+    let got = jumps::run(s, f, kept, n as usize, task, tick, cost, ready, finish);
     match got {
         JumpAnswer::Refused { number, place } => refusal_code(number, place),
         JumpAnswer::Ran { stops } => put_one(answer, stops as u64),

@@ -7,6 +7,7 @@ use native.Mathlib.Omega.{arith}
 use lib.ListN.{length}
 use Rattle.model.specs.Processor.{pickup}
 use Rattle.model.specs.Tasks.{Tasks, load, Release, releaseAt}
+use Rattle.model.proofs.FrameLaws.{turn-served}
 use Rattle.model.specs.Ready as Model
 use Rattle.model.specs.Run.{jobs, finishAt}
 use Rattle.model.specs.Claims.{Trace}
@@ -35,13 +36,14 @@ module _ (s : Tasks) (k : ℕ → ℕ) (l : List Release) (tr : Trace s l) (T X 
             mul-le-mul {n₁ = Model.place l p - Model.place l (c .from)} {n₂ = Model.place l p} (omega arith) (small (releaseAt l p .task) (tr .sound p h .known) .0),
           ))
 
--- every finish is at most T, the pickup, and X for each release
+-- every finish is at most T, the pickup, and X turns for each release
 pub finish-bound : FinishBounded
 unfolding finishAt
-finish-bound s k l tr T X ticks small p h =
+finish-bound s v k l tr T X ticks small p h =
     omega (
       arith,
-      finish-high (jobs s k l) (T + pickup) X (λ t. refl) work-le (start-high (jobs s k l) (T + pickup) X start-le) p h (omega (arith, tr .sound p h .cost-low)),
+      finish-high (jobs s k l) (T + pickup) X (turn-served (s .frame) v) work-le (start-high (jobs s k l) (T + pickup) X start-le) p h
+          (omega (arith, tr .sound p h .cost-low)),
     )
   where
     start-le : (q : ℕ) → q < length l → jobs s k l .start q ≤ T + pickup + X * place (λ n. releaseAt l n .task) (releaseAt l q .task) q

@@ -16,10 +16,9 @@ use Rattle.shaper.proofs.GapLaws.{gap-mono}
 use Rattle.trace.proofs.PositionLaws.{place-le}
 use Rattle.trace.proofs.LegalLaws.{legal-at}
 use Rattle.trace.proofs.ReadyAtLaws.{Since, ready-at-closed}
-use Rattle.theory.proofs.JobWindows.{supply}
 use Rattle.theory.proofs.RunLaws.{left-later}
 use Rattle.theory.proofs.FitsOfJobs.{Walk, Done, fits-core}
-use Rattle.processor.specs.ProcessorDemand.{Regular, loadOn, supplyOn, aboveOn, demandOn}
+use Rattle.processor.specs.ProcessorDemand.{Regular, loadOn, aboveOn, demandOn}
 use Rattle.processor.specs.ProcessorClaims.{WalkOn, MetOn}
 use Rattle.processor.proofs.SamePlace.{same-place}
 use Rattle.processor.proofs.JobLaws.{spaced, own-work, bounded}
@@ -47,7 +46,7 @@ module _ (m : Processor) (r : Regular m) (s : Tasks) (k : ℕ → ℕ) (i : ℕ)
     (last : ℕ) (w : ℕ → ℕ) (d : WalkOn m r s k i last w) (l : List Release) (tr : Trace s l) where
   -- the walk, over the jobs of a trace
   walk : Walk (jobsOn m s k l) i (loadOn m s) (λ j. arrivals (s .period j) (k j)) (gap (s .period i) (k i)) last w
-  unfolding demandOn aboveOn supplyOn supply
+  unfolding demandOn aboveOn
   walk = record {
     own-work = own-work m r s k l tr i;
     own-spaced = spaced m r s k l i;

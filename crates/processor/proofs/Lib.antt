@@ -4,5 +4,5 @@ pub mod FinishBound
 pub mod JobLaws
 pub mod FitsOnProcessor
 pub mod LimitShareOnProcessor
-pub mod PlainDemand
+pub mod BoardDemand
 pub mod ProcessorDemandLaws

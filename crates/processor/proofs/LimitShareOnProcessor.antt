@@ -8,10 +8,9 @@ use Rattle.model.specs.Gap.{gap}
 use Rattle.model.specs.Run.{jobsOn}
 use Rattle.model.specs.Claims.{Trace}
 use Rattle.shaper.proofs.GapLaws.{gap-zero}
-use Rattle.theory.proofs.JobWindows.{supply}
 use Rattle.theory.proofs.LimitOfJobs.{limit-core, share-core}
 use Rattle.response.proofs.ArrivalLaws.{gap-arrivals}
-use Rattle.processor.specs.ProcessorDemand.{Regular, loadOn, supplyOn, aboveOn}
+use Rattle.processor.specs.ProcessorDemand.{Regular, loadOn, aboveOn}
 use Rattle.processor.specs.ProcessorClaims.{LimitOn, ShareOn}
 use Rattle.processor.proofs.JobLaws.{spaced, own-work, bounded}
 
@@ -28,7 +27,7 @@ module _ (m : Processor) (r : Regular m) (s : Tasks) (k : ℕ → ℕ) (i : ℕ)
 
   -- share, where the tasks above have periods
   pub share-on : ((j : ℕ) → j < i → 1 ≤ s .period j) → ShareOn m s k i l
-  unfolding supplyOn aboveOn supply
+  unfolding aboveOn
   share-on h u t n g clear =
       share-core (jobsOn m s k l) i (loadOn m s) (λ j. gap (s .period j) (k j)) (λ j. arrivals (s .period j) (k j))
       (bounded m r s k l tr i h) u t n g clear

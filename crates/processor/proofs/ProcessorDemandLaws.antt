@@ -1,24 +1,13 @@
 -- Demand and supply on any processor: the demand rises with q and t, a larger q is met later, and demands met one after the other are met together.
-use Prim.Native.Nat.{ℕ, zero, suc, _+_, _-_, _≤_, _<_}
-use mathlib.Core.Path.{_≡_}
+use Prim.Native.Nat.{ℕ, suc, _+_, _≤_, _<_}
 use native.Mathlib.Omega.{arith}
-use native.Mathlib.Nat.{add-suc, add-assoc, add-zero, mul-le-mul-right}
-use Rattle.model.specs.Series.{sum}
+use native.Mathlib.Nat.{mul-le-mul-right}
 use Rattle.model.specs.Processor.{Processor}
 use Rattle.model.specs.Tasks.{Tasks}
 use Rattle.model.proofs.SeriesLaws.{on-le}
+use Rattle.model.proofs.SupplyLaws.{supply-next, supply-append}
 use Rattle.response.proofs.LoadSums.{loads-rise, loads-add}
 use Rattle.processor.specs.ProcessorDemand.{loadOn, supplyOn, aboveOn, demandOn}
-
-module _ (m : Processor) (from : ℕ) where
-  pub supply-add : (t u : ℕ) → supplyOn m from (t + u) ≡ supplyOn m from t + supplyOn m (from + t) u
-  unfolding supplyOn sum
-  supply-add t zero = rw (add-zero t) (omega arith)
-  supply-add t (suc u) = rw (add-suc t u, ← add-assoc from t u) (omega (arith, supply-add t u))
-
-  supply-step : (t : ℕ) → supplyOn m from (suc t) ≤ suc (supplyOn m from t)
-  unfolding supplyOn sum
-  supply-step t = omega (arith, on-le (m .ours (from + t)) 1)
 
 module _ (m : Processor) (s : Tasks) (k : ℕ → ℕ) (i : ℕ) (periods : (j : ℕ) → j < i → 1 ≤ s .period j) where
   pub above-rises : (t u : ℕ) → t ≤ u → aboveOn m s k i t ≤ aboveOn m s k i u
@@ -34,7 +23,7 @@ module _ (m : Processor) (s : Tasks) (k : ℕ → ℕ) (i : ℕ) (periods : (j :
   pub met-sooner
       : (from q t : ℕ) → 1 ≤ loadOn m s i → demandOn m s k i (suc q) (suc t) ≤ supplyOn m from (suc t) → demandOn m s k i q t ≤ supplyOn m from t
   unfolding demandOn
-  met-sooner from q t c h = omega (arith, above-rises t (suc t) (omega arith), supply-step m from t)
+  met-sooner from q t c h = omega (arith, above-rises t (suc t) (omega arith), supply-next (m .ours) from t, on-le (m .ours (from + t)) 1)
 
   pub above-add : (t u : ℕ) → aboveOn m s k i (t + u) ≤ aboveOn m s k i t + aboveOn m s k i u
   unfolding aboveOn
@@ -45,4 +34,4 @@ module _ (m : Processor) (s : Tasks) (k : ℕ → ℕ) (i : ℕ) (periods : (j :
       : (from a b t u : ℕ) → demandOn m s k i a t ≤ supplyOn m from t → demandOn m s k i b u ≤ supplyOn m (from + t) u
       → demandOn m s k i (suc (a + b)) (t + u) ≤ supplyOn m from (t + u)
   unfolding demandOn
-  met-add from a b t u h g = omega (arith, supply-add m from t u, above-add t u)
+  met-add from a b t u h g = omega (arith, supply-append (m .ours) from t u, above-add t u)

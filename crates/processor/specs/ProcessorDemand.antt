@@ -1,7 +1,8 @@
 -- What the mathematics leaves open of a processor: pickup, load and supply.
 use Prim.Native.Nat.{ℕ, suc, _+_, _*_, _≤_}
 use mathlib.Core.Path.{_≡_}
-use Rattle.model.specs.Series.{on, sum}
+use Rattle.model.specs.Series.{sum}
+use Rattle.model.specs.Frame.{supply}
 use Rattle.model.specs.Processor.{Processor}
 use Rattle.model.specs.Tasks.{Tasks}
 use Rattle.model.specs.Arrival.{arrivals}
@@ -19,8 +20,8 @@ abbrev pub loadOn : Processor → Tasks → ℕ → ℕ
 loadOn m s j = m .work (s .cost j)
 
 -- "supply": the ticks of ours among the t from u on
-unfoldable pub supplyOn : Processor → ℕ → ℕ → ℕ
-supplyOn m u t = sum (λ n. on (m .ours (u + n)) 1) t
+abbrev pub supplyOn : Processor → ℕ → ℕ → ℕ
+supplyOn m = supply (m .ours)
 
 -- the sum over the tasks above i of load × σ(t), with kept jitters k
 unfoldable pub aboveOn : Processor → Tasks → (ℕ → ℕ) → ℕ → ℕ → ℕ

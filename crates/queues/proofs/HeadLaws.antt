@@ -2,6 +2,7 @@
 use Prim.Native.Nat.{ℕ, suc, _+_, _≤_, _<_}
 use mathlib.Core.Path.{_≡_, refl, sym, ap, _∙_}
 use mathlib.Core.Logic.{_⊎_, inl, inr}
+use mathlib.Core.Bool.{true}
 use mathlib.Core.Option.{some, none}
 use mathlib.Core.List.{List}
 use native.Mathlib.Omega.{arith}
@@ -13,16 +14,17 @@ use borrow.Author.Tests.{eqb-true, eqb-false}
 use Rattle.model.specs.Limits.{maxTasks, maxReleases}
 use Rattle.model.specs.Run.{Jobs, leftAt, runs, finishOf}
 use Rattle.model.proofs.SeriesLaws.{le-by}
-use Rattle.theory.proofs.JobWindows.{AllOurs, Before}
+use Rattle.theory.proofs.JobWindows.{Served, Before}
 use Rattle.theory.proofs.RunLaws.{runs-is, runs-nothing}
 use Rattle.theory.proofs.FinishLaws.{finish-not, finish-late}
 use Rattle.theory.proofs.JumpLaws.{same-or}
 use Rattle.queues.specs.Queues.{maxFinish, firstFrom}
 use Rattle.queues.proofs.SearchedLaws.{Least, least-is}
 
--- jobs of tasks 0, .., tasks - 1, each with some work, whose start ticks never fall along a task; all are finished by the largest finish tick
+-- jobs of tasks 0, .., tasks - 1, each with some work, whose start ticks never fall along a task; every turn has a tick of ours, and all are finished by the
+-- largest finish tick
 pub record Ordered (j : Jobs) (tasks : ℕ) : Type 0 where
-  pub all : AllOurs j
+  pub served : Served j
   pub few : j .count ≤ maxReleases
   pub few-tasks : tasks ≤ maxTasks
   pub known : (p : ℕ) → p < j .count → j .task p < tasks
@@ -46,11 +48,11 @@ May j t head i = (getD head i 0 < j .count) × (j .start (getD head i 0) ≤ t)
 module _ (j : Jobs) (tasks : ℕ) (o : Ordered j tasks) where
   -- each job starts before the largest finish tick
   pub start-soon : (p : ℕ) → p < j .count → j .start p < maxFinish
-  start-soon p a = omega (arith, finish-late j (o .all) p a (o .some-work p a), o .soon p a)
+  start-soon p a = omega (arith, finish-late j (o .served) p a (o .some-work p a), o .soon p a)
 
   -- while a job is unfinished that tick has not come
   pub not-over : (t p : ℕ) → p < j .count → 0 < leftAt j t p → t < maxFinish
-  not-over t p a b = omega (arith, finish-not j (o .all) p a (o .some-work p a) t b, o .soon p a)
+  not-over t p a b = omega (arith, finish-not j (o .served) p a (o .some-work p a) t b, o .soon p a)
 
   module _ (t : ℕ) (head : List ℕ) (h : Heads j tasks t head) where
     -- the oldest unfinished job of a task is no later in the list than another unfinished one of the task
@@ -68,7 +70,7 @@ module _ (j : Jobs) (tasks : ℕ) (o : Ordered j tasks) where
     head-may : (p : ℕ) → p < j .count → j .start p ≤ t → 0 < leftAt j t p → May j t head (j .task p)
     head-may p a b d = (omega (arith, head-le p a d), omega (arith, head-start p a d))
 
-    -- the highest-priority task whose oldest unfinished job may run: that job goes before every job that may run, and runs
+    -- the highest-priority task whose oldest unfinished job may run: that job goes before every job that may run, and runs where the tick is ours
     pub head-first
         : (i : ℕ)
         → i < tasks
@@ -84,8 +86,8 @@ module _ (j : Jobs) (tasks : ℕ) (o : Ordered j tasks) where
         let l : i ≤ j .task q = le-by i (j .task q) (λ g. f (j .task q) g (head-may q b d u)) in
         (omega arith, λ g. let s : j .task q ≡ i = omega arith in rw s at (head-le q b u))
 
-    pub runs-head : (i : ℕ) → i < tasks → May j t head i → ((k : ℕ) → k < i → May j t head k → ⊥) → runs j t ≡ some (getD head i 0)
-    runs-head i a m f = runs-is j t (o .all t) (getD head i 0) (m .0) (m .1) (h .unfinished i a (m .0)) (head-first i a m f)
+    pub runs-head : j .ours t ≡ true → (i : ℕ) → i < tasks → May j t head i → ((k : ℕ) → k < i → May j t head k → ⊥) → runs j t ≡ some (getD head i 0)
+    runs-head e i a m f = runs-is j t e (getD head i 0) (m .0) (m .1) (h .unfinished i a (m .0)) (head-first i a m f)
 
     -- where the oldest unfinished job of no task may run, every job that may run is finished, and none runs
     pub head-none : ((k : ℕ) → k < tasks → May j t head k → ⊥) → (q : ℕ) → q < j .count → j .start q ≤ t → leftAt j t q ≡ 0

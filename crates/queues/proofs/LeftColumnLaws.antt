@@ -2,11 +2,13 @@
 use Prim.Native.Nat.{ℕ, _+_, _<_}
 use mathlib.Core.Path.{_≡_, refl, sym, ap, _∙_}
 use mathlib.Core.Logic.{_⊎_, inl, inr}
+use mathlib.Core.Option.{Option}
 use mathlib.Core.List.{List}
 use native.Mathlib.Omega.{arith}
 use lib.ListN.{length, getD, set, length-set}
 use lib.Seq.{getD-set-same, getD-set-other}
 use lib.Dec.{eqb}
+use Rattle.model.specs.Frame.{Frame}
 use Rattle.model.specs.Run.{Jobs, leftAt}
 use Rattle.model.specs.Slots.{Holds}
 use Rattle.theory.proofs.RunLaws.{left-zero}
@@ -21,12 +23,12 @@ pub record Lefts (j : Jobs) (tasks t : ℕ) (head left : List ℕ) : Type 0 wher
   pub each : (i : ℕ) → i < tasks → getD head i 0 < j .count → getD left i 0 ≡ leftAt j t (getD head i 0)
 
 -- before the first tick it is the whole work
-pub lefts-start : (n tasks : ℕ) (task cost : List ℕ) (charge : ℕ) (ready head left : List ℕ) → Holds (λ i. workOf cost charge n (getD head i 0)) tasks 32 left
-    → Lefts (jobsOf n task cost charge ready) tasks 0 head left
-lefts-start n tasks task cost charge ready head left b =
+pub lefts-start : (o : Option Frame) (n tasks : ℕ) (task cost : List ℕ) (charge : ℕ) (ready head left : List ℕ) → Holds (λ i. workOf cost charge n (getD head i 0)) tasks 32 left
+    → Lefts (jobsOf o n task cost charge ready) tasks 0 head left
+lefts-start o n tasks task cost charge ready head left b =
     record {
       long = b .long;
-      each = λ i l g. b .each i l ∙ work-in cost charge n (getD head i 0) g ∙ sym (left-zero (jobsOf n task cost charge ready) (getD head i 0));
+      each = λ i l g. b .each i l ∙ work-in cost charge n (getD head i 0) g ∙ sym (left-zero (jobsOf o n task cost charge ready) (getD head i 0));
     }
 
 module _ (j : Jobs) (tasks : ℕ) (o : Ordered j tasks) (t : ℕ) (head left : List ℕ) (h : Heads j tasks t head) (w : Lefts j tasks t head left) where

@@ -1,13 +1,14 @@
 -- The jobs of a list in columns of numbers, and what the functions over their queues answer.
 use Prim.Native.Nat.{ℕ, zero, suc, _+_, _-_, _*_, _≤_, _<_, min}
 use mathlib.Core.Path.{_≡_}
-use mathlib.Core.Bool.{Bool, true, cond}
+use mathlib.Core.Bool.{Bool, cond}
 use mathlib.Core.Option.{Option, some, none}
 use mathlib.Core.List.{List}
 use lib.ListN.{length, getD}
 use lib.Dec.{leb, ltb, eqb}
-use Rattle.model.specs.Limits.{maxTasks, maxTime, maxReleases, maxTick}
+use Rattle.model.specs.Limits.{maxTasks, maxTime, maxReleases, maxTick, maxFrame}
 use Rattle.model.specs.Search.{first}
+use Rattle.model.specs.Frame.{Frame, InRules, oursIn, turnOf}
 use Rattle.model.specs.Processor.{pickup, plain}
 use Rattle.model.specs.Run.{Jobs, finishOf}
 
@@ -15,20 +16,25 @@ use Rattle.model.specs.Run.{Jobs, finishOf}
 abbrev pub startOf : ℕ → ℕ
 startOf ready = plain 0 .start ready
 
--- the jobs of n releases, given in columns with the charge and their ready ticks
-abbrev pub jobsOf : ℕ → List ℕ → List ℕ → ℕ → List ℕ → Jobs
-jobsOf n task cost charge ready = record {
+-- the jobs of n releases in a frame, if any, given in columns with the charge and their ready ticks
+abbrev pub jobsOf : Option Frame → ℕ → List ℕ → List ℕ → ℕ → List ℕ → Jobs
+jobsOf o n task cost charge ready = record {
   count = n;
   task = λ p. getD task p 0;
   start = λ p. startOf (getD ready p 0);
   work = λ p. plain charge .work (getD cost p 0);
-  ours = λ t. true;
+  ours = oursIn o;
+  turn = turnOf o;
 }
 
--- the largest finish tick of a list that passes the checks of a run: the largest release tick, the pickup, and 1,000,000 ticks for each of
--- 1,024 releases: 1,000,001,024,000,001
+-- the largest finish tick of a list that passes the checks of a run, given the ticks of its frame, 1 where there is none: the largest release tick, the
+-- pickup, and 1,000,000 frames for each of 1,024 releases. Without a frame it is 1,000,001,024,000,001
+abbrev pub finishLimit : ℕ → ℕ
+finishLimit turn = maxTick + pickup + maxTime * maxReleases * turn
+
+-- the largest with any frame: 1,010,240,000,000,001
 abbrev pub maxFinish : ℕ
-maxFinish = maxTick + pickup + maxTime * maxReleases
+maxFinish = finishLimit maxFrame
 
 -- the first of from, .., n - 1 at which the test holds, and n where there is none
 unfoldable pub orElse : ℕ → Option ℕ → ℕ
@@ -77,8 +83,10 @@ pub record Workable (n : ℕ) (cost : List ℕ) (charge : ℕ) : Type 0 where
   pub long : n ≤ length cost
   pub high : (p : ℕ) → p < n → plain charge .work (getD cost p 0) ≤ maxTime
 
--- columns of n releases that can be run: tasks, work and finish ticks within their limits, some work for each, and ready ticks that never fall along a task
-pub record Runnable (n tasks : ℕ) (task cost : List ℕ) (charge : ℕ) (ready finish : List ℕ) : Type 0 where
+-- columns of n releases that can be run in a frame, if any, within the rules: tasks, work and finish ticks within their limits, some work for each, and ready
+-- ticks that never fall along a task
+pub record Runnable (o : Option Frame) (n tasks : ℕ) (task cost : List ℕ) (charge : ℕ) (ready finish : List ℕ) : Type 0 where
+  pub framed : (f : Frame) → o ≡ some f → InRules f
   pub few : n ≤ maxReleases
   pub few-tasks : tasks ≤ maxTasks
   pub task-long : n ≤ length task
@@ -87,5 +95,5 @@ pub record Runnable (n tasks : ℕ) (task cost : List ℕ) (charge : ℕ) (ready
   pub finish-long : n ≤ length finish
   pub known : (p : ℕ) → p < n → getD task p 0 < tasks
   pub work-low : (p : ℕ) → p < n → 1 ≤ plain charge .work (getD cost p 0)
-  pub finish-high : (p : ℕ) → p < n → finishOf (jobsOf n task cost charge ready) p ≤ maxFinish
+  pub finish-high : (p : ℕ) → p < n → finishOf (jobsOf o n task cost charge ready) p ≤ maxFinish
   pub in-order : (p q : ℕ) → p < q → q < n → getD task p 0 ≡ getD task q 0 → getD ready p 0 ≤ getD ready q 0

@@ -1,11 +1,22 @@
-// The jobs of a list in columns, as a queue for each task with its oldest unfinished job at the head: what both runs share, and the searches
-// of the ticking run.
+// The jobs of a list in columns, as a queue for each task with its oldest unfinished job at the head: what both runs share, their checks
+// too, and the searches of the ticking run.
+use frame::Frame;
+use taskset::Checked;
 use taskset::PICKUP;
+use taskset::TaskSet;
 ghost use mathlib.Core.Path.{_≡_};
 ghost use Prim.Native.Nat.{_≤_, _<_, min};
 ghost use lib.Dec.{leb};
 ghost use lib.ListN.{length, getD};
 ghost use Rattle.model.specs.Slots.{Holds};
+ghost use Rattle.model.specs.Choice.{column};
+ghost use Rattle.model.specs.Checks.{refusalOf};
+ghost use Rattle.model.specs.Ready.{readyList};
+ghost use Rattle.model.specs.Calls.{releasesOf, columnAfter};
+ghost use Rattle.taskset.specs.TaskSet.{viewOf, refusalIn};
+ghost use Rattle.frame.specs.FrameView.{frameOf, framedOf};
+ghost use Rattle.trace.specs.TraceCalls.{callInputs};
+ghost use Rattle.queues.specs.Framed.{framedFirst};
 ghost use Rattle.queues.specs.Queues.{startOf, nextOf, never, wakeOf, topReady, wakeAll, workOf, Timely, Workable};
 
 // A tick over every start and finish tick of a run.
@@ -135,4 +146,68 @@ pub fn first_work(
         i += 1;
     }
     left
+}
+
+// The check of a sheet with its frame, where there is one; fine where there is none.
+fn check_framed(s: TaskSet, f: Frame) -> Checked
+    ensures { λ r. ⌜ refusalIn r ≡ framedFirst (frameOf f) (viewOf s) ⌝ }
+{
+    if !f.present {
+        return Checked::Fine;
+    }
+    frame::check_sheet(s, f)
+}
+
+// The checks of a run to which two columns of so many slots are lent.
+pub fn check_two(
+    s: TaskSet,
+    f: Frame,
+    kept: &[u32],
+    count: usize,
+    task: &[u32],
+    tick: &[u64],
+    cost: &[u32],
+    first: usize,
+    second: usize,
+) -> Checked
+    ensures { λ r. ⌜
+        refusalIn r
+        ≡ refusalOf (callInputs (framedOf s f) (now (kept .entry)) count (now (task .entry)) (now (tick .entry)) (now (cost .entry)) (min first second))
+        ⌝ }
+{
+    let framed = check_framed(s, f);
+    let Checked::Fine = framed else {
+        return framed;
+    };
+    trace::check_two(s, kept, count, task, tick, cost, first, second)
+}
+
+// The checks of a run, with `slots` for the finish ticks; where they pass, the ready ticks are written to the first slots of `ready`.
+pub fn check_and_shape(
+    s: TaskSet,
+    f: Frame,
+    kept: &[u32],
+    count: usize,
+    task: &[u32],
+    tick: &[u64],
+    cost: &[u32],
+    ready: &mut [u64],
+    slots: usize,
+) -> Checked
+    ensures refusal { λ r. ⌜
+        refusalIn r
+        ≡ refusalOf (callInputs (framedOf s f) (now (kept .entry)) count (now (task .entry)) (now (tick .entry)) (now (cost .entry))
+        (min (length (now (ready .entry))) slots))
+        ⌝ }
+    ensures ticks { λ r. ⌜
+        now (ready .exit)
+        ≡ columnAfter (refusalIn r)
+        (readyList (framedOf s f) (column (now (kept .entry))) (releasesOf count (now (task .entry)) (now (tick .entry)) (now (cost .entry)))) (now (ready .entry))
+        ⌝ }
+{
+    let framed = check_framed(s, f);
+    let Checked::Fine = framed else {
+        return framed;
+    };
+    trace::check_and_shape(s, kept, count, task, tick, cost, ready, slots)
 }

@@ -3,9 +3,10 @@ use Prim.Native.Nat.{ℕ, _≤_, _<_}
 use mathlib.Core.Path.{_≡_, refl}
 use mathlib.Core.Option.{Option, some, none}
 use native.Mathlib.Omega.{arith}
-use native.Mathlib.Nat.{lt-of-not-le, le-of-suc-le-suc}
 use Rattle.model.specs.Tasks.{Tasks, load}
 use Rattle.model.specs.Demand.{aboveLoad, demand, window}
+use Rattle.model.proofs.SeriesLaws.{le-by}
+use Rattle.model.proofs.FrameLaws.{Ruled}
 use Rattle.response.proofs.LoadSums.{loads-rise}
 use Rattle.response.proofs.WindowLaws.{Window, window-some, window-none}
 
@@ -23,9 +24,15 @@ module _
   demand-keeps q t = omega (arith, above-keeps t)
 
   -- W(q) is no later
-  pub window-keeps : (q w : ℕ) → window s above i q ≡ some w → (v : ℕ) × (window s k i q ≡ some v) × (v ≤ w)
-  window-keeps q w h = go (window s k i q) refl (window-some s above i q w h)
+  pub window-keeps : Ruled (s .frame) → (q w : ℕ) → window s above i q ≡ some w → (v : ℕ) × (window s k i q ≡ some v) × (v ≤ w)
+  window-keeps r q w h = go (window s k i q) refl (window-some s above i r q w h)
     where
       go : (o : Option ℕ) → window s k i q ≡ o → Window s above i q w → (v : ℕ) × (window s k i q ≡ some v) × (v ≤ w)
-      go none e g = absurd (omega (arith, window-none s k i q e w (g .low) (g .high), demand-keeps q w, g .met))
-      go (some v) e g = (v, e, le-of-suc-le-suc (lt-of-not-le (λ l. omega (arith, window-some s k i q v e .least w (g .low) l, demand-keeps q w, g .met))))
+      go none e g =
+          let n = window-none s k i q e in
+          let m = g .met (n .0) in
+          absurd (omega (arith, n .1 (m .0) (m .1) (omega (arith, m .2, g .high)), demand-keeps q (m .0), m .3))
+      go (some v) e g =
+          let f : Window s k i q v = window-some s k i r q v e in
+          let m = g .met (f .worst) in
+          (v, e, le-by v w (λ l. omega (arith, f .least (m .0) (m .1) (omega (arith, m .2)), demand-keeps q (m .0), m .3)))

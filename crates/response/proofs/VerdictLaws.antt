@@ -15,6 +15,7 @@ use Rattle.model.specs.Gap.{gap}
 use Rattle.model.specs.Demand.{window}
 use Rattle.model.specs.Verdict.{horizon, late, fits, boundOf, boundAt, peak, isLate, isLast, stops, judge, verdict}
 use Rattle.model.proofs.SearchLaws.{Found, first-found, first-nothing}
+use Rattle.model.proofs.FrameLaws.{Ruled}
 use Rattle.response.proofs.WindowLaws.{Window, window-some, window-over}
 use Rattle.response.specs.VerdictSays.{Missing, Passed, Walked}
 
@@ -113,13 +114,13 @@ module _ (s : Tasks) (k : ℕ → ℕ) (i : ℕ) where
           let z : _≡_ {A = ℕ} 0 1 = cc in absurd (omega arith)
 
   -- the walk stops by q = H
-  pub walk-stops : 1 ≤ s .cost i → first (stops s k i) (suc horizonTick) 0 ≡ none → ⊥
-  walk-stops e h = go (goes-on horizonTick (first-nothing (stops s k i) (suc horizonTick) 0 h horizonTick (omega arith) (omega arith)))
+  pub walk-stops : Ruled (s .frame) → 1 ≤ s .cost i → first (stops s k i) (suc horizonTick) 0 ≡ none → ⊥
+  walk-stops v e h = go (goes-on horizonTick (first-nothing (stops s k i) (suc horizonTick) 0 h horizonTick (omega arith) (omega arith)))
     where
       go : Passed s k i horizonTick → ⊥
       go p =
-          let g : Window s k i horizonTick (p .w) = window-some s k i horizonTick (p .w) (p .is) in
-          omega (arith, window-over s k i horizonTick (p .w) (omega arith) (p .is))
+          let g : Window s k i horizonTick (p .w) = window-some s k i v horizonTick (p .w) (p .is) in
+          omega (arith, window-over s k i v horizonTick (p .w) (omega arith) (p .is))
 
   -- the verdict is what is said at the q where the walk stops
   verdict-at : (o : Option ℕ) → first (stops s k i) (suc horizonTick) 0 ≡ o → verdict s k i ≡ elim o [ none ↦ horizon (suc horizonTick) | some q ↦ judge s k i q ]
@@ -168,9 +169,9 @@ module _ (s : Tasks) (k : ℕ → ℕ) (i : ℕ) where
       go (some n) e = stop-late n q r (sym (verdict-at (some n) e) ∙ h)
 
   -- "horizon": there is no W(q) up to H for the q named
-  pub horizon-says : 1 ≤ s .cost i → (q : ℕ) → verdict s k i ≡ horizon q → window s k i q ≡ none
-  horizon-says c q h = go (first (stops s k i) (suc horizonTick) 0) refl
+  pub horizon-says : Ruled (s .frame) → 1 ≤ s .cost i → (q : ℕ) → verdict s k i ≡ horizon q → window s k i q ≡ none
+  horizon-says v c q h = go (first (stops s k i) (suc horizonTick) 0) refl
     where
       go : (o : Option ℕ) → first (stops s k i) (suc horizonTick) 0 ≡ o → window s k i q ≡ none
-      go none e = absurd (walk-stops c e)
+      go none e = absurd (walk-stops v c e)
       go (some n) e = stop-horizon n q (sym (verdict-at (some n) e) ∙ h)

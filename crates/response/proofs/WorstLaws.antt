@@ -9,6 +9,7 @@ use borrow.Author.Tests.{ltb-true}
 use Rattle.model.specs.Processor.{pickup}
 use Rattle.model.specs.Tasks.{Tasks}
 use Rattle.model.specs.Verdict.{fits, boundOf, boundAt, peak, verdict}
+use Rattle.model.proofs.FrameLaws.{Ruled}
 use Rattle.response.proofs.BoundLaws.{bound-up}
 use Rattle.response.proofs.WindowLaws.{window-some}
 use Rattle.response.specs.VerdictSays.{Passed, Walked}
@@ -34,7 +35,7 @@ peak-positive f h (suc q) = go (ltZ (peak f q .value) (f (suc q))) refl (peak-po
     go true g (n, e) = rw (peak, g) (over n (f (suc q)) (rw e at g))
     go false g e = rw (peak, g) e
 
-module _ (s : Tasks) (k : ℕ → ℕ) (i : ℕ) where
+module _ (s : Tasks) (v : Ruled (s .frame)) (k : ℕ → ℕ) (i : ℕ) where
   -- R(0)
   first-positive : (p : Passed s k i 0) → Positive (boundAt s k i 0)
   unfolding boundAt boundOf
@@ -42,7 +43,7 @@ module _ (s : Tasks) (k : ℕ → ℕ) (i : ℕ) where
     p .w + pickup + (s .jitter i - (0 * s .period i + k i)) - 1,
     rw (boundAt, p .is)
         (bound-up (s .period i) (s .jitter i) (k i) 0 (p .w) (omega arith)
-        ∙ ap pos (omega (arith, window-some s k i 0 (p .w) (p .is) .low))),
+        ∙ ap pos (omega (arith, window-some s k i v 0 (p .w) (p .is) .low))),
   )
 
   -- the largest R of "fits"

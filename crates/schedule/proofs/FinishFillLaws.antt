@@ -2,15 +2,17 @@
 use Prim.Native.Nat.{ℕ, suc, _+_, _-_, _≤_, _<_}
 use mathlib.Core.Path.{_≡_, _∙_}
 use mathlib.Core.Logic.{_⊎_, inl, inr}
-use mathlib.Core.Option.{some}
+use mathlib.Core.Bool.{true, false}
+use mathlib.Core.Option.{Option, some}
 use mathlib.Core.List.{List, _++_}
 use native.Mathlib.Omega.{arith}
 use lib.ListN.{getD, set, drop}
 use Rattle.model.specs.Series.{table}
+use Rattle.model.specs.Frame.{Frame, oursIn}
 use Rattle.model.specs.Run.{Jobs, leftAt, runs, finishOf}
 use Rattle.model.specs.Slots.{Holds}
 use Rattle.model.proofs.SeriesLaws.{le-by}
-use Rattle.theory.proofs.RunLaws.{runs-nothing}
+use Rattle.theory.proofs.RunLaws.{runs-off, runs-nothing}
 use Rattle.queues.specs.Queues.{jobsOf, maxFinish, nextOf, topReady, wakeOf, wakeAll, never, workOf, Runnable}
 use Rattle.queues.proofs.SearchedLaws.{work-in, wake-in, wake-out, earliest-le, earliest-is}
 use Rattle.queues.proofs.HeadLaws.{Ordered, May, start-soon, not-over, head-le, head-start, runs-head, runs-idle, all-finished}
@@ -28,43 +30,43 @@ pub record Top (j : Jobs) (tasks t : ℕ) (head left : List ℕ) (i : ℕ) : Typ
   pub not-last : t < maxFinish
 
 -- what holds at the beginning of tick t
-pub record Filling (n tasks : ℕ) (task cost : List ℕ) (charge : ℕ) (ready held : List ℕ) (t wake : ℕ) (head left finish : List ℕ) : Type 0 where
-  pub can : Runnable n tasks task cost charge ready held
-  pub state : Running (jobsOf n task cost charge ready) tasks t wake head left finish held
+pub record Filling (o : Option Frame) (n tasks : ℕ) (task cost : List ℕ) (charge : ℕ) (ready held : List ℕ) (t wake : ℕ) (head left finish : List ℕ) : Type 0 where
+  pub can : Runnable o n tasks task cost charge ready held
+  pub state : Running (jobsOf o n task cost charge ready) tasks t wake head left finish held
 
-module _ (n tasks : ℕ) (task cost : List ℕ) (charge : ℕ) (ready held : List ℕ) (r : Runnable n tasks task cost charge ready held) where
-  running : Ordered (jobsOf n task cost charge ready) tasks
-  running = ordered n tasks task cost charge ready held r
+module _ (o : Option Frame) (n tasks : ℕ) (task cost : List ℕ) (charge : ℕ) (ready held : List ℕ) (r : Runnable o n tasks task cost charge ready held) where
+  running : Ordered (jobsOf o n task cost charge ready) tasks
+  running = ordered o n tasks task cost charge ready held r
 
   filling
-      : (t wake : ℕ) (head left finish : List ℕ) → Running (jobsOf n task cost charge ready) tasks t wake head left finish held
-      → Filling n tasks task cost charge ready held t wake head left finish
+      : (t wake : ℕ) (head left finish : List ℕ) → Running (jobsOf o n task cost charge ready) tasks t wake head left finish held
+      → Filling o n tasks task cost charge ready held t wake head left finish
   filling t wake head left finish s = record { can = r; state = s }
 
   -- the state before the first tick
   pub fill-start : (head left : List ℕ)
       → Holds (λ i. nextOf task n i 0) tasks 32 head
       → Holds (λ i. workOf cost charge n (getD head i 0)) tasks 32 left
-      → Filling n tasks task cost charge ready held 0 0 head left held
+      → Filling o n tasks task cost charge ready held 0 0 head left held
   fill-start head left a b =
       filling 0 0 head left held
       record {
-        heads = heads-start n tasks task cost charge ready held r head a;
-        lefts = lefts-start n tasks task cost charge ready head left b;
-        written = written-start (jobsOf n task cost charge ready) held (r .finish-long) (r .work-low);
+        heads = heads-start o n tasks task cost charge ready held r head a;
+        lefts = lefts-start o n tasks task cost charge ready head left b;
+        written = written-start (jobsOf o n task cost charge ready) held (r .finish-long) (r .work-low);
         asleep = λ p l g e. absurd (omega arith);
         wake-soon = omega arith;
         time = omega arith;
       }
 
-  module _ (t wake : ℕ) (head left finish : List ℕ) (s : Running (jobsOf n task cost charge ready) tasks t wake head left finish held) where
+  module _ (t wake : ℕ) (head left finish : List ℕ) (s : Running (jobsOf o n task cost charge ready) tasks t wake head left finish held) where
     -- a tick before the next one in which a job may run
-    pub fill-sleep : t < wake → Filling n tasks task cost charge ready held (t + 1) wake head left finish
+    pub fill-sleep : t < wake → Filling o n tasks task cost charge ready held (t + 1) wake head left finish
     fill-sleep h =
         filling (t + 1) wake head left finish
-        (tick-idle (jobsOf n task cost charge ready) tasks running t wake head left finish held s wake
-        (runs-nothing (jobsOf n task cost charge ready) t (λ q a b. s .asleep q a h (omega arith)))
-        (λ p a b. s .asleep p a h b)
+        (tick-idle (jobsOf o n task cost charge ready) tasks running t wake head left finish held s wake
+        (runs-nothing (jobsOf o n task cost charge ready) t (λ q a b. s .asleep q a h (omega arith)))
+        (λ p a g b. s .asleep p a h b)
         (s .wake-soon)
         (omega (arith, s .wake-soon)))
 
@@ -74,32 +76,32 @@ module _ (n tasks : ℕ) (task cost : List ℕ) (charge : ℕ) (ready held : Lis
         → i ≡ tasks
         → new ≡ wakeAll head ready n tasks
         → (new ≡ never → ⊥)
-        → Filling n tasks task cost charge ready held (t + 1) new head left finish
+        → Filling o n tasks task cost charge ready held (t + 1) new head left finish
     fill-idle i new e g f h = filling (t + 1) new head left finish (go (earliest-is (λ k. wakeOf ready n (getD head k 0)) tasks))
       where
-        rests : (k : ℕ) → k < tasks → May (jobsOf n task cost charge ready) t head k → ⊥
-        rests = none-found n tasks task cost charge ready head t (s .time) i e g
+        rests : (k : ℕ) → k < tasks → May (jobsOf o n task cost charge ready) t head k → ⊥
+        rests = none-found o n tasks task cost charge ready head t (s .time) i e g
 
-        early : (p : ℕ) → p < n → jobsOf n task cost charge ready .start p < new → leftAt (jobsOf n task cost charge ready) t p ≡ 0
-        early p l a =
-            let z : leftAt (jobsOf n task cost charge ready) t p ≤ 0 = le-by (leftAt (jobsOf n task cost charge ready) t p) 0 none-left in
+        early : (p : ℕ) → p < n → t + 1 < new → jobsOf o n task cost charge ready .start p < new → leftAt (jobsOf o n task cost charge ready) t p ≡ 0
+        early p l g a =
+            let z : leftAt (jobsOf o n task cost charge ready) t p ≤ 0 = le-by (leftAt (jobsOf o n task cost charge ready) t p) 0 none-left in
             omega arith
           where
-            none-left : 0 < leftAt (jobsOf n task cost charge ready) t p → ⊥
+            none-left : 0 < leftAt (jobsOf o n task cost charge ready) t p → ⊥
             none-left u =
-                let x : getD head (getD task p 0) 0 ≤ p = head-le (jobsOf n task cost charge ready) tasks running t head (s .heads) p l u in
+                let x : getD head (getD task p 0) 0 ≤ p = head-le (jobsOf o n task cost charge ready) tasks running t head (s .heads) p l u in
                 omega (
                   arith,
                   f,
                   earliest-le (λ k. wakeOf ready n (getD head k 0)) tasks (getD task p 0) (r .known p l),
                   wake-in ready n (getD head (getD task p 0) 0) (omega arith),
-                  head-start (jobsOf n task cost charge ready) tasks running t head (s .heads) p l u,
+                  head-start (jobsOf o n task cost charge ready) tasks running t head (s .heads) p l u,
                 )
 
-        wakes : (k : ℕ) → k < tasks → new ≡ wakeOf ready n (getD head k 0) → Running (jobsOf n task cost charge ready) tasks (t + 1) new head left finish held
+        wakes : (k : ℕ) → k < tasks → new ≡ wakeOf ready n (getD head k 0) → Running (jobsOf o n task cost charge ready) tasks (t + 1) new head left finish held
         wakes k l x =
-            tick-idle (jobsOf n task cost charge ready) tasks running t wake head left finish held s new
-            (runs-idle (jobsOf n task cost charge ready) tasks running t head (s .heads) rests)
+            tick-idle (jobsOf o n task cost charge ready) tasks running t wake head left finish held s new
+            (runs-idle (jobsOf o n task cost charge ready) tasks running t head (s .heads) rests)
             early
             (omega (arith, before-end))
             (omega (arith, before-end, later))
@@ -107,70 +109,83 @@ module _ (n tasks : ℕ) (task cost : List ℕ) (charge : ℕ) (ready held : Lis
             inside : getD head k 0 < n
             inside = le-by (suc (getD head k 0)) n (λ a. h (x ∙ wake-out ready n (getD head k 0) (omega arith)))
 
-            at : new ≡ jobsOf n task cost charge ready .start (getD head k 0)
+            at : new ≡ jobsOf o n task cost charge ready .start (getD head k 0)
             at = x ∙ wake-in ready n (getD head k 0) inside
 
             before-end : new ≤ maxFinish
-            before-end = omega (arith, at, start-soon (jobsOf n task cost charge ready) tasks running (getD head k 0) inside)
+            before-end = omega (arith, at, start-soon (jobsOf o n task cost charge ready) tasks running (getD head k 0) inside)
 
             later : t < new
             later = le-by (suc t) new (λ a. rests k l (inside, omega (arith, at)))
 
         go : (wakeAll head ready n tasks ≡ never) ⊎ ((k : ℕ) × (k < tasks) × (wakeAll head ready n tasks ≡ wakeOf ready n (getD head k 0)))
-            → Running (jobsOf n task cost charge ready) tasks (t + 1) new head left finish held
+            → Running (jobsOf o n task cost charge ready) tasks (t + 1) new head left finish held
         go (inl x) = absurd (h (f ∙ x))
         go (inr (k, l, x)) = wakes k l (f ∙ x)
 
-    -- the job that runs, where one may
-    pub fill-top : (i : ℕ) → i ≡ topReady head ready n tasks t → (i ≡ tasks → ⊥) → Top (jobsOf n task cost charge ready) tasks t head left i
-    fill-top i e g =
-        record {
-          task-in = l;
-          inside = m .0;
-          picked = runs-head (jobsOf n task cost charge ready) tasks running t head (s .heads) i l m (none-above n tasks task cost charge ready head t (s .time) i e);
-          some-left = omega (arith, s .lefts .each i l (m .0), s .heads .unfinished i l (m .0));
-          not-last = not-over (jobsOf n task cost charge ready) tasks running t (getD head i 0) (m .0) (s .heads .unfinished i l (m .0));
-        }
-      where
-        found : (i < tasks) × May (jobsOf n task cost charge ready) t head i
-        found = one-found n tasks task cost charge ready head t (s .time) i e g
+    -- some job may run
+    module _ (i : ℕ) (e : i ≡ topReady head ready n tasks t) (g : i ≡ tasks → ⊥) where
+      found : (i < tasks) × May (jobsOf o n task cost charge ready) t head i
+      found = one-found o n tasks task cost charge ready head t (s .time) i e g
 
-        l : i < tasks
-        l = found .0
+      unfinished : 0 < leftAt (jobsOf o n task cost charge ready) t (getD head i 0)
+      unfinished = s .heads .unfinished i (found .0) (found .1 .0)
 
-        m : May (jobsOf n task cost charge ready) t head i
-        m = found .1
+      pub some-soon : t < maxFinish
+      some-soon = not-over (jobsOf o n task cost charge ready) tasks running t (getD head i 0) (found .1 .0) unfinished
+
+      -- the tick is not ours
+      pub fill-off : wake ≤ t → oursIn o t ≡ false → Filling o n tasks task cost charge ready held (t + 1) wake head left finish
+      fill-off a h =
+          filling (t + 1) wake head left finish
+          (tick-idle (jobsOf o n task cost charge ready) tasks running t wake head left finish held s wake
+          (runs-off (jobsOf o n task cost charge ready) t h)
+          (λ p l b d. absurd (omega arith))
+          (s .wake-soon)
+          some-soon)
+
+      -- it is ours: the job that runs
+      pub fill-top : oursIn o t ≡ true → Top (jobsOf o n task cost charge ready) tasks t head left i
+      fill-top h =
+          record {
+            task-in = found .0;
+            inside = found .1 .0;
+            picked = runs-head (jobsOf o n task cost charge ready) tasks running t head (s .heads) h i (found .0) (found .1)
+                (none-above o n tasks task cost charge ready head t (s .time) i e);
+            some-left = omega (arith, s .lefts .each i (found .0) (found .1 .0), unfinished);
+            not-last = some-soon;
+          }
 
     -- that job is not finished after the tick
     pub fill-run : (i rest : ℕ)
-        → Top (jobsOf n task cost charge ready) tasks t head left i
+        → Top (jobsOf o n task cost charge ready) tasks t head left i
         → wake ≤ t
         → rest ≡ getD left i 0 - 1
         → (rest ≡ 0 → ⊥)
-        → Filling n tasks task cost charge ready held (t + 1) wake head (set left i rest) finish
+        → Filling o n tasks task cost charge ready held (t + 1) wake head (set left i rest) finish
     fill-run i rest k a b d =
         filling (t + 1) wake head (set left i rest) finish
-        (tick-run (jobsOf n task cost charge ready) tasks running t wake head left finish held s i (k .task-in) (k .inside) (k .picked) a rest b (omega (arith, d)))
+        (tick-run (jobsOf o n task cost charge ready) tasks running t wake head left finish held s i (k .task-in) (k .inside) (k .picked) a rest b (omega (arith, d)))
 
     -- it is finished after the tick
     pub fill-done : (i rest next work : ℕ)
-        → Top (jobsOf n task cost charge ready) tasks t head left i
+        → Top (jobsOf o n task cost charge ready) tasks t head left i
         → wake ≤ t
         → rest ≡ getD left i 0 - 1
         → rest ≡ 0
         → next ≡ nextOf task n i (getD head i 0 + 1)
         → work ≡ workOf cost charge n next
-        → Filling n tasks task cost charge ready held (t + 1) wake (set head i next) (set left i work) (set finish (getD head i 0) (t + 1))
+        → Filling o n tasks task cost charge ready held (t + 1) wake (set head i next) (set left i work) (set finish (getD head i 0) (t + 1))
     fill-done i rest next work k a b d g c =
         filling (t + 1) wake (set head i next) (set left i work) (set finish (getD head i 0) (t + 1))
-        (tick-finish (jobsOf n task cost charge ready) tasks running t wake head left finish held s i (k .task-in) (k .inside) (k .picked) a rest next work b d g
+        (tick-finish (jobsOf o n task cost charge ready) tasks running t wake head left finish held s i (k .task-in) (k .inside) (k .picked) a rest next work b d g
         (λ l. c ∙ work-in cost charge n next l))
 
     -- every job is finished: the column
-    pub fill-end : wakeAll head ready n tasks ≡ never → finish ≡ table (finishOf (jobsOf n task cost charge ready)) n ++ drop n held
+    pub fill-end : wakeAll head ready n tasks ≡ never → finish ≡ table (finishOf (jobsOf o n task cost charge ready)) n ++ drop n held
     fill-end e =
-        written-end (jobsOf n task cost charge ready) t finish held (s .written)
-        (all-finished (jobsOf n task cost charge ready) tasks running t head (s .heads) none-left)
+        written-end (jobsOf o n task cost charge ready) t finish held (s .written)
+        (all-finished (jobsOf o n task cost charge ready) tasks running t head (s .heads) none-left)
       where
         none-left : (k : ℕ) → k < tasks → n ≤ getD head k 0
         none-left k l =
@@ -180,5 +195,5 @@ module _ (n tasks : ℕ) (task cost : List ℕ) (charge : ℕ) (ready held : Lis
               earliest-le (λ x. wakeOf ready n (getD head x 0)) tasks k l,
               wake-in ready n (getD head k 0) a,
               start-soon
-                  (jobsOf n task cost charge ready) tasks running (getD head k 0) a,
+                  (jobsOf o n task cost charge ready) tasks running (getD head k 0) a,
             ))

@@ -7,7 +7,9 @@ use native.Mathlib.Omega.{arith}
 use lib.ListN.{getD, set}
 use lib.Dec.{eqb}
 use Rattle.model.specs.Run.{Jobs, leftAt, runs}
-use Rattle.theory.proofs.WorkLaws.{supply-all}
+use Rattle.model.proofs.SupplyLaws.{supply-none, supply-high, supply-some}
+use Rattle.theory.proofs.JobWindows.{supply}
+use Rattle.theory.proofs.RunLaws.{runs-some}
 use Rattle.theory.proofs.JumpLaws.{Keeps, left-rests, left-keeps, left-others, finish-keeps}
 use Rattle.queues.specs.Queues.{maxFinish, firstFrom}
 use Rattle.queues.proofs.HeadLaws.{Ordered, Heads, not-over, heads-rest, heads-run, heads-done}
@@ -29,10 +31,10 @@ one : (j : Jobs) (t : ℕ) (o : Option ℕ) → runs j t ≡ o → (n : ℕ) →
 one j t o h n l = let e : t + n ≡ t = omega arith in rw e h
 
 module _ (j : Jobs) (tasks : ℕ) (o : Ordered j tasks) (t wake : ℕ) (head left finish held : List ℕ) (s : Running j tasks t wake head left finish held) where
-  -- a tick in which no job runs; no unfinished job may run before the new wake
+  -- a tick in which no job runs; no unfinished job may run before the new wake, where that is later
   pub tick-idle : (new : ℕ)
       → runs j t ≡ none
-      → ((p : ℕ) → p < j .count → j .start p < new → leftAt j t p ≡ 0)
+      → ((p : ℕ) → p < j .count → t + 1 < new → j .start p < new → leftAt j t p ≡ 0)
       → new ≤ maxFinish
       → t < maxFinish
       → Running j tasks (t + 1) new head left finish held
@@ -41,7 +43,7 @@ module _ (j : Jobs) (tasks : ℕ) (o : Ordered j tasks) (t wake : ℕ) (head lef
         heads = heads-rest j tasks o t head (s .heads) (t + 1) same;
         lefts = lefts-rest j tasks o t head left (s .heads) (s .lefts) (t + 1) same;
         written = written-rest j t finish held (s .written) (t + 1) same;
-        asleep = λ p l g e. same p ∙ a p l e;
+        asleep = λ p l g e. same p ∙ a p l g e;
         wake-soon = b;
         time = omega arith;
       }
@@ -54,11 +56,21 @@ module _ (j : Jobs) (tasks : ℕ) (o : Ordered j tasks) (t wake : ℕ) (head lef
     keeps : Keeps j t (getD head i 0) 1
     keeps n l e = one j t (some (getD head i 0)) h n l
 
+    -- it is ours
+    ours-one : supply j t 1 ≡ 1
+    ours-one =
+        let z : t + 0 ≡ t = omega arith in
+        omega (
+          arith,
+          supply-some (j .ours) t 1 0 (omega arith) (rw z (runs-some j t (getD head i 0) h .is-ours)),
+          supply-high (j .ours) t 1,
+        )
+
     is-left : getD left i 0 ≡ leftAt j t (getD head i 0)
     is-left = s .lefts .each i hi inside
 
     ran : leftAt j (t + 1) (getD head i 0) + 1 ≡ getD left i 0
-    ran = omega (arith, left-keeps j t (getD head i 0) 1 keeps, supply-all j t (o .all) 1, is-left)
+    ran = omega (arith, left-keeps j t (getD head i 0) 1 keeps, ours-one, is-left)
 
     unfinished-yet : t < maxFinish
     unfinished-yet = not-over j tasks o t (getD head i 0) inside (omega (arith, ran, is-left))
@@ -90,7 +102,9 @@ module _ (j : Jobs) (tasks : ℕ) (o : Ordered j tasks) (t wake : ℕ) (head lef
           heads = heads-done j tasks o t head (s .heads) (t + 1) i (getD head i 0) hi refl inside other gone next f;
           lefts = lefts-done j tasks o t head left (s .heads) (s .lefts) (t + 1) i hi inside other gone next work f c;
           written = written-done j t finish held (s .written) (t + 1) (getD head i 0) other inside
-              (finish-keeps j (o .all) t (getD head i 0) 1 inside (o .some-work (getD head i 0) inside) (omega arith) keeps (omega (arith, ran, is-left)));
+              (finish-keeps j (o .served) t (getD head i 0) 1 inside (o .some-work (getD head i 0) inside) (omega arith) keeps
+              (omega (arith, supply-none (j .ours) t, ran, is-left))
+              (omega (arith, ours-one, ran, is-left)));
           asleep = λ q l g x. absurd (omega arith);
           wake-soon = s .wake-soon;
           time = omega (arith, unfinished-yet);

@@ -1,4 +1,7 @@
-// The run, tick by tick: in each tick, of the jobs that were ready before it and are unfinished, the highest-priority task's oldest job runs.
+// The run, tick by tick: in each tick of ours, of the jobs that were ready before it and are unfinished, the highest-priority task's oldest
+// job runs.
+use frame::Frame;
+use frame::is_ours;
 use queues::NEVER;
 use queues::first_jobs;
 use queues::first_work;
@@ -17,12 +20,19 @@ ghost use Rattle.model.specs.Checks.{refusalOf};
 ghost use Rattle.model.specs.Ready.{readyList};
 ghost use Rattle.model.specs.Run.{finishOf, finishList};
 ghost use Rattle.model.specs.Calls.{releasesOf, columnAfter, runInputs};
-ghost use Rattle.taskset.specs.TaskSet.{viewOf, refusalIn};
+ghost use Rattle.taskset.specs.TaskSet.{refusalIn};
+ghost use Rattle.frame.specs.FrameView.{framedOf};
+ghost use Rattle.frame.specs.WindowColumns.{columnFrame, FrameColumns};
 ghost use Rattle.queues.specs.Queues.{jobsOf, Runnable};
 
-// The finish ticks of the run of n jobs, in the first n slots of the column lent. `head` has the oldest unfinished job of each task, `left`
-// the ticks of work that it has left; before tick `wake` no unfinished job may run.
+// The finish ticks of the run of n jobs in a frame, if any, in the first n slots of the column lent. `head` has the oldest unfinished job of
+// each task, `left` the ticks of work that it has left; before tick `wake` no unfinished job may run.
 fn fill_finish(
+    framed: bool,
+    ticks: u32,
+    windows: usize,
+    first: &[u32],
+    size: &[u32],
     task: &[u32],
     cost: &[u32],
     charge: u32,
@@ -31,10 +41,13 @@ fn fill_finish(
     tasks: usize,
     finish: &mut [u64],
 )
-    requires { ⌜ Runnable n tasks (now task) (now cost) charge (now ready) (now finish) ⌝ }
+    requires { ⌜ FrameColumns framed ticks windows (now first) (now size) ⌝ }
+    requires { ⌜ Runnable (columnFrame framed ticks windows (now first) (now size)) n tasks (now task) (now cost) charge (now ready) (now finish) ⌝ }
     ensures { λ _. ⌜
         now (finish .exit)
-        ≡ table (finishOf (jobsOf n (now (task .entry)) (now (cost .entry)) charge (now (ready .entry)))) n ++ drop n (now (finish .entry))
+        ≡ table (finishOf (jobsOf (columnFrame framed ticks windows (now (first .entry)) (now (size .entry))) n (now (task .entry)) (now (cost .entry)) charge
+        (now (ready .entry)))) n
+        ++ drop n (now (finish .entry))
         ⌝ }
 {
     let mut head = first_jobs(task, n, tasks);
@@ -55,6 +68,12 @@ fn fill_finish(
             t += 1;
             continue;
         }
+        if framed {
+            if !is_ours(framed, ticks, windows, first, size, t) {
+                t += 1;
+                continue;
+            }
+        }
         let rest = left[i] - 1;
         t += 1;
         if rest != 0 {
@@ -69,10 +88,11 @@ fn fill_finish(
     }
 }
 
-// The run of a list of releases with kept jitters: ready and finish ticks are written to the first slots of the two columns. A refusal
-// has document 01's number and place, and leaves both columns as they were.
+// The run of a list of releases with kept jitters, in a frame, if any: ready and finish ticks are written to the first slots of the two
+// columns. A refusal has the documents' number and place, and leaves both columns as they were.
 pub fn run(
     s: TaskSet,
+    f: Frame,
     kept: &[u32],
     count: usize,
     task: &[u32],
@@ -83,28 +103,44 @@ pub fn run(
 ) -> Checked
     ensures refusal { λ r. ⌜
         refusalIn r
-        ≡ refusalOf (runInputs (viewOf s) (now (kept .entry)) count (now (task .entry)) (now (tick .entry)) (now (cost .entry)) (now (ready .entry))
+        ≡ refusalOf (runInputs (framedOf s f) (now (kept .entry)) count (now (task .entry)) (now (tick .entry)) (now (cost .entry)) (now (ready .entry))
         (now (finish .entry)))
         ⌝ }
     ensures ticks { λ r. ⌜
         now (ready .exit)
         ≡ columnAfter (refusalOf
-        (runInputs (viewOf s) (now (kept .entry)) count (now (task .entry)) (now (tick .entry)) (now (cost .entry)) (now (ready .entry)) (now (finish .entry))))
-        (readyList (viewOf s) (column (now (kept .entry))) (releasesOf count (now (task .entry)) (now (tick .entry)) (now (cost .entry)))) (now (ready .entry))
+        (runInputs (framedOf s f) (now (kept .entry)) count (now (task .entry)) (now (tick .entry)) (now (cost .entry)) (now (ready .entry)) (now (finish .entry))))
+        (readyList (framedOf s f) (column (now (kept .entry))) (releasesOf count (now (task .entry)) (now (tick .entry)) (now (cost .entry)))) (now (ready .entry))
         ⌝ }
     ensures finishes { λ r. ⌜
         now (finish .exit)
         ≡ columnAfter (refusalOf
-        (runInputs (viewOf s) (now (kept .entry)) count (now (task .entry)) (now (tick .entry)) (now (cost .entry)) (now (ready .entry)) (now (finish .entry))))
-        (finishList (viewOf s) (column (now (kept .entry))) (releasesOf count (now (task .entry)) (now (tick .entry)) (now (cost .entry)))) (now (finish .entry))
+        (runInputs (framedOf s f) (now (kept .entry)) count (now (task .entry)) (now (tick .entry)) (now (cost .entry)) (now (ready .entry)) (now (finish .entry))))
+        (finishList (framedOf s f) (column (now (kept .entry))) (releasesOf count (now (task .entry)) (now (tick .entry)) (now (cost .entry)))) (now (finish .entry))
         ⌝ }
 {
-    let checked = trace::check_and_shape(s, kept, count, task, tick, cost, ready, finish.len());
+    let checked = queues::check_and_shape(s, f, kept, count, task, tick, cost, ready, finish.len());
     let Checked::Fine = checked else {
         return checked;
     };
     let tasks = s.count;
     let charge = s.charge as u32;
-    fill_finish(task, cost, charge, ready, count, tasks, finish);
+    let supply = frame::supply_of(f);
+    let first = supply.first;
+    let size = supply.size;
+    fill_finish(
+        supply.framed,
+        supply.ticks,
+        supply.count,
+        &first,
+        &size,
+        task,
+        cost,
+        charge,
+        ready,
+        count,
+        tasks,
+        finish,
+    );
     Checked::Fine
 }

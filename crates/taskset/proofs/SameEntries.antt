@@ -19,6 +19,7 @@ module _ (s s′ : TaskSet) (count : s .count ≡ s′ .count) (charge : s .char
         deadline = λ i l. ap (λ t. t .deadline) (entries i l);
         low = λ i l. ap (λ t. t .low) (entries i l);
         charge = charge;
+        frame = tt;
       }
 
   -- .. and get the same answer of every call

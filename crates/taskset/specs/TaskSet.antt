@@ -17,7 +17,7 @@ noTask = record { period = 0; jitter = 0; cost = 0; deadline = 0; low = false }
 abbrev pub entryOf : TaskSet → ℕ → Task
 entryOf s i = getD (s .tasks) i noTask
 
--- the sheet of a task set
+-- the sheet of a task set, without a frame
 abbrev pub viewOf : TaskSet → Tasks
 viewOf s = record {
   count = s .count;
@@ -27,6 +27,7 @@ viewOf s = record {
   deadline = λ i. entryOf s i .deadline;
   low = λ i. entryOf s i .low;
   charge = s .charge;
+  frame = none;
 }
 
 -- the refusal that an answer of a check holds, if any

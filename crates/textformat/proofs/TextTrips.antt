@@ -13,6 +13,7 @@ use Rattle.model.specs.Limits.{maxTasks}
 use Rattle.model.specs.Tasks.{Valid}
 use Rattle.model.specs.Refusal.{refused, answered}
 use Rattle.model.specs.Checks.{inRange, carries, entryFault}
+use Rattle.model.proofs.FrameLaws.{unframed-ruled}
 use Rattle.model.proofs.CheckLaws.{both, in-range-yes, valid-of, valid-passes}
 use Rattle.model.proofs.ChargeLaws.{entry-uncharged}
 use Rattle.taskset.specs.declared.Task.{Task}
@@ -268,6 +269,7 @@ loads-valid ts l us (ends vs h) r f =
       few-tasks = f;
       in-range = r;
       carried = λ i g. record { load-period = omega (arith, r i g .cost-period); load-deadline = omega (arith, r i g .cost-deadline) };
+      framed = unframed-ruled;
     }
 loads-valid ts l us (takes vs x m ws k n) r f =
     loads-valid (vs ++ (taskIn x ∷ [])) m ws n (all-more Ranged vs (taskIn x) r (task-ranged 0 _ 0 (taskIn x) (k .fine)))

@@ -1,17 +1,17 @@
--- Where every tick is ours: a bound of every finish, from bounds of the work and of the start ticks of the jobs.
+-- Where every turn has a tick of ours: a bound of every finish, from bounds of the work and of the start ticks of the jobs.
 use Prim.Native.Nat.{ℕ, zero, suc, _+_, _*_, _≤_, _<_}
 use mathlib.Core.Path.{_≡_, refl}
 use mathlib.Core.Bool.{Bool, true, false, not}
-use native.Mathlib.Nat.{mul-zero, mul-le-mul-left}
+use native.Mathlib.Nat.{mul-zero, mul-le-mul-left, mul-le-mul-right}
 use native.Mathlib.Omega.{arith}
 use borrow.Author.Tests.{eqb-true, lt-ltb}
 use lib.Dec.{ltb, eqb}
 use Rattle.model.specs.Series.{on, sum}
 use Rattle.model.specs.Run.{Jobs, finishOf}
 use Rattle.model.proofs.SeriesLaws.{le-by, sum-le, sum-longer}
-use Rattle.theory.proofs.JobWindows.{place, rest, AllOurs}
+use Rattle.theory.proofs.JobWindows.{place, rest, Served}
 use Rattle.theory.proofs.WorkLaws.{Latest, latest}
-use Rattle.theory.proofs.FinishLaws.{every, rest-done, finish-by}
+use Rattle.theory.proofs.FinishLaws.{every, turn-some, rest-done, finish-by}
 use Rattle.theory.proofs.FitsOfJobs.{Lead, lead-of}
 
 -- X for each member of a set, and terms of at most X for the others
@@ -57,21 +57,22 @@ module _ (j : Jobs) (T X : ℕ) where
                 sum-longer (λ q. on (ltb (j .start q) u) 1) (m .job) (j .count) (omega (arith, m .job-le)),
               )
 
-  -- jobs of which that holds, each of work X or less: every finish is at most T + X × the number of jobs
+  -- jobs of which that holds, each of work X or less: every finish is at most T + X turns for each job
   pub finish-high
-      : AllOurs j
+      : Served j
       → ((p : ℕ) → p < j .count → j .work p ≤ X)
       → ((u p : ℕ) → p < j .count → u ≤ j .start p → u ≤ T + X * startedBy j u)
       → (p : ℕ)
       → p < j .count
       → 1 ≤ j .work p
-      → finishOf j p ≤ T + X * j .count
+      → finishOf j p ≤ T + X * j .count * j .turn
   unfolding startedBy rest
-  finish-high all small high p h l =
+  finish-high served small high p h l =
       let k : Latest j every (j .start p) = latest j every (j .start p) in
       omega (
         arith,
-        finish-by j all p h l (k .tick + rest j (k .tick)) (rest-done j all p h l k),
+        finish-by j served p h l (k .tick + rest j (k .tick) * j .turn) (rest-done j served p h l k),
         high (k .tick) p h (k .before),
-        parts-le (λ q. ltb (j .start q) (k .tick)) (j .work) X (j .count) small,
+        mul-le-mul-left (X * startedBy j (k .tick)) (turn-some j served),
+        mul-le-mul-right (j .turn) (parts-le (λ q. ltb (j .start q) (k .tick)) (j .work) X (j .count) small),
       )

@@ -1,19 +1,20 @@
--- Laws of finish: where every tick is ours, each job finishes, and it is finished from its finish on and not before.
-use Prim.Native.Nat.{ℕ, zero, suc, _+_, _≤_, _<_}
+-- Laws of finish: where every turn has a tick of ours, each job finishes, and it is finished from its finish on and not before.
+use Prim.Native.Nat.{ℕ, zero, suc, _+_, _*_, _≤_, _<_}
 use mathlib.Core.Path.{_≡_, refl, sym, ap}
 use mathlib.Core.Bool.{Bool, true, false, not}
 use mathlib.Core.Option.{Option, some, none}
 use mathlib.Core.Logic.{_⊎_, inl, inr}
-use native.Mathlib.Nat.{eq-zero-or-pos}
+use native.Mathlib.Nat.{eq-zero-or-pos, mul-le-mul, mul-le-mul-right}
 use native.Mathlib.Omega.{arith}
 use borrow.Author.Tests.{eq-eqb, eqb-true, le-ltb}
 use lib.Dec.{ltb}
 use Rattle.model.specs.Series.{on, sum, most}
 use Rattle.model.specs.Run.{Jobs, leftAt, runs, isJob, runsIn, endOf, finishOf}
 use Rattle.model.proofs.SeriesLaws.{le-by, le-or-lt, clash, on-true, on-nil, on-le, sum-add, sum-ge, most-ge, most-le}
-use Rattle.theory.proofs.JobWindows.{AllOurs, supply, came, rest}
+use Rattle.model.proofs.SupplyLaws.{supply-high, supply-stretches}
+use Rattle.theory.proofs.JobWindows.{Served, supply, came, rest}
 use Rattle.theory.proofs.RunLaws.{runs-some, left-zero, left-ran, left-later, finished-rests}
-use Rattle.theory.proofs.WorkLaws.{supply-all, busy, Latest, latest, latest-done}
+use Rattle.theory.proofs.WorkLaws.{busy, Latest, latest, latest-done}
 
 -- all jobs
 abbrev pub every : ℕ → Bool
@@ -81,26 +82,42 @@ module _ (j : Jobs) (p : ℕ) where
       high : most (λ t. on (runsIn j p t) (suc t)) (endOf j) ≤ suc u
       high = most-le _ (endOf j) (suc u) (λ t a. small t (le-or-lt t u))
 
-module _ (j : Jobs) (all : AllOurs j) (p : ℕ) (hp : p < j .count) (h1 : 1 ≤ j .work p) where
-  -- from the last tick up to its start at which nothing is behind, the work that starts later is time enough for a job to finish
-  pub rest-done : (k : Latest j every (j .start p)) → leftAt j (k .tick + rest j (k .tick)) p ≡ 0
+-- such a turn has a tick
+pub turn-some : (j : Jobs) → Served j → 1 ≤ j .turn
+turn-some j served = omega (arith, served 0, supply-high (j .ours) 0 (j .turn))
+
+module _ (j : Jobs) (served : Served j) (p : ℕ) (hp : p < j .count) (h1 : 1 ≤ j .work p) where
+  -- from the last tick up to its start at which nothing is behind, a turn for each tick of the work that starts later is time enough for a job to finish
+  pub rest-done : (k : Latest j every (j .start p)) → leftAt j (k .tick + rest j (k .tick) * j .turn) p ≡ 0
   unfolding rest
-  rest-done k = latest-done j every p hp refl k (rest j (k .tick)) (busy j every (λ a b e f. refl) (k .tick) (rest j (k .tick)) (k .quiet) long enough)
+  rest-done k =
+      latest-done j every p hp refl k (rest j (k .tick) * j .turn)
+      (busy j every (λ a b e f. refl) (k .tick) (rest j (k .tick) * j .turn) (k .quiet) long enough)
     where
-      long : 0 < rest j (k .tick)
-      long =
+      work : 1 ≤ rest j (k .tick)
+      work =
           let e : on (not (ltb (j .start p) (k .tick))) (j .work p) ≡ j .work p = rw (le-ltb (j .start p) (k .tick) (k .before)) (on-true true (j .work p) refl) in
           omega (arith, sum-ge (λ q. on (not (ltb (j .start q) (k .tick))) (j .work q)) (j .count) p hp)
 
-      enough : came j every (k .tick + rest j (k .tick)) ≤ came j every (k .tick) + supply j (k .tick) (rest j (k .tick))
-      enough = omega (arith, all-work j (k .tick), all-work j (k .tick + rest j (k .tick)), supply-all j (k .tick) all (rest j (k .tick)))
+      long : 0 < rest j (k .tick) * j .turn
+      long = omega (arith, mul-le-mul {n₁ = 1} {m₁ = 1} {n₂ = rest j (k .tick)} {m₂ = j .turn} work (turn-some j served))
+
+      enough : came j every (k .tick + rest j (k .tick) * j .turn) ≤ came j every (k .tick) + supply j (k .tick) (rest j (k .tick) * j .turn)
+      enough =
+          omega (
+            arith,
+            all-work j (k .tick),
+            all-work j (k .tick + rest j (k .tick) * j .turn),
+            supply-stretches (j .ours) (j .turn) served (k .tick) (rest j (k .tick)),
+          )
 
   -- every job finishes
   pub all-done : (t : ℕ) → endOf j ≤ t → leftAt j t p ≡ 0
   unfolding endOf
   all-done t h =
       let k : Latest j every (j .start p) = latest j every (j .start p) in
-      left-later j (k .tick + rest j (k .tick)) t p (omega (arith, k .before, most-ge (j .start) (j .count) p hp, all-work j (k .tick))) (rest-done k)
+      let r : rest j (k .tick) * j .turn ≤ sum (j .work) (j .count) * j .turn = mul-le-mul-right (j .turn) (omega (arith, all-work j (k .tick))) in
+      left-later j (k .tick + rest j (k .tick) * j .turn) t p (omega (arith, k .before, most-ge (j .start) (j .count) p hp)) (rest-done k)
 
   -- the last tick it ran, plus 1
   pub finish-ran : (u : ℕ) × (finishOf j p ≡ suc u) × LastTick j p u

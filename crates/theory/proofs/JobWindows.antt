@@ -5,24 +5,20 @@ use mathlib.Core.Bool.{Bool, true, false, _&&_, _||_, not}
 use mathlib.Core.Option.{Option, some, none}
 use lib.Dec.{leb, ltb, eqb}
 use Rattle.model.specs.Series.{on, sum}
+use Rattle.model.specs.Frame as Frame
 use Rattle.model.specs.Run.{Jobs, leftAt, runs}
-use Rattle.model.specs.Claims.{ofTasks}
 
 -- the jobs of task i among the first n
 unfoldable pub place : (ℕ → ℕ) → ℕ → ℕ → ℕ
 place task i n = sum (λ p. on (eqb (task p) i) 1) n
 
 -- the ticks of ours among the t from s on
-unfoldable pub supply : Jobs → ℕ → ℕ → ℕ
-supply j s t = sum (λ n. on (j .ours (s + n)) 1) t
+abbrev pub supply : Jobs → ℕ → ℕ → ℕ
+supply j = Frame.supply (j .ours)
 
--- of the t ticks from u on, those in which no job of such a task runs
-unfoldable pub spareBy : Jobs → (ℕ → Bool) → ℕ → ℕ → ℕ
-spareBy j us u t = sum (λ n. on (not (ofTasks us j (runs j (u + n)))) 1) t
-
--- every tick is ours
-abbrev pub AllOurs : Jobs → Type 0
-AllOurs j = (t : ℕ) → j .ours t ≡ true
+-- of a turn of ticks in a row, from any tick on, one at least is ours
+abbrev pub Served : Jobs → Type 0
+Served j = (u : ℕ) → 1 ≤ supply j u (j .turn)
 
 -- a job of task i starts at least g k after the one k places before it
 abbrev pub Spaced : Jobs → ℕ → (ℕ → ℕ) → Type 0

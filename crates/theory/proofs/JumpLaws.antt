@@ -7,13 +7,12 @@ use mathlib.Core.Option.{some, none, Option·some-injective}
 use native.Mathlib.Omega.{arith}
 use lib.Dec.{eqb}
 use borrow.Author.Tests.{eqb-true, eqb-false}
-use Rattle.model.specs.Series.{on, sum}
 use Rattle.model.specs.Run.{Jobs, leftAt, runs, finishOf}
 use Rattle.model.proofs.SeriesLaws.{below-suc, le-by, on-true, on-false}
-use Rattle.theory.proofs.JobWindows.{AllOurs, Before, supply}
-use Rattle.theory.proofs.RunLaws.{none-some, runs-off, runs-is, runs-nothing, runs-or, left-same, left-other, left-later}
-use Rattle.theory.proofs.WorkLaws.{supply-all}
-use Rattle.theory.proofs.FinishLaws.{LastTick, finish-ran, finish-done, finish-not, finish-last}
+use Rattle.model.proofs.SupplyLaws.{supply-none, supply-next}
+use Rattle.theory.proofs.JobWindows.{Served, Before, supply}
+use Rattle.theory.proofs.RunLaws.{none-some, runs-some, runs-off, runs-is, runs-nothing, runs-or, left-same, left-other, left-later}
+use Rattle.theory.proofs.FinishLaws.{LastTick, finish-ran, finish-by, finish-done, finish-not}
 
 -- one number is another or is not
 pub same-or : (p q : ℕ) → (p ≡ q) ⊎ (p ≡ q → ⊥)
@@ -36,14 +35,6 @@ module _ (j : Jobs) (t : ℕ) where
   abbrev pub NoStart : ℕ → Type 0
   NoStart k = (q : ℕ) → q < j .count → t < j .start q → t + k ≤ j .start q
 
-  supply-next : (k : ℕ) → supply j t (suc k) ≡ supply j t k + on (j .ours (t + k)) 1
-  unfolding supply sum
-  supply-next k = refl
-
-  supply-none : supply j t 0 ≡ 0
-  unfolding supply sum
-  supply-none = refl
-
   -- what is left after ticks in which no job runs
   pub left-rests : (k : ℕ) → Rests k → (q : ℕ) → leftAt j (t + k) q ≡ leftAt j t q
   left-rests zero r q = ap (λ n. leftAt j n q) (omega arith)
@@ -53,15 +44,15 @@ module _ (j : Jobs) (t : ℕ) where
 
   -- what is left after ticks in which job p keeps the processor: it ran in those that are ours, and every other job has what it had
   pub left-keeps : (p k : ℕ) → Keeps p k → leftAt j (t + k) p + supply j t k ≡ leftAt j t p
-  left-keeps p zero h = let e : t + 0 ≡ t = omega arith in rw e (omega (arith, supply-none))
+  left-keeps p zero h = let e : t + 0 ≡ t = omega arith in rw e (omega (arith, supply-none (j .ours) t))
   left-keeps p (suc k) h = let e : t + suc k ≡ suc (t + k) = omega arith in rw e (go (j .ours (t + k)) refl (left-keeps p k (λ n l. h n (omega arith))))
     where
       go : (b : Bool) → j .ours (t + k) ≡ b → leftAt j (t + k) p + supply j t k ≡ leftAt j t p → leftAt j (suc (t + k)) p + supply j t (suc k) ≡ leftAt j t p
-      go true o i = omega (arith, supply-next k, on-true (j .ours (t + k)) 1 o, left-same j (t + k) p (h k (omega arith) o))
+      go true o i = omega (arith, supply-next (j .ours) t k, on-true (j .ours (t + k)) 1 o, left-same j (t + k) p (h k (omega arith) o))
       go false o i =
           omega (
             arith,
-            supply-next k,
+            supply-next (j .ours) t k,
             on-false (j .ours (t + k)) 1 o,
             left-other j (t + k) p (λ g. none-some p (sym (runs-off j (t + k) o) ∙ g)),
           )
@@ -77,16 +68,17 @@ module _ (j : Jobs) (t : ℕ) where
           go true o = n (Option·some-injective q p (sym g ∙ h k (omega arith) o))
           go false o = none-some q (sym (runs-off j (t + k) o) ∙ g)
 
-  -- in any k ticks a job does at most k ticks of work
-  left-slow : (p k : ℕ) → leftAt j t p ≤ leftAt j (t + k) p + k
+  -- in any k ticks a job does at most as much work as ticks are ours
+  left-slow : (p k : ℕ) → leftAt j t p ≤ leftAt j (t + k) p + supply j t k
   left-slow p zero = let e : t + 0 ≡ t = omega arith in rw e (omega arith)
   left-slow p (suc k) = let e : t + suc k ≡ suc (t + k) = omega arith in rw e (go (left-slow p k) (runs-or j (t + k) p))
     where
-      go : leftAt j t p ≤ leftAt j (t + k) p + k
+      go : leftAt j t p ≤ leftAt j (t + k) p + supply j t k
           → (runs j (t + k) ≡ some p) ⊎ (runs j (t + k) ≡ some p → ⊥)
-          → leftAt j t p ≤ leftAt j (suc (t + k)) p + suc k
-      go i (inl h) = omega (arith, left-same j (t + k) p h)
-      go i (inr h) = omega (arith, left-other j (t + k) p h)
+          → leftAt j t p ≤ leftAt j (suc (t + k)) p + supply j t (suc k)
+      go i (inl h) =
+          omega (arith, supply-next (j .ours) t k, on-true (j .ours (t + k)) 1 (runs-some j (t + k) p h .is-ours), left-same j (t + k) p h)
+      go i (inr h) = omega (arith, supply-next (j .ours) t k, left-other j (t + k) p h)
 
   -- where every job that may run is finished, none runs before one reaches its start tick
   pub rests : (k : ℕ) → NoStart k → ((q : ℕ) → q < j .count → j .start q ≤ t → leftAt j t q ≡ 0) → Rests k
@@ -98,7 +90,7 @@ module _ (j : Jobs) (t : ℕ) where
       (first : (q : ℕ) → q < j .count → j .start q ≤ t → 0 < leftAt j t q → Before (j .task) p q) where
     pub keeps : (k : ℕ) → NoStart k → supply j t k ≤ leftAt j t p → Keeps p k
     keeps zero s h = λ n l. absurd (omega arith)
-    keeps (suc k) s h = λ n l o. go n o (below-suc n k l) (keeps k earlier (omega (arith, supply-next k)))
+    keeps (suc k) s h = λ n l o. go n o (below-suc n k l) (keeps k earlier (omega (arith, supply-next (j .ours) t k)))
       where
         earlier : NoStart k
         earlier q a b = omega (arith, s q a b)
@@ -106,7 +98,7 @@ module _ (j : Jobs) (t : ℕ) where
         at : Keeps p k → j .ours (t + k) ≡ true → runs j (t + k) ≡ some p
         at i o =
             runs-is j (t + k) o p inside (omega arith)
-            (omega (arith, left-keeps p k i, supply-next k, on-true (j .ours (t + k)) 1 o))
+            (omega (arith, left-keeps p k i, supply-next (j .ours) t k, on-true (j .ours (t + k)) 1 o))
             (λ q a b d. still q a b d (same-or q p))
           where
             still : (q : ℕ) → q < j .count → j .start q ≤ t + k → 0 < leftAt j (t + k) q → (q ≡ p) ⊎ (q ≡ p → ⊥) → Before (j .task) p q
@@ -120,27 +112,26 @@ module _ (j : Jobs) (t : ℕ) where
             let g : j .ours (t + k) ≡ true = rw e at o in
             rw e (at i g)
 
--- where every tick is ours
-module _ (j : Jobs) (all : AllOurs j) (t : ℕ) where
-  -- a job that keeps the processor for its last k ticks finishes after them
-  pub finish-keeps : (p k : ℕ) → p < j .count → 1 ≤ j .work p → 1 ≤ k → Keeps j t p k → leftAt j t p ≡ k → finishOf j p ≡ t + k
-  finish-keeps p k a w l h e =
-      finish-last j all p a w (t + (k - 1)) (h (k - 1) (omega arith) (all (t + (k - 1))), done) ∙ omega arith
-    where
-      done : leftAt j (suc (t + (k - 1))) p ≡ 0
-      done = let s : suc (t + (k - 1)) ≡ t + k = omega arith in rw s (omega (arith, left-keeps j t p k h, supply-all j t all k))
+-- where every turn has a tick of ours
+module _ (j : Jobs) (served : Served j) (t : ℕ) where
+  -- a job that keeps the processor for k ticks, of which it needs the last, finishes after them
+  pub finish-keeps
+      : (p k : ℕ) → p < j .count → 1 ≤ j .work p → 1 ≤ k → Keeps j t p k → supply j t (k - 1) < leftAt j t p → leftAt j t p ≤ supply j t k
+      → finishOf j p ≡ t + k
+  finish-keeps p k a w l h low high =
+      omega (
+        arith,
+        finish-by j served p a w (t + k) (omega (arith, left-keeps j t p k h)),
+        finish-not j served p a w (t + (k - 1)) (omega (arith, left-keeps j t p (k - 1) (λ n b. h n (omega arith)))),
+      )
 
-  -- and none finishes sooner than its work left takes
-  pub finish-soonest : (p : ℕ) → p < j .count → 1 ≤ j .work p → 0 < leftAt j t p → t + leftAt j t p ≤ finishOf j p
-  finish-soonest p a w h =
-      let b : t < finishOf j p = finish-not j all p a w t h in
-      let e : t + (finishOf j p - t) ≡ finishOf j p = omega arith in
-      let z : leftAt j (t + (finishOf j p - t)) p ≡ 0 = rw e (finish-done j all p a w (finishOf j p) (omega arith)) in
-      omega (arith, left-slow j t p (finishOf j p - t))
+  -- and a job that finishes in k ticks has no more work left than ticks of them are ours
+  pub left-supplied : (p k : ℕ) → p < j .count → 1 ≤ j .work p → finishOf j p ≤ t + k → leftAt j t p ≤ supply j t k
+  left-supplied p k a w h = omega (arith, left-slow j t p k, finish-done j served p a w (t + k) h)
 
   -- a job that finishes in the k ticks from t on runs in one of them
   finish-inside : (q k : ℕ) → q < j .count → 1 ≤ j .work q → t < finishOf j q → finishOf j q ≤ t + k → (n : ℕ) × (n < k) × (runs j (t + n) ≡ some q)
-  finish-inside q k a w b d = go (finish-ran j all q a w)
+  finish-inside q k a w b d = go (finish-ran j served q a w)
     where
       go : (u : ℕ) × (finishOf j q ≡ suc u) × LastTick j q u → (n : ℕ) × (n < k) × (runs j (t + n) ≡ some q)
       go (u, e, l) = let s : t + (u - t) ≡ u = omega arith in (u - t, omega arith, ap (runs j) s ∙ l .0)
@@ -156,4 +147,4 @@ module _ (j : Jobs) (all : AllOurs j) (t : ℕ) where
   keeps-only p q k a w h b d = go (finish-inside q k a w b d)
     where
       go : (n : ℕ) × (n < k) × (runs j (t + n) ≡ some q) → q ≡ p
-      go (n, l, e) = Option·some-injective q p (sym e ∙ h n l (all (t + n)))
+      go (n, l, e) = Option·some-injective q p (sym e ∙ h n l (runs-some j (t + n) q e .is-ours))

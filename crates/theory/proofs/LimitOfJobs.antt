@@ -8,8 +8,9 @@ use native.Mathlib.Omega.{arith}
 use Rattle.model.specs.Series.{on, sum}
 use Rattle.model.specs.Run.{Jobs, runs}
 use Rattle.model.specs.Claims.{isTask, isAbove, ofTasks}
-use Rattle.model.proofs.SeriesLaws.{sum-le, sum-longer}
-use Rattle.theory.proofs.JobWindows.{supply, spareBy, Spaced, Bounded, doneBy, ofSet, ran, win, ofThose}
+use Rattle.model.proofs.SeriesLaws.{sum-longer}
+use Rattle.model.proofs.SupplyLaws.{supply-none, supply-next}
+use Rattle.theory.proofs.JobWindows.{supply, Spaced, Bounded, doneBy, ofSet, ran, win, ofThose}
 use Rattle.theory.specs.Windows.{usedBy, idleBy, Clear}
 use Rattle.theory.proofs.WorkLaws.{done-back, done-suc, back-zero}
 use Rattle.theory.proofs.LoadLaws.{came-win, win-own, win-above}
@@ -26,12 +27,6 @@ part true true = omega arith
 part true false = omega arith
 part false x = omega arith
 
--- a tick of ours that is left over is left over
-kept : (o x : Bool) → on (o && x) 1 ≤ on x 1
-unfolding on
-kept true x = omega arith
-kept false x = omega arith
-
 module _ (j : Jobs) (us : ℕ → Bool) (u : ℕ) where
   -- the ticks used are the work done
   pub used-done : (t : ℕ) → doneBy j (ofThose j us) (u + t) ≡ doneBy j (ofThose j us) u + usedBy j us u t
@@ -46,19 +41,14 @@ module _ (j : Jobs) (us : ℕ → Bool) (u : ℕ) where
 
   -- ticks of ours are used or left over
   pub supply-part : (t : ℕ) → supply j u t ≤ idleBy j us u t + usedBy j us u t
-  unfolding supply idleBy usedBy sum
-  supply-part zero = omega arith
-  supply-part (suc t) = omega (arith, supply-part t, part (j .ours (u + t)) (ofTasks us j (runs j (u + t))))
+  unfolding idleBy usedBy sum
+  supply-part zero = omega (arith, supply-none (j .ours) u)
+  supply-part (suc t) = omega (arith, supply-next (j .ours) u t, supply-part t, part (j .ours (u + t)) (ofTasks us j (runs j (u + t))))
 
   -- more ticks leave no less over
   pub idle-longer : (m n : ℕ) → m ≤ n → idleBy j us u m ≤ idleBy j us u n
   unfolding idleBy
   idle-longer m n h = sum-longer _ m n h
-
-  -- ticks of ours that are left over are left over
-  pub idle-spare : (t : ℕ) → idleBy j us u t ≤ spareBy j us u t
-  unfolding idleBy spareBy
-  idle-spare t = sum-le _ _ t (λ n l. kept (j .ours (u + n)) (not (ofTasks us j (runs j (u + n)))))
 
 -- limit: from a tick at which its own jobs that started before are finished, a task runs at most C × c of the next t ticks
 pub limit-core : (j : Jobs) (i C : ℕ) (g : ℕ → ℕ) (c u t : ℕ)

@@ -8,10 +8,11 @@ use native.Mathlib.Nat.{eq-zero-or-pos, add-zero, add-suc}
 use native.Mathlib.Omega.{arith}
 use borrow.Author.Tests.{ltb-true, ltb-false, lt-ltb}
 use lib.Dec.{ltb}
-use Rattle.model.specs.Series.{on, sum}
+use Rattle.model.specs.Series.{on}
 use Rattle.model.specs.Run.{Jobs, leftAt, runs}
 use Rattle.model.proofs.SeriesLaws.{below-suc, le-by, clash, and-left, and-right, on-true, on-false, on-nil, on-le, and-both, sum-eq, sum-add, sum-nil, sum-zero, sum-bump}
-use Rattle.theory.proofs.JobWindows.{supply, AllOurs, doneBy, came, back, ofSet, ran, Down}
+use Rattle.model.proofs.SupplyLaws.{supply-none, supply-next}
+use Rattle.theory.proofs.JobWindows.{supply, doneBy, came, back, ofSet, ran, Down}
 use Rattle.theory.proofs.RunLaws.{none-some, Picked, runs-some, runs-none, runs-off, left-same, left-other, left-step, left-le, left-later, left-early}
 
 one-zero : _≡_ {A = ℕ} 1 0 → ⊥
@@ -23,19 +24,6 @@ unfolding on
 split true true w l h f = omega arith
 split true false w l h f = omega (arith, f refl)
 split false b w l h f = refl
-
-module _ (j : Jobs) (s : ℕ) where
-  -- the supply is at most the ticks
-  pub supply-le : (t : ℕ) → supply j s t ≤ t
-  unfolding supply sum
-  supply-le zero = omega arith
-  supply-le (suc t) = omega (arith, supply-le t, on-le (j .ours (s + t)) 1)
-
-  -- where every tick is ours the supply is the ticks
-  pub supply-all : AllOurs j → (t : ℕ) → supply j s t ≡ t
-  unfolding supply sum
-  supply-all all zero = refl
-  supply-all all (suc t) = omega (arith, supply-all all t, on-true (j .ours (s + t)) 1 (all (s + t)))
 
 module _ (j : Jobs) (u : ℕ → Bool) where
   -- work done and work behind are the work that has come
@@ -120,9 +108,8 @@ module _ (j : Jobs) (u : ℕ → Bool) where
 
   -- no more is done in a window than its supply
   pub done-le : (s t : ℕ) → doneBy j u (s + t) ≤ doneBy j u s + supply j s t
-  unfolding supply sum
   done-le s zero = rw (add-zero s) (omega arith)
-  done-le s (suc t) = rw (add-suc s t) (omega (arith, done-le s t, done-suc (s + t), ran-le (s + t)))
+  done-le s (suc t) = rw (add-suc s t) (omega (arith, supply-next (j .ours) s t, done-le s t, done-suc (s + t), ran-le (s + t)))
 
   -- a tick after s, at s + t or before, at which nothing is behind
   abbrev pub Quiet : ℕ → ℕ → Type 0
@@ -130,25 +117,24 @@ module _ (j : Jobs) (u : ℕ → Bool) where
 
   -- up to the first such tick every tick of ours is used
   used-up : Down j u → (s t : ℕ) → Quiet s t ⊎ (doneBy j u s + supply j s t ≤ doneBy j u (s + t))
-  unfolding supply sum
-  used-up down s zero = inr (rw (add-zero s) (omega arith))
+  used-up down s zero = inr (rw (add-zero s) (omega (arith, supply-none (j .ours) s)))
   used-up down s (suc t) = go (used-up down s t)
     where
       next : back j u (suc (s + t)) ≡ 0 → Quiet s (suc t)
       next h = (suc (s + t), omega arith, omega arith, h)
 
       more : doneBy j u s + supply j s t ≤ doneBy j u (s + t) → on (j .ours (s + t)) 1 ≤ ran j u (s + t)
-          → doneBy j u s + (supply j s t + on (j .ours (s + t)) 1) ≤ doneBy j u (s + suc t)
-      more h l = rw (add-suc s t) (omega (arith, done-suc (s + t)))
+          → doneBy j u s + supply j s (suc t) ≤ doneBy j u (s + suc t)
+      more h l = rw (add-suc s t) (omega (arith, supply-next (j .ours) s t, done-suc (s + t)))
 
       step : doneBy j u s + supply j s t ≤ doneBy j u (s + t) → (b : Bool) → j .ours (s + t) ≡ b → (ran j u (s + t) ≡ 0) ⊎ (0 < ran j u (s + t))
-          → Quiet s (suc t) ⊎ (doneBy j u s + (supply j s t + on (j .ours (s + t)) 1) ≤ doneBy j u (s + suc t))
+          → Quiet s (suc t) ⊎ (doneBy j u s + supply j s (suc t) ≤ doneBy j u (s + suc t))
       step h true e (inl z) = inl (next (idle down (s + t) e z))
       step h true e (inr z) = inr (more h (omega (arith, on-le (j .ours (s + t)) 1)))
       step h false e d = inr (more h (omega (arith, on-false (j .ours (s + t)) 1 e)))
 
       go : Quiet s t ⊎ (doneBy j u s + supply j s t ≤ doneBy j u (s + t))
-          → Quiet s (suc t) ⊎ (doneBy j u s + (supply j s t + on (j .ours (s + t)) 1) ≤ doneBy j u (s + suc t))
+          → Quiet s (suc t) ⊎ (doneBy j u s + supply j s (suc t) ≤ doneBy j u (s + suc t))
       go (inl (r, a, b, h)) = inl (r, a, omega arith, h)
       go (inr h) = step h (j .ours (s + t)) refl (eq-zero-or-pos (ran j u (s + t)))
 

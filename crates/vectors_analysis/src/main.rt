@@ -2,13 +2,14 @@
 // choice writes.
 use choice::ChoiceAnswer;
 use demand::ArrivalAnswer;
+use frame::Frame;
 use taskset::TaskSet;
 use verdict::VerdictAnswer;
 ghost use mathlib.Core.Path.{_≡_};
 ghost use Rattle.model.specs.Checks.{refusalOf};
 ghost use Rattle.model.specs.Choice as model_choice;
 ghost use Rattle.model.specs.Calls.{choiceInputs, columnAfter, keptColumn, worstColumn};
-ghost use Rattle.taskset.specs.TaskSet.{viewOf};
+ghost use Rattle.frame.specs.FrameView.{framedOf};
 
 // Prints what the arrival count answers.
 fn print_arrivals(answer: ArrivalAnswer) {
@@ -62,12 +63,13 @@ fn arrival_case(head: &[u32; 168]) {
     print_arrivals(answer);
 }
 
-// A case of the verdict: task; then the kept jitters.
+// A case of the verdict: task; then the frame, if any, and the kept jitters.
 fn verdict_case(head: &[u32; 168]) {
     let set = cases::task_set(head);
+    let frame = cases::frame_in(head);
     let mut kept = [0u32; 64];
     let keeps = cases::read_column(&mut kept);
-    let answer = verdict::verdict(set, cases::index(head[1]), &kept[..keeps]);
+    let answer = verdict::verdict(set, frame, cases::index(head[1]), &kept[..keeps]);
     print_verdict(answer);
 }
 
@@ -81,31 +83,32 @@ fn print_choice(answer: ChoiceAnswer) {
 }
 
 // Calls the choice, and prints the answer and the columns lent.
-fn choice_call(set: TaskSet, kept: &mut [u32], worst: &mut [u32])
+fn choice_call(set: TaskSet, frame: Frame, kept: &mut [u32], worst: &mut [u32])
     ensures { λ _. ⌜
         now (kept .exit)
-        ≡ columnAfter (refusalOf (choiceInputs (viewOf set) (now (kept .entry)) (now (worst .entry)))) (keptColumn (model_choice.choice (viewOf set))) (now (kept .entry))
+        ≡ columnAfter (refusalOf (choiceInputs (framedOf set frame) (now (kept .entry)) (now (worst .entry)))) (keptColumn (model_choice.choice (framedOf set frame))) (now (kept .entry))
         ⌝ }
     ensures { λ _. ⌜
         now (worst .exit)
-        ≡ columnAfter (refusalOf (choiceInputs (viewOf set) (now (kept .entry)) (now (worst .entry)))) (worstColumn (model_choice.choice (viewOf set)))
+        ≡ columnAfter (refusalOf (choiceInputs (framedOf set frame) (now (kept .entry)) (now (worst .entry)))) (worstColumn (model_choice.choice (framedOf set frame)))
         (now (worst .entry))
         ⌝ }
 {
-    let answer = choice::choose(set, kept, worst);
+    let answer = choice::choose(set, frame, kept, worst);
     print_choice(answer);
     cases::print_column(kept);
     cases::print_column(worst);
 }
 
-// A case of the choice: the columns of kept jitters and of worst values.
+// A case of the choice: the frame, if any; then the columns of kept jitters and of worst values.
 fn choice_case(head: &[u32; 168]) {
     let set = cases::task_set(head);
+    let frame = cases::frame_in(head);
     let mut kept = [0u32; 64];
     let keeps = cases::read_column(&mut kept);
     let mut worst = [0u32; 64];
     let worsts = cases::read_column(&mut worst);
-    choice_call(set, &mut kept[..keeps], &mut worst[..worsts]);
+    choice_call(set, frame, &mut kept[..keeps], &mut worst[..worsts]);
 }
 
 // One case: 0 is the arrival count, 1 the verdict, 2 the choice.

@@ -1,6 +1,7 @@
 // Runs the stored cases of both runs, and prints a line for each: the answer of the ticking run and every slot of its lent columns of ready and
 // finish ticks, then those of the run that jumps, whose columns held the same. A case may ask for the run that jumps alone, where ticking would
 // take too long.
+use frame::Frame;
 use jumps::JumpAnswer;
 use taskset::TaskSet;
 ghost use mathlib.Core.Path.{_≡_};
@@ -9,11 +10,12 @@ ghost use Rattle.model.specs.Checks.{refusalOf};
 ghost use Rattle.model.specs.Ready.{readyList};
 ghost use Rattle.model.specs.Run.{finishList};
 ghost use Rattle.model.specs.Calls.{releasesOf, columnAfter, runInputs};
-ghost use Rattle.taskset.specs.TaskSet.{viewOf};
+ghost use Rattle.frame.specs.FrameView.{framedOf};
 
 // Calls the run, and prints the answer and the columns lent.
 fn run_call(
     set: TaskSet,
+    frame: Frame,
     kept: &[u32],
     count: usize,
     task: &[u32],
@@ -25,19 +27,19 @@ fn run_call(
     ensures ticks { λ _. ⌜
         now (ready .exit)
         ≡ columnAfter
-        (refusalOf (runInputs (viewOf set) (now (kept .entry)) count (now (task .entry)) (now (tick .entry)) (now (cost .entry)) (now (ready .entry)) (now (finish .entry))))
-        (readyList (viewOf set) (column (now (kept .entry))) (releasesOf count (now (task .entry)) (now (tick .entry)) (now (cost .entry))))
+        (refusalOf (runInputs (framedOf set frame) (now (kept .entry)) count (now (task .entry)) (now (tick .entry)) (now (cost .entry)) (now (ready .entry)) (now (finish .entry))))
+        (readyList (framedOf set frame) (column (now (kept .entry))) (releasesOf count (now (task .entry)) (now (tick .entry)) (now (cost .entry))))
         (now (ready .entry))
         ⌝ }
     ensures finishes { λ _. ⌜
         now (finish .exit)
         ≡ columnAfter
-        (refusalOf (runInputs (viewOf set) (now (kept .entry)) count (now (task .entry)) (now (tick .entry)) (now (cost .entry)) (now (ready .entry)) (now (finish .entry))))
-        (finishList (viewOf set) (column (now (kept .entry))) (releasesOf count (now (task .entry)) (now (tick .entry)) (now (cost .entry))))
+        (refusalOf (runInputs (framedOf set frame) (now (kept .entry)) count (now (task .entry)) (now (tick .entry)) (now (cost .entry)) (now (ready .entry)) (now (finish .entry))))
+        (finishList (framedOf set frame) (column (now (kept .entry))) (releasesOf count (now (task .entry)) (now (tick .entry)) (now (cost .entry))))
         (now (finish .entry))
         ⌝ }
 {
-    let answer = schedule::run(set, kept, count, task, tick, cost, ready, finish);
+    let answer = schedule::run(set, frame, kept, count, task, tick, cost, ready, finish);
     cases::print_checked(answer);
     cases::print_ticks(ready);
     cases::print_ticks(finish);
@@ -57,6 +59,7 @@ fn print_jump(answer: JumpAnswer) {
 // Calls the run that jumps, and prints the answer and the columns lent.
 fn jump_call(
     set: TaskSet,
+    frame: Frame,
     kept: &[u32],
     count: usize,
     task: &[u32],
@@ -68,28 +71,29 @@ fn jump_call(
     ensures ticks { λ _. ⌜
         now (ready .exit)
         ≡ columnAfter
-        (refusalOf (runInputs (viewOf set) (now (kept .entry)) count (now (task .entry)) (now (tick .entry)) (now (cost .entry)) (now (ready .entry)) (now (finish .entry))))
-        (readyList (viewOf set) (column (now (kept .entry))) (releasesOf count (now (task .entry)) (now (tick .entry)) (now (cost .entry))))
+        (refusalOf (runInputs (framedOf set frame) (now (kept .entry)) count (now (task .entry)) (now (tick .entry)) (now (cost .entry)) (now (ready .entry)) (now (finish .entry))))
+        (readyList (framedOf set frame) (column (now (kept .entry))) (releasesOf count (now (task .entry)) (now (tick .entry)) (now (cost .entry))))
         (now (ready .entry))
         ⌝ }
     ensures finishes { λ _. ⌜
         now (finish .exit)
         ≡ columnAfter
-        (refusalOf (runInputs (viewOf set) (now (kept .entry)) count (now (task .entry)) (now (tick .entry)) (now (cost .entry)) (now (ready .entry)) (now (finish .entry))))
-        (finishList (viewOf set) (column (now (kept .entry))) (releasesOf count (now (task .entry)) (now (tick .entry)) (now (cost .entry))))
+        (refusalOf (runInputs (framedOf set frame) (now (kept .entry)) count (now (task .entry)) (now (tick .entry)) (now (cost .entry)) (now (ready .entry)) (now (finish .entry))))
+        (finishList (framedOf set frame) (column (now (kept .entry))) (releasesOf count (now (task .entry)) (now (tick .entry)) (now (cost .entry))))
         (now (finish .entry))
         ⌝ }
 {
-    let answer = jumps::run(set, kept, count, task, tick, cost, ready, finish);
+    let answer = jumps::run(set, frame, kept, count, task, tick, cost, ready, finish);
     print_jump(answer);
     cases::print_ticks(ready);
     cases::print_ticks(finish);
 }
 
-// A case: 0 for both runs, 1 for the run that jumps alone; count of releases; then kept jitters, tasks, ticks, costs, and the columns of ready and
+// A case: 0 for both runs, 1 for the run that jumps alone; count of releases; then the frame, if any, kept jitters, tasks, ticks, costs, and the columns of ready and
 // finish ticks.
 fn run_case(head: &[u32; 168]) {
     let set = cases::task_set(head);
+    let frame = cases::frame_in(head);
     let count = cases::index(head[1]);
     let mut kept = [0u32; 64];
     let keeps = cases::read_column(&mut kept);
@@ -108,6 +112,7 @@ fn run_case(head: &[u32; 168]) {
     if head[0] != 1 {
         run_call(
             set,
+            frame,
             &kept[..keeps],
             count,
             &task[..tasks],
@@ -120,6 +125,7 @@ fn run_case(head: &[u32; 168]) {
     }
     jump_call(
         set,
+        frame,
         &kept[..keeps],
         count,
         &task[..tasks],

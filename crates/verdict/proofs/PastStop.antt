@@ -9,12 +9,13 @@ use borrow.Author.Tests.{le-ltb}
 use lib.IntN.{pos, subℕ}
 use lib.Signed.{ltZ}
 use Rattle.model.specs.Processor.{pickup}
-use Rattle.model.specs.Tasks.{Tasks, load}
+use Rattle.model.specs.Tasks.{Tasks, load, boardOf}
 use Rattle.model.specs.Gap.{gap}
 use Rattle.model.specs.Demand.{aboveLoad, demand}
 use Rattle.model.specs.Bound.{bound}
 use Rattle.model.specs.Verdict.{boundOf}
 use Rattle.model.proofs.SeriesLaws.{le-by}
+use Rattle.model.proofs.SupplyLaws.{supply-append}
 use Rattle.response.proofs.LoadSums.{loads-add}
 use Rattle.response.proofs.BoundLaws.{bound-up, bound-down, sub-ge, sub-lt}
 use Rattle.response.proofs.WindowLaws.{Window}
@@ -29,7 +30,22 @@ module _ (s : Tasks) (k : ℕ → ℕ) (i : ℕ) (p : Periodic s i) where
   -- W(a + 1 + b) ≤ W(a) + W(b)
   pub window-sub : (a b v w t : ℕ) → Window s k i a v → Window s k i b w → Window s k i (suc a + b) t → t ≤ v + w
   unfolding demand
-  window-sub a b v w t f g h = le-by t (v + w) (λ l. omega (arith, f .met, g .met, h .least (v + w) (omega arith) l, above-sub v w))
+  window-sub a b v w t f g h =
+      let x = f .met (h .worst) in
+      let y = g .met (h .worst + x .0) in
+      le-by t (v + w)
+      (λ l.
+      omega (
+        arith,
+        x .1,
+        x .2,
+        x .3,
+        y .2,
+        y .3,
+        h .least (x .0 + y .0) (omega (arith, x .1)) (omega (arith, x .2, y .2)),
+        above-sub (x .0) (y .0),
+        supply-append (boardOf s .ours) (h .worst) (x .0) (y .0),
+      ))
 
 -- R(q) as one difference
 bound-is : (P J K q w : ℕ) → bound P J K q w ≡ subℕ (w + pickup + (J - (q * P + K))) (q * P - J)

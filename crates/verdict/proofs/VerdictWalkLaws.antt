@@ -1,5 +1,5 @@
 -- Laws of the walk over q: what it says where it stops, and what it knows where it goes on.
-use Prim.Native.Nat.{ℕ, suc, _+_, _≤_, _<_}
+use Prim.Native.Nat.{ℕ, suc, _+_, _*_, _≤_, _<_}
 use mathlib.Core.Path.{_≡_, refl, sym, ap₂}
 use mathlib.Core.Bool.{true, false}
 use mathlib.Core.Option.{some, none}
@@ -7,18 +7,18 @@ use native.Mathlib.Omega.{arith}
 use native.Mathlib.Numerals.{add-one}
 use borrow.Author.Tests.{lt-ltb, le-ltb, le-leb, lt-leb}
 use lib.IntN.{pos}
-use lib.ListN.{length}
 use Rattle.model.specs.Series.{sum}
 use Rattle.model.specs.Limits.{horizonTick}
 use Rattle.model.specs.Tasks.{Tasks, load}
 use Rattle.model.specs.Gap.{gap}
 use Rattle.model.specs.Demand.{window}
 use Rattle.model.specs.Bound.{bound}
-use Rattle.model.specs.Evaluations.{tried, taken, evaluations, judged}
+use Rattle.model.specs.Evaluations.{taken, countedAt, evaluations, judged}
 use Rattle.model.specs.Verdict.{Verdict, horizon, late, fits, boundOf, isLate, isLast, stops, boundAt, judge, verdict}
 use Rattle.model.proofs.SearchLaws.{sought-none, sought-next, sought-here}
-use Rattle.response.proofs.WindowLaws.{Window, window-over}
-use Rattle.demand.proofs.DemandLaws.{demand-next}
+use Rattle.model.proofs.FrameLaws.{Ruled}
+use Rattle.response.proofs.WindowLaws.{window-some, window-over}
+use Rattle.demand.proofs.DemandLaws.{Periodic, window-rises}
 use Rattle.verdict.specs.declared.Best.{Best}
 use Rattle.verdict.proofs.VerdictWalk.{Walk}
 use Rattle.verdict.specs.Walking.{betterOf}
@@ -26,19 +26,19 @@ use Rattle.verdict.proofs.BestLaws.{best-next}
 
 module _ (s : Tasks) (k : ℕ → ℕ) (i : ℕ) where
   -- before the first q
-  pub walk-start : Walk s k i 0 (record { worst = 0; first = 0 }) 0
+  pub walk-start : Ruled (s .frame) → Walk s k i 0 (record { worst = 0; first = 0 }) 0
   unfolding sum
-  walk-start =
+  walk-start v =
       record {
         q-high = omega arith;
         sought = sought-none (stops s k i) (suc horizonTick);
-        behind = λ t l h. absurd (omega arith);
+        behind = λ w e. omega (arith, window-some s k i v 0 w e .low);
         best = refl;
         counted = refl;
         small = omega arith;
       }
 
-  module _ (q n : ℕ) (b : Best) (w : Walk s k i q b n) (m : ℕ) (e : m ≡ n + length (tried s k i q)) where
+  module _ (q n : ℕ) (b : Best) (w : Walk s k i q b n) (m : ℕ) (e : m ≡ n + countedAt s k i q) where
     -- where the walk stops, its verdict is what is said there, and every t so far has been counted
     stop-at : (v : Verdict) → v ≡ judge s k i q → stops s k i q ≡ true → record { says = v; evaluations = m } ≡ judged s k i
     unfolding verdict taken evaluations sum
@@ -70,7 +70,7 @@ module _ (s : Tasks) (k : ℕ → ℕ) (i : ℕ) where
     -- R(q) > D
     pub says-late : (b : Best) (n m : ℕ)
         → Walk s k i q b n
-        → m ≡ n + length (tried s k i q)
+        → m ≡ n + countedAt s k i q
         → s .deadline i < r
         → record { says = late q (pos r); evaluations = m } ≡ judged s k i
     unfolding stops judge boundOf
@@ -79,7 +79,7 @@ module _ (s : Tasks) (k : ℕ → ℕ) (i : ℕ) where
     -- W(q) ≤ d_K(q + 1)
     pub says-fits : (b : Best) (n m : ℕ)
         → Walk s k i q b n
-        → m ≡ n + length (tried s k i q)
+        → m ≡ n + countedAt s k i q
         → 1 ≤ r
         → r ≤ s .deadline i
         → t ≤ gap (s .period i) (k i) (q + 1)
@@ -93,23 +93,28 @@ module _ (s : Tasks) (k : ℕ → ℕ) (i : ℕ) where
     -- none of them
     pub walk-on : (b : Best) (n m : ℕ)
         → Walk s k i q b n
-        → m ≡ n + length (tried s k i q)
+        → m ≡ n + countedAt s k i q
         → m ≤ n + 10000001
+        → Ruled (s .frame)
+        → Periodic s i
         → 1 ≤ load s i
-        → Window s k i q t
         → 1 ≤ r
         → r ≤ s .deadline i
         → gap (s .period i) (k i) (q + 1) < t
         → Walk s k i (q + 1) (betterOf b r q) m
     unfolding stops isLast gap sum
-    walk-on b n m w d c e f l h g =
+    walk-on b n m w d c v p e l h g =
         record {
-          q-high = omega (arith, window-over s k i q t e found);
+          q-high = omega (arith, window-over s k i v q t e found, window-some s k i v q t found .high);
           sought =
               sought-next (stops s k i) (suc horizonTick) q (w .sought) (omega arith)
               (rw (stops, found, late-no h, isLast, lt-leb t (gap (s .period i) (k i) (suc q)) (rw add-one at g)));
-          behind = λ x a c. rw add-one (omega (arith, f .least x a (omega arith), demand-next s k i q x));
+          behind = λ x f. behind x (rw add-one at f);
           best = rw add-one (best-next (boundAt s k i) q b r (w .best) l at-is);
           counted = rw add-one (omega (arith, w .counted));
           small = omega (arith, w .small);
         }
+      where
+        behind : (x : ℕ) → window s k i (suc q) ≡ some x → (q + 1) * s .period i < x + k i
+        behind x f =
+            omega (arith, window-rises s k i p e q t x (window-some s k i v q t found) (window-some s k i v (suc q) x f))

@@ -1,17 +1,23 @@
 -- A task of a sheet that passed its checks can be judged by its columns.
 use Prim.Native.Nat.{ℕ, _+_, _*_, _<_}
 use mathlib.Core.Path.{_≡_, refl, _∙_}
+use mathlib.Core.Option.{Option, some}
 use mathlib.Core.List.{List}
-use mathlib.Core.Logic.{dite}
 use native.Mathlib.Omega.{arith}
 use native.Mathlib.Nat.{add-zero}
-use native.Mathlib.Decide.{decLt}
+use Rattle.model.specs.Frame as model
+use Rattle.model.specs.Demand.{window}
 use Rattle.model.specs.Choice.{column}
 use Rattle.model.specs.Evaluations.{judged}
+use Rattle.model.specs.SameTasks.{SameFrame}
 use Rattle.model.proofs.SameVerdict.{judged-same}
-use Rattle.response.proofs.WindowLaws.{Window}
+use Rattle.model.proofs.FrameLaws.{Ruled}
+use Rattle.model.proofs.FramedLaws.{bare-valid}
+use Rattle.response.proofs.WindowLaws.{Window, window-some}
 use Rattle.taskset.specs.declared.TaskSet.{TaskSet}
 use Rattle.taskset.specs.TaskSet.{viewOf}
+use Rattle.frame.specs.declared.Frame.{Frame}
+use Rattle.frame.specs.FrameView.{frameOf, framedOf}
 use Rattle.demand.specs.Columns.{flatTasks, Small, Periods, Copied}
 use Rattle.demand.proofs.FlatColumnLaws.{copied-periods}
 use Rattle.demand.proofs.TaskCallLaws.{Passed}
@@ -20,12 +26,14 @@ use Rattle.verdict.specs.Walking.{Walkable, Met}
 use Rattle.verdict.proofs.VerdictWalk.{Walk}
 
 -- R(q) is a natural number where the walk comes
-pub met-at : (loads periods keeps : List ℕ) (i J D q t : ℕ) (b : Best) (n : ℕ)
+pub met-at : (o : Option model.Frame) (loads periods keeps : List ℕ) (i J D q t : ℕ) (b : Best) (n : ℕ)
     → Walkable loads periods keeps i J
-    → Walk (flatTasks loads periods J D) (column keeps) i q b n
-    → Window (flatTasks loads periods J D) (column keeps) i q t
+    → Ruled o
+    → Walk (flatTasks o loads periods J D) (column keeps) i q b n
+    → window (flatTasks o loads periods J D) (column keeps) i q ≡ some t
     → Met (column periods i) J (column keeps i) q t
-met-at loads periods keeps i J D q t b n r w f =
+met-at o loads periods keeps i J D q t b n r v w e =
+    let f : Window (flatTasks o loads periods J D) (column keeps) i q t = window-some (flatTasks o loads periods J D) (column keeps) i v q t e in
     record {
       period-high = r .period-high;
       jitter-high = r .jitter-high;
@@ -33,11 +41,10 @@ met-at loads periods keeps i J D q t b n r w f =
       q-high = w .q-high;
       w-low = f .low;
       w-high = f .high;
-      behind =
-          dite (decLt (q * column periods i) (t + column keeps i)) (λ h. h) (λ h. absurd (omega (arith, w .behind t (f .low) (omega arith), f .met)));
+      behind = w .behind t e;
     }
 
-module _ (s : TaskSet) (i : ℕ) (kept loads periods : List ℕ) (p : Passed (viewOf s) i kept) (c : Copied s (s .count) loads periods) where
+module _ (s : TaskSet) (f : Frame) (i : ℕ) (kept loads periods : List ℕ) (p : Passed (framedOf s f) i kept) (c : Copied s (s .count) loads periods) where
   -- the numbers of a task in its columns
   small : (j : ℕ) → j < s .count → Small (column loads j) (column periods j) (column kept j)
   small j l =
@@ -78,16 +85,19 @@ module _ (s : TaskSet) (i : ℕ) (kept loads periods : List ℕ) (p : Passed (vi
 
   -- the periods above
   pub above-periods : Periods periods i
-  above-periods = copied-periods s loads periods i (p .valid) c (omega (arith, p .known))
+  above-periods = copied-periods s loads periods i (bare-valid (frameOf f) (viewOf s) (p .valid)) c (omega (arith, p .known))
 
-  -- the verdict by the columns and its number are the sheet's
-  pub flat-judged : judged (flatTasks loads periods (viewOf s .jitter i) (viewOf s .deadline i)) (column kept) i ≡ judged (viewOf s) (column kept) i
-  flat-judged =
-      judged-same (flatTasks loads periods (viewOf s .jitter i) (viewOf s .deadline i)) (viewOf s) (column kept) (column kept) i
+  -- the verdict by the columns, with the same frame, and its number are the sheet's
+  pub flat-judged
+      : (o : Option model.Frame) → SameFrame o (frameOf f)
+      → judged (flatTasks o loads periods (viewOf s .jitter i) (viewOf s .deadline i)) (column kept) i ≡ judged (framedOf s f) (column kept) i
+  flat-judged o same =
+      judged-same (flatTasks o loads periods (viewOf s .jitter i) (viewOf s .deadline i)) (framedOf s f) (column kept) (column kept) i
       (record {
         loads = λ j l. add-zero (column loads j) ∙ c .of-loads .each j (omega (arith, p .known));
         periods = λ j l. c .of-periods .each j (omega (arith, p .known));
         keeps = λ j l. refl;
         jitter = refl;
         deadline = refl;
+        frame = same;
       })

@@ -6,10 +6,12 @@ ghost use Rattle.model.specs.Choice.{column};
 ghost use Rattle.model.specs.Bound as model_bound;
 ghost use Rattle.model.specs.Evaluations as model_evaluations;
 ghost use Rattle.model.specs.Calls.{verdictCall};
-ghost use Rattle.taskset.specs.TaskSet.{viewOf};
+ghost use Rattle.frame.specs.FrameView.{framedOf};
+ghost use Rattle.frame.specs.WindowColumns.{columnFrame, Supplies};
 ghost use Rattle.demand.specs.Columns.{flatTasks, Factored};
 ghost use Rattle.verdict.specs.VerdictAnswer.{verdictIn};
 ghost use Rattle.verdict.specs.Walking.{Walkable, Met, IsResponse, betterOf};
+use frame::Frame;
 use taskset::Checked;
 use taskset::PICKUP;
 use taskset::TaskSet;
@@ -88,37 +90,56 @@ fn response(period: u32, jitter: u32, keep: u32, q: u32, w: u32) -> u32
     (picked as i64 + shift) as u32
 }
 
-// The walk over q = 0, 1, .. of a task whose loads, periods and kept jitters, and those of the tasks above it, stand in columns, with the factors of the periods above.
-// Every t of the search for W(q) is counted, a last one over the horizon too.
+// The walk over q = 0, 1, .. of a task whose loads, periods and kept jitters, and those of the tasks above it, stand in columns, with the factors of the periods above
+// and the windows of the frame, if there is one. The search for W(q) goes from start to start of the frame; without a frame there is one start, and every t of the
+// search is counted, a last one over the horizon too.
 fn walk(
     loads: &[u32],
     periods: &[u32],
     highs: &[u32],
     lows: &[u32],
     keeps: &[u32],
+    framed: bool,
+    ticks: u32,
+    per: u32,
+    count: usize,
+    first: &[u32],
+    size: &[u32],
     task: usize,
     jitter: u32,
     deadline: u32,
 ) -> VerdictAnswer
     requires { ⌜ Walkable (now loads) (now periods) (now keeps) task jitter ⌝ }
     requires { ⌜ Factored (now periods) (now highs) (now lows) task ⌝ }
+    requires { ⌜ Supplies framed ticks per count (now first) (now size) ⌝ }
     ensures { λ r. ⌜
         verdictIn r
-        ≡ answered (model_evaluations.judged (flatTasks (now (loads .entry)) (now (periods .entry)) jitter deadline) (column (now (keeps .entry))) task)
+        ≡ answered
+        (model_evaluations.judged
+        (flatTasks (columnFrame framed ticks count (now (first .entry)) (now (size .entry))) (now (loads .entry)) (now (periods .entry)) jitter deadline)
+        (column (now (keeps .entry))) task)
         ⌝ }
 {
     let cost = loads[task];
     let period = periods[task];
     let keep = keeps[task];
     let once = demand::once_each(loads, periods, keeps, task);
+    let starts = frame::starts_of(framed, count);
+    let tally = demand::tally_of(framed);
     let mut best = Best { worst: 0, first: 0 };
     let mut q: u32 = 0;
     let mut evaluations: u64 = 0;
     'walk: loop {
         let own = numbers::wide(q + 1) * numbers::wide(cost);
-        let mut t = own + once;
+        let need = own + once;
+        let start = demand::start_at(framed, ticks, per, count, first, size, 0, need);
+        let mut at = start.at;
+        let mut before = start.before;
+        let mut t = start.t;
+        let mut w: u64 = 0;
+        let mut n = 0;
         'find: loop {
-            evaluations += 1;
+            evaluations += tally;
             if 10000000 < t {
                 break 'walk VerdictAnswer::Horizon {
                     q: q,
@@ -126,12 +147,22 @@ fn walk(
                 };
             }
             let d = own + demand::above_load(loads, periods, highs, lows, keeps, task, t as u32);
-            if d <= t {
+            let x = frame::reach_from(framed, ticks, per, count, first, size, at, before, d);
+            if t < x {
+                t = x;
+                continue;
+            }
+            w = numbers::larger(w, t);
+            n += 1;
+            if starts <= n {
                 break 'find;
             }
-            t = d;
+            let next = demand::start_at(framed, ticks, per, count, first, size, n, need);
+            at = next.at;
+            before = next.before;
+            t = next.t;
         }
-        let r = response(period, jitter, keep, q, t as u32);
+        let r = response(period, jitter, keep, q, w as u32);
         if deadline < r {
             break 'walk VerdictAnswer::Late {
                 q: q,
@@ -140,7 +171,7 @@ fn walk(
             };
         }
         best = better(best, r, q);
-        if t <= shaper::gap(period, keep, q + 1) {
+        if w <= shaper::gap(period, keep, q + 1) {
             break 'walk VerdictAnswer::Fits {
                 worst: best.worst,
                 q: best.first,
@@ -151,11 +182,11 @@ fn walk(
     }
 }
 
-// The verdict of one task, with kept jitters, and the number of its evaluations.
-pub fn verdict(s: TaskSet, task: usize, kept: &[u32]) -> VerdictAnswer
-    ensures { λ r. ⌜ verdictIn r ≡ verdictCall (viewOf s) task (now (kept .entry)) ⌝ }
+// The verdict of one task, with kept jitters, on a sheet with a frame or without, and the number of its evaluations.
+pub fn verdict(s: TaskSet, f: Frame, task: usize, kept: &[u32]) -> VerdictAnswer
+    ensures { λ r. ⌜ verdictIn r ≡ verdictCall (framedOf s f) task (now (kept .entry)) ⌝ }
 {
-    let checked = demand::check_call(s, task, kept);
+    let checked = demand::check_framed(s, f, task, kept);
     match checked {
         Checked::Refused { number, place } => VerdictAnswer::Refused {
             number: number,
@@ -168,6 +199,9 @@ pub fn verdict(s: TaskSet, task: usize, kept: &[u32]) -> VerdictAnswer
             let by = demand::factors_of(&periods, task);
             let highs = by.highs;
             let lows = by.lows;
+            let windows = frame::supply_of(f);
+            let first = windows.first;
+            let size = windows.size;
             let own = s.tasks[task];
             walk(
                 &loads,
@@ -175,6 +209,12 @@ pub fn verdict(s: TaskSet, task: usize, kept: &[u32]) -> VerdictAnswer
                 &highs,
                 &lows,
                 kept,
+                windows.framed,
+                windows.ticks,
+                windows.per,
+                windows.count,
+                &first,
+                &size,
                 task,
                 own.jitter,
                 own.deadline,

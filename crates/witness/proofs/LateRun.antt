@@ -14,7 +14,6 @@ use Rattle.model.specs.Run.{Jobs, jobsOn, leftAt}
 use Rattle.shaper.proofs.GapLaws.{gap-mono}
 use Rattle.trace.proofs.PositionLaws.{Held}
 use Rattle.trace.proofs.ReadyAtLaws.{ready-rising}
-use Rattle.theory.proofs.JobWindows.{supply}
 use Rattle.theory.proofs.RunLaws.{left-later}
 use Rattle.theory.proofs.LateOfJobs.{Burst, Queue, late-core}
 use Rattle.processor.specs.ProcessorDemand.{Regular, loadOn, supplyOn, aboveOn, demandOn}
@@ -93,7 +92,7 @@ module _
     pub not-finished
         : 1 ≤ w → ((t : ℕ) → 1 ≤ t → t < w → supplyOn m u t < demandOn m s k i q t)
         → (h : Held l i (n + q)) (t : ℕ) → t < u + w → leftAt js t (h .at) ≡ 0 → ⊥
-    unfolding supplyOn aboveOn demandOn supply
+    unfolding aboveOn demandOn
     not-finished a unmet h t b e =
         late-core js i (h .at) u w n q (loadOn m s) (λ j. gap (s .period j) (k j)) (λ j. arrivals (s .period j) (k j)) burst (queue h) unmet (w - 1) (omega arith)
         (left-later js t (u + (w - 1)) (h .at) (omega arith) e)

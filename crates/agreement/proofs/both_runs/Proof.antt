@@ -1,6 +1,6 @@
 -- Both contracts, over columns that held the same.
 use borrow.Author.Needs.{needs}
-use Rattle.taskset.specs.TaskSet.{viewOf}
+use Rattle.frame.specs.FrameView.{framedOf}
 use Rattle.agreement.specs.Agreement.{Ticked, Jumped}
 use Rattle.agreement.proofs.AgreementLaws.{same-ends}
 use Rattle.agreement.proofs.both_runs.Statement.{statement}
@@ -29,10 +29,10 @@ returns c =
     let j = c .before .before .before .before in
     let t = j .before .before .before .before .before .before .before in
     let a = t .before .before .before .before .before .before .before .before .before .before .before .args in
-    let ticked : Ticked (viewOf (a .s)) (a .kept .now) (a .count) (a .task .now) (a .tick .now) (a .cost .now) (a .ready .now) (a .finish .now) _ _ _ =
+    let ticked : Ticked (framedOf (a .s) (a .f)) (a .kept .now) (a .count) (a .task .now) (a .tick .now) (a .cost .now) (a .ready .now) (a .finish .now) _ _ _ =
     record { refusal = t .run .ensures .0; ready-column = t .run .ensures .1 .0; finish-column = t .run .ensures .1 .1 }
     in
-    let jumped : Jumped (viewOf (a .s)) (a .kept .now) (a .count) (a .task .now) (a .tick .now) (a .cost .now) (a .readies .now) (a .finishes .now) _ _ _ =
+    let jumped : Jumped (framedOf (a .s) (a .f)) (a .kept .now) (a .count) (a .task .now) (a .tick .now) (a .cost .now) (a .readies .now) (a .finishes .now) _ _ _ =
     record { answer = j .run2 .ensures .0; ready-column = j .run2 .ensures .1 .0; finish-column = j .run2 .ensures .1 .1 }
     in
     (ticked, (jumped, same-ends _ _ _ _ _ _ _ _ _ _ _ _ _ _ _ _ ticked jumped))

@@ -11,14 +11,14 @@ use Rattle.taskset.specs.TaskSet.{viewOf}
 use Rattle.choice.specs.Choices.{scopeTold}
 use Rattle.report.specs.Report.{choiceText}
 use Rattle.answers.specs.Answers.{sheetText}
-use Rattle.answers.proofs.SaidLaws.{Refusing, refusing, chosen-said}
+use Rattle.answers.proofs.SaidLaws.{Told, told-bare, Refusing, refusing, chosen-said}
 use borrow.Author.Needs.{needs}
 use Rattle.answers.proofs.put_chosen.Statement.{statement}
 use Rattle.answers.proofs.put_chosen.Tie as tie
 
 -- where the call starts, seen from the place after the choice, and that place, seen from where it was refused
 abbrev start : tie.After-choose → tie.Start
-start c = c .before .before .before .before
+start c = c .before .before .before .before .before
 
 abbrev made : tie.After-c → tie.After-choose
 made c = c .before .before .before .before
@@ -30,21 +30,32 @@ zeros = replicate 32 0
 few : (c : tie.After-choose) → start c .args .s .count ≤ 32
 few c = valid-of (viewOf (start c .args .s)) (sym (start c .pre .0)) .few-tasks
 
+-- what the choice says
+told
+    : (c : tie.After-choose)
+    → Told (viewOf (start c .args .s)) zeros zeros (c .choose .result) (c .choose .last .1 .1 .0) (c .choose .last .1 .1 .1 .0)
+told c =
+    told-bare (start c .args .s) _ _ _ _ _ _ (c .before .before .before .no-frame .ensures)
+    (record { answer = c .choose .ensures .0; keeps = c .choose .ensures .1 .0; worsts = c .choose .ensures .1 .1 })
+
 -- the choice was refused
 unfit
     : (c : tie.After-c)
     → Refusing (viewOf (start (made c) .args .s)) zeros zeros (start (made c) .pre .0) (few (made c)) (few (made c)) (c .c .given .0 .0) (c .c .given .0 .1 .0)
 unfit c =
     refusing (viewOf (start (made c) .args .s)) zeros zeros (start (made c) .pre .0) (few (made c)) (few (made c)) _ _ _ (c .c .given .1)
-    (made c .choose .ensures .0)
+    (told (made c) .answer)
 
 -- a choice was made, and this is which of the two
 said
     : (r : tie.After-choose) (x : Scope) → scopeTold (r .choose .result) ≡ answered x
-    → choiceText x (viewOf (start r .args .s)) (r .choose .last .1 .0) (r .choose .last .1 .1 .0) ≡ sheetText (viewOf (start r .args .s))
+    → choiceText x (viewOf (start r .args .s)) (r .choose .last .1 .1 .0) (r .choose .last .1 .1 .1 .0) ≡ sheetText (viewOf (start r .args .s))
 said r x e =
     chosen-said (viewOf (start r .args .s)) zeros zeros (start r .pre .0) (few r) (few r) _ x _ _ e
-    (r .choose .ensures .0) (r .choose .ensures .1 .0) (r .choose .ensures .1 .1)
+    (told r .answer) (told r .keeps) (told r .worsts)
+
+no-frame-requires : tie.Need-no-frame-requires
+no-frame-requires c κs = search needs
 
 slice-aggregate-choose : tie.Need-slice-aggregate-choose
 slice-aggregate-choose c = search needs
@@ -76,7 +87,7 @@ slice-aggregate-put-choice-2 c = search needs
 put-choice-requires : tie.Need-put-choice-requires
 put-choice-requires c κs =
     let r : tie.After-choose = c .before .before .before .before .before .before .before in
-    omega (arith, few r, r .choose .kept .1 .0, r .choose .kept .1 .1 .0)
+    omega (arith, few r, r .choose .kept .1 .1 .0, r .choose .kept .1 .1 .1 .0)
 
 enum-told-2 : tie.Need-enum-told-2
 enum-told-2 c = search needs
@@ -90,7 +101,7 @@ slice-aggregate-put-choice-4 c = search needs
 put-choice-requires-2 : tie.Need-put-choice-requires-2
 put-choice-requires-2 c κs =
     let r : tie.After-choose = c .before .before .before .before .before .before .before in
-    omega (arith, few r, r .choose .kept .1 .0, r .choose .kept .1 .1 .0)
+    omega (arith, few r, r .choose .kept .1 .1 .0, r .choose .kept .1 .1 .1 .0)
 
 same-length : tie.Need-same-length
 same-length c = search needs
@@ -120,6 +131,7 @@ pub put-chosen-spec : {M : Type 1} → statement M
 put-chosen-spec =
     tie.close
     (tie.spec
+    no-frame-requires
     slice-aggregate-choose
     slice-aggregate-choose-2
     choose-requires

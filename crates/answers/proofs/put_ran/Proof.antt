@@ -11,7 +11,7 @@ use Rattle.answers.proofs.put_ran.Tie as tie
 
 -- where the call starts, seen from the place after the run
 abbrev start : tie.After-run → tie.Start
-start c = c .before .before .before .before .before .before .before .before
+start c = c .before .before .before .before .before .before .before .before .before
 
 abbrev zeros : List ℕ
 zeros = replicate 1024 0
@@ -22,7 +22,10 @@ impossible c =
     let r : tie.After-run = c .before .before .before .before in
     let s : tie.Start = start r in
     never-refused (viewOf (s .args .s)) (now (s .args .kept)) (s .args .n) (now (s .args .task)) (now (s .args .tick)) (now (s .args .cost)) zeros zeros
-    (omega (arith, s .pre .1 .few)) (omega (arith, s .pre .1 .few)) (s .pre .1) (s .pre .0) _ _ _ (c .ran .given .1) (r .run .ensures .0)
+    (omega (arith, s .pre .1 .few)) (omega (arith, s .pre .1 .few)) (s .pre .1) (s .pre .0) _ _ _ (c .ran .given .1) (rw (r .before .before .before .no-frame .ensures) at (r .run .ensures .0))
+
+no-frame-requires : tie.Need-no-frame-requires
+no-frame-requires c κs = search needs
 
 slice-aggregate-run : tie.Need-slice-aggregate-run
 slice-aggregate-run c = search needs
@@ -69,13 +72,15 @@ returns-2 c =
     let s : tie.Start = start r in
     rw
     (ran-said (viewOf (s .args .s)) (now (s .args .kept)) (s .args .n) (now (s .args .task)) (now (s .args .tick)) (now (s .args .cost)) zeros zeros
-    (omega (arith, s .pre .1 .few)) (omega (arith, s .pre .1 .few)) (s .pre .1) (s .pre .0) _ _ (r .run .ensures .1 .0) (r .run .ensures .1 .1))
+    (omega (arith, s .pre .1 .few)) (omega (arith, s .pre .1 .few)) (s .pre .1) (s .pre .0) _ _
+    (rw (r .before .before .before .no-frame .ensures) at (r .run .ensures .1 .0)) (rw (r .before .before .before .no-frame .ensures) at (r .run .ensures .1 .1)))
     at (c .before .before .put-run .ensures)
 
 pub put-ran-spec : {M : Type 1} → statement M
 put-ran-spec =
     tie.close
     (tie.spec
+    no-frame-requires
     slice-aggregate-run
     slice-aggregate-run-2
     run-requires

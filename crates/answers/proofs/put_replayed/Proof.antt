@@ -11,14 +11,14 @@ use Rattle.model.specs.Refusal.{answered}
 use Rattle.model.specs.Calls.{keptColumn}
 use Rattle.model.proofs.CheckLaws.{valid-of}
 use Rattle.choice.specs.Choices.{scopeTold}
-use Rattle.answers.proofs.SaidLaws.{Refusing, refusing, Keeping, keeping, zeros-rest}
+use Rattle.answers.proofs.SaidLaws.{Told, told-bare, Refusing, refusing, Keeping, keeping, zeros-rest}
 use borrow.Author.Needs.{needs}
 use Rattle.answers.proofs.put_replayed.Statement.{statement}
 use Rattle.answers.proofs.put_replayed.Tie as tie
 
 -- where the call starts, seen from the place after the choice, and that place, seen from where it was refused
 abbrev start : tie.After-choose → tie.Start
-start c = c .before .before .before .before .before .before .before
+start c = c .before .before .before .before .before .before .before .before
 
 abbrev made : tie.After-c → tie.After-choose
 made c = c .before .before .before .before
@@ -30,22 +30,33 @@ zeros = replicate 32 0
 few : (c : tie.After-choose) → start c .args .s .count ≤ 32
 few c = valid-of (viewOf (start c .args .s)) (sym (start c .pre .0 .sheet)) .few-tasks
 
+-- what the choice says
+told
+    : (c : tie.After-choose)
+    → Told (viewOf (start c .args .s)) zeros zeros (c .choose .result) (c .choose .last .1 .1 .0) (c .choose .last .1 .1 .1 .0)
+told c =
+    told-bare (start c .args .s) _ _ _ _ _ _ (c .before .before .before .no-frame .ensures)
+    (record { answer = c .choose .ensures .0; keeps = c .choose .ensures .1 .0; worsts = c .choose .ensures .1 .1 })
+
 -- the choice was refused
 unfit
     : (c : tie.After-c)
     → Refusing (viewOf (start (made c) .args .s)) zeros zeros (start (made c) .pre .0 .sheet) (few (made c)) (few (made c)) (c .c .given .0 .0) (c .c .given .0 .1 .0)
 unfit c =
     refusing (viewOf (start (made c) .args .s)) zeros zeros (start (made c) .pre .0 .sheet) (few (made c)) (few (made c)) _ _ _ (c .c .given .1)
-    (made c .choose .ensures .0)
+    (told (made c) .answer)
 
 -- a choice was made, whichever of the two it is
 keeps
     : (r : tie.After-choose) (x : Scope) (e : scopeTold (r .choose .result) ≡ answered x)
     → Keeping (viewOf (start r .args .s)) zeros zeros (start r .pre .0 .sheet) (few r) (few r) (r .choose .result) x
-    (r .choose .last .1 .0) (r .choose .last .1 .1 .0) e (r .choose .ensures .0)
+    (r .choose .last .1 .1 .0) (r .choose .last .1 .1 .1 .0) e (told r .answer)
 keeps r x e =
-    keeping (viewOf (start r .args .s)) zeros zeros (start r .pre .0 .sheet) (few r) (few r) _ x _ (r .choose .last .1 .1 .0) e
-    (r .choose .ensures .0) (zeros-rest 32 (length (keptColumn (choice (viewOf (start r .args .s)))))) (r .choose .ensures .1 .0)
+    keeping (viewOf (start r .args .s)) zeros zeros (start r .pre .0 .sheet) (few r) (few r) _ x _ (r .choose .last .1 .1 .1 .0) e
+    (told r .answer) (zeros-rest 32 (length (keptColumn (choice (viewOf (start r .args .s)))))) (told r .keeps)
+
+no-frame-requires : tie.Need-no-frame-requires
+no-frame-requires c κs = search needs
 
 slice-aggregate-choose : tie.Need-slice-aggregate-choose
 slice-aggregate-choose c = search needs
@@ -129,6 +140,7 @@ pub put-replayed-spec : {M : Type 1} → statement M
 put-replayed-spec =
     tie.close
     (tie.spec
+    no-frame-requires
     slice-aggregate-choose
     slice-aggregate-choose-2
     choose-requires

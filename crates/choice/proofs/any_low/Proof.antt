@@ -9,7 +9,7 @@ use Rattle.choice.proofs.any_low.Statement.{statement}
 use Rattle.choice.proofs.any_low.Tie as tie
 
 abbrev Inv-loop : tie.InvT-loop
-Inv-loop n s i₀ i = LookedAt (viewOf s) n i
+Inv-loop n s i₀ i = LookedAt (viewOf s .low) n i
 
 abbrev μ-loop : tie.MeasureT-loop
 μ-loop n s i₀ i = n - i
@@ -38,7 +38,7 @@ loop-again c = record { few = omega arith; within = omega arith; none-low = low-
 returns-2 : tie.Need-returns-2 Inv-loop μ-loop
 returns-2 c =
     let e : c .before .loop .i ≡ c .before .before .args .n = omega (arith, c .before .loop .inv .within) in
-    c .before .loop .inv .none-low ∙ ap (λ m. anyLow (viewOf (c .before .before .args .t1)) m) e
+    c .before .loop .inv .none-low ∙ ap (λ m. anyLow (viewOf (c .before .before .args .t1) .low) m) e
 
 pub any-low-spec : {M : Type 1} → statement M
 any-low-spec =

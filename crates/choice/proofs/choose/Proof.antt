@@ -8,7 +8,8 @@ use Rattle.model.specs.Tasks.{Valid}
 use Rattle.model.specs.Checks.{refusalOf}
 use Rattle.model.proofs.CheckLaws.{valid-of}
 use Rattle.model.proofs.OrderLaws.{accepted-of}
-use Rattle.taskset.specs.TaskSet.{viewOf, refusalIn}
+use Rattle.taskset.specs.TaskSet.{refusalIn}
+use Rattle.frame.specs.FrameView.{framedOf}
 use Rattle.choice.specs.Choices.{roomInputs, scopeTold}
 use Rattle.choice.proofs.ChoiceCallLaws.{room-long, refuses-room, refuses-unfit, answers}
 use Rattle.choice.proofs.choose.Statement.{statement}
@@ -17,11 +18,11 @@ use Rattle.choice.proofs.choose.Tie as tie
 -- every check before the choice passes
 fine : (c : tie.After-enum-told)
     → let a = c .before .before .before .before .before .args in
-    none ≡ refusalOf (roomInputs (viewOf (a .s)) (length (a .kept .now)) (length (a .worst .now)))
+    none ≡ refusalOf (roomInputs (framedOf (a .s) (a .f)) (length (a .kept .now)) (length (a .worst .now)))
 fine c = sym (ap refusalIn (c .enum-told .given .1)) ∙ c .before .before .check-room .ensures
 
 -- so the sheet is within its limits
-valid : (c : tie.After-enum-told) → Valid (viewOf (c .before .before .before .before .before .args .s))
+valid : (c : tie.After-enum-told) → let a = c .before .before .before .before .before .args in Valid (framedOf (a .s) (a .f))
 valid c = valid-of _ (sym (accepted-of _ (fine c) .tasks))
 
 check-room-requires : tie.Need-check-room-requires

@@ -1,28 +1,37 @@
 -- The loop's invariant is the walk: see `Walking`.
 use Prim.Native.Nat.{_+_, _-_}
 use borrow.Author.Needs.{needs}
+use mathlib.Core.Option.{Option}
 use native.Mathlib.Omega.{arith}
+use Rattle.model.specs.Frame.{Frame}
+use Rattle.frame.specs.WindowColumns.{columnFrame}
+use Rattle.frame.proofs.ColumnLaws.{ruled-columns}
 use Rattle.choice.specs.Choices.{WithinIs}
 use Rattle.choice.proofs.LeastLaws.{Walking, Stepping, walking-start, searched, walking-none, stepped, walking-step}
 use Rattle.choice.proofs.least_keep.Statement.{statement}
 use Rattle.choice.proofs.least_keep.Tie as tie
 
 abbrev Inv-loop : tie.InvT-loop
-Inv-loop loads periods highs lows keeps i jitter deadline period once q₀ high₀ evaluations₀ q high evaluations =
-    Walking loads periods keeps i jitter deadline q high evaluations
+Inv-loop loads periods highs lows keeps framed ticks per count first size i jitter deadline period once q₀ high₀ evaluations₀ q high evaluations =
+    Walking (columnFrame framed ticks count first size) loads periods keeps i jitter deadline q high evaluations
 
 abbrev μ-loop : tie.MeasureT-loop
-μ-loop loads periods highs lows keeps i jitter deadline period once q₀ high₀ evaluations₀ q high evaluations = 10000001 - q
+μ-loop loads periods highs lows keeps framed ticks per count first size i jitter deadline period once q₀ high₀ evaluations₀ q high evaluations =
+    10000001 - q
+
+-- the frame, as its columns give it
+abbrev frame : (s : tie.Start Inv-loop μ-loop) → Option Frame
+frame s = columnFrame (s .args .framed) (s .args .ticks) (s .args .count) (s .args .first .now) (s .args .size .now)
 
 abbrev start : tie.At-loop Inv-loop μ-loop → tie.Start Inv-loop μ-loop
-start c = c .before .before .before .before .before .before .before .before
+start c = c .before .before .before .before .before .before .before .before .before .before
 
 -- W(q), with the length of its list
 within
     : (c : tie.After-known-told Inv-loop μ-loop)
     → (let head = c .before .before .before .before in
     let s = start head in
-    WithinIs (s .args .loads .now) (s .args .periods .now) (s .args .keeps .now) (s .args .i) (head .loop .q)
+    WithinIs (frame s) (s .args .loads .now) (s .args .periods .now) (s .args .keeps .now) (s .args .i) (head .loop .q)
     (c .before .found .given .0 .0) (c .before .found .given .0 .1 .0))
 within c = rw (c .before .found .given .1) at (c .before .before .before .window-of .ensures)
 
@@ -31,11 +40,11 @@ stepping
     : (c : tie.After-step-at Inv-loop μ-loop)
     → (let head = c .before .before .before .before .before in
     let s = start head in
-    Stepping (s .args .loads .now) (s .args .periods .now) (s .args .keeps .now) (s .args .i) (s .args .jitter) (s .args .deadline) (head .loop .q)
+    Stepping (frame s) (s .args .loads .now) (s .args .periods .now) (s .args .keeps .now) (s .args .i) (s .args .jitter) (s .args .deadline) (head .loop .q)
     (head .loop .evaluations + c .before .before .found .given .0 .1 .0) (c .step-at .result))
 stepping c =
     let head = c .before .before .before .before .before in
-    walking-step _ _ _ _ _ _ (head .loop .inv .may) _ _ _ (head .loop .inv) _ _ (within (c .before)) _ (c .step-at .ensures)
+    walking-step _ _ _ _ _ _ _ (head .loop .inv .ruled) (head .loop .inv .may) _ _ _ (head .loop .inv) _ _ (within (c .before)) _ (c .step-at .ensures)
 
 mul-period : tie.Need-mul-period Inv-loop μ-loop
 mul-period c = omega arith
@@ -44,13 +53,16 @@ shared-slice-read-period : tie.Need-shared-slice-read-period Inv-loop μ-loop
 shared-slice-read-period c = omega arith
 
 once-each-requires : tie.Need-once-each-requires Inv-loop μ-loop
-once-each-requires c κs = c .before .before .before .before .before .before .pre .0 .columns .above
+once-each-requires c κs = c .before .before .before .before .before .before .before .before .pre .0 .columns .above
 
 loop-holds : tie.Need-loop-holds Inv-loop μ-loop
-loop-holds c = walking-start _ _ _ _ _ _ (c .before .before .before .before .before .before .before .pre .0)
+loop-holds c =
+    let s = c .before .before .before .before .before .before .before .before .before in
+    walking-start _ _ _ _ _ _ _ (ruled-columns _ _ _ _ _ (s .pre .1 .1 .columns)) (s .pre .0)
 
 window-of-requires : tie.Need-window-of-requires Inv-loop μ-loop
-window-of-requires c κs = (searched _ _ _ _ _ _ (c .loop .inv .may) _ _ _ (c .loop .inv) _ (c .before .once-each .ensures), start c .pre .1)
+window-of-requires c κs =
+    (searched _ _ _ _ _ _ _ (c .loop .inv .ruled) (c .loop .inv .may) _ _ _ (c .loop .inv) _ (c .before .once-each .ensures), start c .pre .1)
 
 enum-known-found : tie.Need-enum-known-found Inv-loop μ-loop
 enum-known-found c = search needs
@@ -61,7 +73,8 @@ enum-told c = search needs
 returns : tie.Need-returns Inv-loop μ-loop
 returns c =
     let head = c .before .before .before in
-    walking-none _ _ _ _ _ _ (head .loop .inv .may) _ _ _ (head .loop .inv) (rw (c .enum-told .given .1) at (c .before .before .window-of .ensures))
+    walking-none _ _ _ _ _ _ _ (head .loop .inv .ruled) (head .loop .inv .may) _ _ _ (head .loop .inv)
+    (rw (c .enum-told .given .1) at (c .before .before .window-of .ensures))
 
 add-evaluations : tie.Need-add-evaluations Inv-loop μ-loop
 add-evaluations c =
@@ -71,7 +84,7 @@ add-evaluations c =
 step-at-requires : tie.Need-step-at-requires Inv-loop μ-loop
 step-at-requires c κs =
     let head = c .before .before .before .before in
-    stepped _ _ _ _ _ _ (head .loop .inv .may) _ _ _ (head .loop .inv) _ _ (within c)
+    stepped _ _ _ _ _ _ _ (head .loop .inv .ruled) (head .loop .inv .may) _ _ _ (head .loop .inv) _ _ (within c)
 
 enum-told-2 : tie.Need-enum-told-2 Inv-loop μ-loop
 enum-told-2 c = search needs

@@ -2,30 +2,34 @@
 use mathlib.Core.Path.{_≡_, sym, ap, _∙_}
 use Rattle.model.specs.Checks.{refusalOf}
 use Rattle.model.specs.Calls.{runInputs}
-use Rattle.taskset.specs.TaskSet.{viewOf, refusalIn}
+use Rattle.taskset.specs.TaskSet.{refusalIn}
 use Rattle.trace.proofs.ListCallLaws.{run-checks}
 use Rattle.jumps.specs.Jumps.{jumpIn}
-use Rattle.nolkrada.specs.Interface.{sheetFrom}
+use Rattle.nolkrada.specs.Interface.{framedFrom}
 use Rattle.nolkrada.proofs.JumpEndLaws.{jump-stopped, jump-no-words, jump-refused, jump-ran}
 use borrow.Author.Needs.{needs}
 use Rattle.nolkrada.proofs.nolkrada_jump.Statement.{statement}
 use Rattle.nolkrada.proofs.nolkrada_jump.Tie as tie
 
 abbrev start : tie.After-sheet-from → tie.Start
-start c = c .before .before .before .before .before .before .before .before .before
+start c = c .before .before .before .before .before .before .before .before .before .before
 
 -- what the checks found, as the checks of a run of the sheet passed as numbers
 checks : (c : tie.After-check-two)
-    → let a = start (c .before .before) .args in
+    → let a = start (c .before .before .before) .args in
     refusalIn (c .check-two .result)
-    ≡ refusalOf (runInputs (viewOf (sheetFrom (a .sheet .now) (a .count) (a .charge))) (a .kept .now) (a .n) (a .task .now) (a .tick .now) (a .cost .now) (a .ready .now) (a .finish .now))
+    ≡ refusalOf
+    (runInputs (framedFrom (a .sheet .now) (a .count) (a .charge) (a .frame .now)) (a .kept .now) (a .n) (a .task .now) (a .tick .now) (a .cost .now) (a .ready .now) (a .finish .now))
 checks c =
-    let a = start (c .before .before) .args in
-    (rw (c .before .before .sheet-from .ensures) at (c .check-two .ensures))
-    ∙ run-checks (viewOf (sheetFrom (a .sheet .now) (a .count) (a .charge))) (a .kept .now) (a .n) (a .task .now) (a .tick .now) (a .cost .now) (a .ready .now) (a .finish .now)
+    let a = start (c .before .before .before) .args in
+    (rw (c .before .before .before .sheet-from .ensures, c .before .before .frame-from .ensures) at (c .check-two .ensures))
+    ∙ run-checks (framedFrom (a .sheet .now) (a .count) (a .charge) (a .frame .now)) (a .kept .now) (a .n) (a .task .now) (a .tick .now) (a .cost .now) (a .ready .now) (a .finish .now)
 
 sheet-from-requires : tie.Need-sheet-from-requires
 sheet-from-requires c κs = search needs
+
+frame-from-requires : tie.Need-frame-from-requires
+frame-from-requires c κs = search needs
 
 check-two-requires : tie.Need-check-two-requires
 check-two-requires c κs = search needs
@@ -39,7 +43,7 @@ slots-code-requires c κs = search needs
 returns : tie.Need-returns
 returns c =
     let d = c .before .before .before .before in
-    jump-stopped _ _ _ _ _ _ _ _ _ _ _ _ _ _ (sym (ap refusalIn (c .before .before .checked .given .1)) ∙ checks d) (c .slots-code .ensures)
+    jump-stopped _ _ _ _ _ _ _ _ _ _ _ _ _ _ _ (sym (ap refusalIn (c .before .before .checked .given .1)) ∙ checks d) (c .slots-code .ensures)
 
 enum-told : tie.Need-enum-told
 enum-told c = search needs
@@ -50,7 +54,7 @@ refusal-code-requires c κs = search needs
 returns-2 : tie.Need-returns-2
 returns-2 c =
     let d = c .before .before .before in
-    jump-no-words _ _ _ _ _ _ _ _ _ _ _ _ (d .before .if1 .taken) (sym (ap refusalIn (c .before .enum-told .given .1)) ∙ checks d) (c .refusal-code .ensures)
+    jump-no-words _ _ _ _ _ _ _ _ _ _ _ _ _ (d .before .if1 .taken) (sym (ap refusalIn (c .before .enum-told .given .1)) ∙ checks d) (c .refusal-code .ensures)
 
 run-requires : tie.Need-run-requires
 run-requires c κs = search needs
@@ -80,13 +84,14 @@ returns-3 : tie.Need-returns-3
 returns-3 c =
     let d = c .before .before .before .before .before .before .before .before in
     let b = d .before .before .before in
-    let f = b .before .sheet-from .ensures in
-    jump-refused _ _ _ _ _ _ _ _ _ _ _ _ _ _ _ _
+    let f = b .before .before .sheet-from .ensures in
+    let g = b .before .frame-from .ensures in
+    jump-refused _ _ _ _ _ _ _ _ _ _ _ _ _ _ _ _ _
     (b .if1 .left)
-    (sym (ap jumpIn (c .before .before .got .given .1)) ∙ (rw f at (d .run .ensures .0)))
+    (sym (ap jumpIn (c .before .before .got .given .1)) ∙ (rw (f, g) at (d .run .ensures .0)))
     (c .refusal-code2 .ensures)
-    (rw f at (d .run .ensures .1 .0))
-    (rw f at (d .run .ensures .1 .1))
+    (rw (f, g) at (d .run .ensures .1 .0))
+    (rw (f, g) at (d .run .ensures .1 .1))
 
 same-length-3 : tie.Need-same-length-3
 same-length-3 c = search needs
@@ -102,12 +107,13 @@ returns-4 c =
     let e = c .before .before .before .before .before in
     let d = e .before .before .before .before .before .before in
     let b = d .before .before .before in
-    let f = b .before .sheet-from .ensures in
-    jump-ran _ _ _ _ _ _ _ _ _ _ _ _ _ _ _ _
+    let f = b .before .before .sheet-from .ensures in
+    let g = b .before .frame-from .ensures in
+    jump-ran _ _ _ _ _ _ _ _ _ _ _ _ _ _ _ _ _
     (b .if1 .left)
-    (sym (ap jumpIn (e .got2 .given .1)) ∙ (rw f at (d .run .ensures .0)))
-    (rw f at (d .run .ensures .1 .0))
-    (rw f at (d .run .ensures .1 .1))
+    (sym (ap jumpIn (e .got2 .given .1)) ∙ (rw (f, g) at (d .run .ensures .0)))
+    (rw (f, g) at (d .run .ensures .1 .0))
+    (rw (f, g) at (d .run .ensures .1 .1))
     (c .before .before .put-one .ensures)
 
 pub nolkrada-jump-spec : {M : Type 1} → statement M
@@ -115,6 +121,7 @@ nolkrada-jump-spec =
     tie.close
     (tie.spec
     sheet-from-requires
+    frame-from-requires
     check-two-requires
     enum-known-checked
     slots-code-requires

@@ -8,6 +8,9 @@ use Rattle.nolkrada.proofs.nolkrada_run.Tie as tie
 sheet-from-requires : tie.Need-sheet-from-requires
 sheet-from-requires c κs = search needs
 
+frame-from-requires : tie.Need-frame-from-requires
+frame-from-requires c κs = search needs
+
 run-requires : tie.Need-run-requires
 run-requires c κs = search needs
 
@@ -21,16 +24,13 @@ same-length-2 : tie.Need-same-length-2
 same-length-2 c = search needs
 
 returns : tie.Need-returns
-returns c = (
-  c .code-of .ensures ∙ ap codeOf
-      (rw (c .before .before .before .before .before .before .before .before .sheet-from .ensures) at (c .before .before .before .before .before .run .ensures .0)),
-  (
-    (rw (c .before .before .before .before .before .before .before .before .sheet-from .ensures) at (c .before .before .before .before .before .run .ensures .1 .0)),
-    (rw (c .before .before .before .before .before .before .before .before .sheet-from .ensures) at (c .before .before .before .before .before .run .ensures .1 .1)),
-  ),
-)
+returns c =
+    let ran = c .before .before .before .before .before in
+    let f = ran .before .before .before .before .sheet-from .ensures in
+    let g = ran .before .before .before .frame-from .ensures in
+    (c .code-of .ensures ∙ ap codeOf (rw (f, g) at (ran .run .ensures .0)), (rw (f, g) at (ran .run .ensures .1 .0), rw (f, g) at (ran .run .ensures .1 .1)))
 
 pub nolkrada-run-spec : {M : Type 1} → statement M
 nolkrada-run-spec =
     tie.close
-    (tie.spec sheet-from-requires run-requires code-of-requires same-length same-length-2 returns)
+    (tie.spec sheet-from-requires frame-from-requires run-requires code-of-requires same-length same-length-2 returns)

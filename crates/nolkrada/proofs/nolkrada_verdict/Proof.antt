@@ -11,6 +11,9 @@ use Rattle.nolkrada.proofs.nolkrada_verdict.Tie as tie
 sheet-from-requires : tie.Need-sheet-from-requires
 sheet-from-requires c κs = search needs
 
+frame-from-requires : tie.Need-frame-from-requires
+frame-from-requires c κs = search needs
+
 verdict-requires : tie.Need-verdict-requires
 verdict-requires c κs = search needs
 
@@ -57,7 +60,8 @@ returns : tie.Need-returns
 returns c =
     ends-refused _ _ _ _ _ _ _
     (sym (ap verdictIn (c .before .before .got .given .1)) ∙
-    (rw (c .before .before .before .before .before .sheet-from .ensures) at (c .before .before .before .before .verdict .ensures)))
+    (rw (c .before .before .before .before .before .before .sheet-from .ensures, c .before .before .before .before .before .frame-from .ensures) at
+    (c .before .before .before .before .verdict .ensures)))
     (c .slots-code .ensures)
 
 same-length : tie.Need-same-length
@@ -66,9 +70,12 @@ same-length c = search needs
 returns-2 : tie.Need-returns-2
 unfolding verdictWords
 returns-2 c =
-    ends-answered _ verdictWords _ (c .before .before .before .before .before .before .before .before .before .before .before .before .args .answer .now) _ _ _
+    ends-answered _ verdictWords _ (c .before .before .before .before .before .before .before .before .before .before .before .before .before .before .args .answer .now) _ _ _
     (sym (ap verdictIn (c .before .before .before .before .before .got2 .given .1)) ∙
-    (rw (c .before .before .before .before .before .before .before .before .sheet-from .ensures) at
+    (rw (
+      c .before .before .before .before .before .before .before .before .before .sheet-from .ensures,
+      c .before .before .before .before .before .before .before .before .frame-from .ensures,
+    ) at
     (c .before .before .before .before .before .before .before .verdict .ensures)))
     (c .before .before .put-four .ensures)
 
@@ -78,9 +85,12 @@ same-length-2 c = search needs
 returns-3 : tie.Need-returns-3
 unfolding verdictWords
 returns-3 c =
-    ends-answered _ verdictWords _ (c .before .before .before .before .before .before .before .before .before .before .before .before .args .answer .now) _ _ _
+    ends-answered _ verdictWords _ (c .before .before .before .before .before .before .before .before .before .before .before .before .before .before .args .answer .now) _ _ _
     (sym (ap verdictIn (c .before .before .before .before .before .got3 .given .1)) ∙
-    (rw (c .before .before .before .before .before .before .before .before .sheet-from .ensures) at
+    (rw (
+      c .before .before .before .before .before .before .before .before .before .sheet-from .ensures,
+      c .before .before .before .before .before .before .before .before .frame-from .ensures,
+    ) at
     (c .before .before .before .before .before .before .before .verdict .ensures)))
     (c .before .before .put-four2 .ensures)
 
@@ -90,9 +100,12 @@ same-length-3 c = search needs
 returns-4 : tie.Need-returns-4
 unfolding verdictWords
 returns-4 c =
-    ends-answered _ verdictWords _ (c .before .before .before .before .before .before .before .before .before .before .before .before .args .answer .now) _ _ _
+    ends-answered _ verdictWords _ (c .before .before .before .before .before .before .before .before .before .before .before .before .before .before .args .answer .now) _ _ _
     (sym (ap verdictIn (c .before .before .before .before .before .got4 .given .1)) ∙
-    (rw (c .before .before .before .before .before .before .before .before .sheet-from .ensures) at
+    (rw (
+      c .before .before .before .before .before .before .before .before .before .sheet-from .ensures,
+      c .before .before .before .before .before .before .before .before .frame-from .ensures,
+    ) at
     (c .before .before .before .before .before .before .before .verdict .ensures)))
     (c .before .before .put-four3 .ensures)
 
@@ -101,6 +114,7 @@ nolkrada-verdict-spec =
     tie.close
     (tie.spec
     sheet-from-requires
+    frame-from-requires
     verdict-requires
     enum-known-got
     slots-code-requires

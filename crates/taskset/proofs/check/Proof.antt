@@ -1,6 +1,6 @@
 -- The loop has passed every task below i: nothing is wrong with any of them.
 use Prim.Native.Nat.{_≤_, _-_}
-use mathlib.Core.Path.{sym, ap, _∙_}
+use mathlib.Core.Path.{refl, sym, ap, _∙_}
 use borrow.Author.Needs.{needs}
 use native.Mathlib.Omega.{arith}
 use Rattle.model.proofs.SearchLaws.{Sought, sought-none, sought-next, sought-here, sought-all}
@@ -63,7 +63,7 @@ loop-again c = (
 )
 
 returns-4 : tie.Need-returns-4 Inv-loop μ-loop
-returns-4 c = passes _ (omega arith) (omega arith) (sought-all _ _ _ (c .before .loop .inv .2) (c .loop-test .left))
+returns-4 c = passes _ refl (omega arith) (omega arith) (sought-all _ _ _ (c .before .loop .inv .2) (c .loop-test .left))
 
 pub check-spec : {M : Type 1} → statement M
 check-spec =

@@ -1,0 +1,39 @@
+-- Two numbers make a window.
+use Rattle.frame.specs.FrameView.{windowAt}
+use borrow.Author.Needs.{needs}
+use Rattle.frame.proofs.window_at.Statement.{statement}
+use Rattle.frame.proofs.window_at.Tie as tie
+
+mul-number-at : tie.Need-mul-number-at
+mul-number-at c = search needs
+
+add-number-at : tie.Need-add-number-at
+add-number-at c = search needs
+
+number-at-requires : tie.Need-number-at-requires
+number-at-requires c κs = search needs
+
+mul-number-at-2 : tie.Need-mul-number-at-2
+mul-number-at-2 c = search needs
+
+add-number-at-2 : tie.Need-add-number-at-2
+add-number-at-2 c = search needs
+
+number-at-requires-2 : tie.Need-number-at-requires-2
+number-at-requires-2 c κs = search needs
+
+returns : tie.Need-returns
+unfolding windowAt
+returns c = cc
+
+pub window-at-spec : {M : Type 1} → statement M
+window-at-spec =
+    tie.close
+    (tie.spec
+    mul-number-at
+    add-number-at
+    number-at-requires
+    mul-number-at-2
+    add-number-at-2
+    number-at-requires-2
+    returns)

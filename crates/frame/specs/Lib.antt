@@ -1,0 +1,5 @@
+-- Windows in a frame: what the functions of this crate take and answer.
+pub mod FrameView
+pub mod Starts
+pub mod Reached
+pub mod WindowColumns
