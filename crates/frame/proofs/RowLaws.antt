@@ -1,14 +1,14 @@
 -- Laws of a frame passed as numbers: its windows, filled one by one.
 use Prim.Native.Nat.{ℕ, _+_, _≤_, _<_}
 use mathlib.Core.Path.{_≡_, refl, sym, ap, _∙_}
-use mathlib.Core.List.{List}
+use mathlib.Core.List.{List, [], _∷_}
 use native.Mathlib.Omega.{arith}
 use native.Mathlib.Numerals.{add-one}
 use lib.ListN.{length, take, set, length-set}
 use lib.Seq.{take-suc-set, take-all}
 use Rattle.model.specs.Series.{table}
 use Rattle.frame.specs.declared.Window.{Window}
-use Rattle.frame.specs.FrameView.{windowAt}
+use Rattle.frame.specs.FrameView.{noFrame, windowAt, frameFrom}
 
 -- of 16 windows the first k are those of the numbers
 pub record Filled (l : List ℕ) (windows : List Window) (k : ℕ) : Type 0 where
@@ -33,3 +33,9 @@ pub filled-all : (l : List ℕ) (windows : List Window) (k : ℕ) → Filled l w
 filled-all l windows k f h =
     let e : k ≡ 16 = omega (arith, f .within) in
     sym (take-all k windows (omega (arith, f .long))) ∙ f .front ∙ ap (table (windowAt l)) e
+
+-- an empty row is no frame
+pub empty-row : (l : List ℕ) → length l ≡ 0 → noFrame ≡ frameFrom l
+unfolding windowAt table
+empty-row [] h = refl
+empty-row (x ∷ l) h = absurd (omega arith)

@@ -95,6 +95,9 @@ fn windows_from(row: &[u32]) -> [Window; 16]
 pub fn frame_from(row: &[u32]) -> Frame
     ensures { λ r. ⌜ r ≡ frameFrom (now (row .entry)) ⌝ }
 {
+    if row.len() == 0 {
+        return no_frame();
+    }
     let ticks = number_at(row, 0);
     let count = number_at(row, 1);
     let windows = windows_from(row);
