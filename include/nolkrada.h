@@ -233,7 +233,9 @@ enum { NOLKRADA_ORDINARY = 0, NOLKRADA_HIGH_ONLY = 1 };
  * answer: 1 slot. NOLKRADA_ORDINARY: every task was judged, and no job of any task whose own releases keep its jitter is late,
  * whatever the other tasks release. NOLKRADA_HIGH_ONLY: the ordinary choice ended in 15, and this is the one with every low task kept
  * at 0 and not judged. The worst value of a low task is then 0, and nothing is promised about its lateness; no job of a high task
- * whose own releases keep its jitter is late, whatever all other tasks release.                Refuses 5 4 6 17 18 13 15. */
+ * whose own releases keep its jitter is late, whatever all other tasks release.
+ * No smaller kept jitters do, at any task: where some make every task fit, by nolkrada_verdict, the choice is ordinary, and none of its
+ * K is over theirs for the same task. Where it ends in 15, none make every high task down to that one fit. Refuses 5 4 6 17 18 13 15. */
 uint64_t nolkrada_choice(const uint32_t *sheet, size_t sheet_length, uint32_t count, uint8_t charge, const uint32_t *frame,
                          size_t frame_length, uint32_t *kept, size_t kept_length, uint32_t *worst, size_t worst_length,
                          uint64_t *answer, size_t answer_length);

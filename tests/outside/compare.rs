@@ -8,8 +8,8 @@ mod reference;
 mod sums;
 
 use generator::*;
-use std::collections::BTreeSet;
-use reference::{add_release, add_task, Budget, Chosen, Frame, Judged, Refusal, Release, Sheet, Supply, Task, Verdict};
+use std::collections::{BTreeMap, BTreeSet};
+use reference::{add_release, add_task, Budget, Chosen, Exhausted, Frame, Judged, Refusal, Release, Sheet, Supply, Task, Verdict};
 use reference::{HORIZON, MAX_FRAME, MAX_RELEASES, MAX_SHORT_TICK, MAX_TICK, MAX_TIME, MAX_WINDOWS};
 
 const SEED: u64 = 20_240_601;
@@ -198,6 +198,10 @@ struct Tally {
     frame_places: BTreeSet<u64>,
     /// How many choices with a low task ended in each of ENDS.
     ends: [u64; 4],
+    /// How many sets of kept jitters were tried, the most of one sheet, and how many sheets had each of TRIED.
+    sets: u64,
+    most_sets: u64,
+    tried: [u64; TRIED.len()],
     /// Files that were refused with 6 for a last byte of kind 6 alone, by that byte.
     wrong_marks: BTreeSet<u8>,
     verdicts: [u64; 3],
@@ -229,11 +233,20 @@ const LISTS: [&str; 4] = ["a list of one", "a last t over H", "a first t over H"
 /// task at which the ordinary one ended or at another.
 const ENDS: [&str; 4] = ["ordinary", "high only", "15 at the same task", "15 at another task"];
 
+/// What a sheet may have of which all sets of kept jitters were tried: how the choice with every mark high ends; a verdict of horizon, a
+/// jitter over the period; a frame or a charge and a choice with a K over 0; marks with which only the choice of the high tasks succeeds;
+/// and marks with which the ordinary one succeeds, and some set with a smaller K for a high task makes every high task fit.
+const TRIED: [&str; 13] = [
+    "every K 0", "a K over 0", "15 at task 0", "15 at task 1", "15 at task 2", "15 at task 3", "horizon", "J over P", "frame and K over 0",
+    "windows and K over 0", "charge and K over 0", "high only", "high tasks fit with less",
+];
+
 /// What of a sheet with a frame may differ from that without it.
 const UNLIKE: [&str; 4] = ["kinds of verdicts", "verdicts", "choices", "runs"];
 
-/// How often each end of a choice has to come up.
+/// How often each end of a choice has to come up, and each of TRIED.
 const OFTEN: u64 = 2_000;
+const SOME: u64 = 100;
 
 impl Tally {
     /// Notes how a choice with a low task ends, of which the ordinary one is given too.
@@ -370,12 +383,20 @@ fn compare_choice(r: &mut Random, tally: &mut Tally, case: &Case, budget: u64) {
 /// The same with so many slots of kept jitters, of worst values and of the answer.
 fn compare_choice_into(r: &mut Random, tally: &mut Tally, case: &Case, slots: [usize; 3], budget: u64) {
     let [a, b, w] = slots;
-    let (mut kept, mut worst, mut answer) = (numbers(r, a), numbers(r, b), words(r, w));
     let Ok(given) = reference::choice(&case.sheet(), a, b, &mut Budget::of(budget)) else {
         tally.passed_over += 1;
         return;
     };
     let expected = in_words(w, 1, given);
+    compare_choice_with(r, tally, case, slots, &expected);
+    if let Ok(chosen) = &expected {
+        compare_choice_evaluations(tally, case, chosen, budget.max(1_000_000));
+    }
+}
+
+/// The archive's choice with so many slots and this answer or refusal: every lent slot, and those that keep what they held.
+fn compare_choice_with(r: &mut Random, tally: &mut Tally, case: &Case, [a, b, w]: [usize; 3], expected: &Result<Chosen, Refusal>) {
+    let (mut kept, mut worst, mut answer) = (numbers(r, a), numbers(r, b), words(r, w));
     let got = library::choice(&case.numbers, case.count, case.charge, &case.frame, &mut kept.now, &mut worst.now, &mut answer.now);
     if expected.is_ok() {
         tally.answered(2, &case.sheet());
@@ -388,9 +409,11 @@ fn compare_choice_into(r: &mut Random, tally: &mut Tally, case: &Case, slots: [u
     tally.note(2, expected.as_ref().err().copied(), got, same, || {
         format!("kept {:?} worst {:?} answer {:?} expected {:?} {}", kept.now, worst.now, answer.now, expected, case.show())
     });
-    if let Ok(chosen) = &expected {
-        compare_choice_evaluations(tally, case, chosen, budget.max(1_000_000));
-    }
+}
+
+/// The tasks that a choice judged: all, or where it is that of the high tasks alone these.
+fn judged_tasks<'a>(sheet: &'a Sheet, chosen: &'a Chosen) -> impl Iterator<Item = usize> + 'a {
+    (0..sheet.count).filter(|&i| !(chosen.high_only && sheet.task(i).low))
 }
 
 /// The evaluations of a choice that succeeds, which the reference counts without a verdict: those of the archive's verdicts at the chosen
@@ -403,7 +426,7 @@ fn compare_choice_evaluations(tally: &mut Tally, case: &Case, chosen: &Chosen, b
         return;
     };
     let (mut fit, mut sum) = (true, 0);
-    for task in (0..sheet.count).filter(|&i| !(chosen.high_only && sheet.task(i).low)) {
+    for task in judged_tasks(&sheet, chosen) {
         let mut answer = [0; 4];
         let code = library::verdict(&case.numbers, case.count, case.charge, &case.frame, task as u32, &chosen.kept, &mut answer);
         (fit, sum) = (fit && (code, answer[0], answer[2]) == (0, 2, chosen.worst[task] as u64), sum + answer[3]);
@@ -1560,16 +1583,22 @@ fn marked_by_hand(r: &mut Random, tally: &mut Tally) {
     }
 }
 
+/// A sheet of any size with a charge and marks, and a list of one of these numbers of releases.
+fn marked_sheet_and_list(r: &mut Random, releases: &[usize]) -> (Sheet, Vec<Release>) {
+    let (tasks, top) = (r.of(&[1, 2, 5, 32]), r.of(&[40, 1_000, 20_000, 1_000_000]));
+    let sheet = if r.once_in(2) { small_sheet(r) } else { loaded_sheet(r, tasks, top) };
+    let sheet = any_charge(r, sheet);
+    let sheet = with_marks(r, sheet);
+    let (n, step) = (r.of(releases), r.of(&[0, 3, 40, 2_000]));
+    let list = if r.once_in(3) { legal_list_for(r, &sheet, n) } else { list_for(r, &sheet, n, step) };
+    (sheet, list)
+}
+
 /// A sheet with marks, and the same with every task high: the archive gives the same arrival counts, verdicts, checks, ready ticks and runs
 /// of both, the same choice where the ordinary one succeeds, and the same refusals. Sound and damaged.
 fn mark_law(r: &mut Random, tally: &mut Tally, cases: u32, releases: &[usize]) {
     for _ in 0..cases {
-        let (tasks, top) = (r.of(&[1, 2, 5, 32]), r.of(&[40, 1_000, 20_000, 1_000_000]));
-        let sheet = if r.once_in(2) { small_sheet(r) } else { loaded_sheet(r, tasks, top) };
-        let sheet = any_charge(r, sheet);
-        let sheet = with_marks(r, sheet);
-        let (n, step) = (r.of(releases), r.of(&[0, 3, 40, 2_000]));
-        let mut list = if r.once_in(3) { legal_list_for(r, &sheet, n) } else { list_for(r, &sheet, n, step) };
+        let (sheet, mut list) = marked_sheet_and_list(r, releases);
         if r.once_in(8) {
             damage_list(r, &sheet, &mut list);
         }
@@ -2061,12 +2090,7 @@ fn frame_rows(r: &mut Random, tally: &mut Tally, cases: u32) {
 /// A frame that is all window, and no frame, both of the archive: the same codes and slots but for the number of evaluations, which is 0.
 fn frame_law(r: &mut Random, tally: &mut Tally, cases: u32, releases: &[usize]) {
     for _ in 0..cases {
-        let (tasks, top) = (r.of(&[1, 2, 5, 32]), r.of(&[40, 1_000, 20_000, 1_000_000]));
-        let sheet = if r.once_in(2) { small_sheet(r) } else { loaded_sheet(r, tasks, top) };
-        let sheet = any_charge(r, sheet);
-        let sheet = with_marks(r, sheet);
-        let (n, step) = (r.of(releases), r.of(&[0, 3, 40, 2_000]));
-        let list = if r.once_in(3) { legal_list_for(r, &sheet, n) } else { list_for(r, &sheet, n, step) };
+        let (sheet, list) = marked_sheet_and_list(r, releases);
         let mut case = Case::sound(r, &sheet, &list);
         if r.once_in(5) {
             case.damage(r);
@@ -2137,6 +2161,263 @@ fn framed_by_hand(r: &mut Random, tally: &mut Tally) {
             compare_jump(r, tally, &case);
         }
     }
+}
+
+// ---- Sets of kept jitters ----------------------------------------------------------------------------------------------
+
+/// A set of kept jitters, one for each task, and the verdict of each task under it.
+struct Set {
+    kept: Vec<u32>,
+    verdicts: Vec<Verdict>,
+}
+
+impl Set {
+    /// Whether each of these tasks fits under the set.
+    fn fits(&self, tasks: &[usize]) -> bool {
+        tasks.iter().all(|&i| matches!(self.verdicts[i], Verdict::Fits { .. }))
+    }
+}
+
+/// All sets of kept jitters for the first so many tasks of a sheet, each from 0 to J, in rising order.
+fn kept_sets(sheet: &Sheet, tasks: usize) -> Vec<Vec<u32>> {
+    (0..tasks).fold(vec![vec![]], |sets, i| {
+        let longer = |set: Vec<u32>| (0..=sheet.task(i).j).map(move |k| [&set[..], &[k]].concat());
+        sets.into_iter().flat_map(longer).collect()
+    })
+}
+
+/// All sets of kept jitters of a sheet, each verdict by the reference's own. The verdict of a task depends on the kept jitters of it and of
+/// the tasks above it alone, and is found once for these.
+fn all_sets(sheet: &Sheet, budget: &mut Budget) -> Result<Vec<Set>, Exhausted> {
+    let mut verdicts = BTreeMap::new();
+    for kept in (1..=sheet.count).flat_map(|tasks| kept_sets(sheet, tasks)) {
+        let verdict = reference::verdict_of(sheet, &kept, kept.len() - 1, budget)?;
+        verdicts.insert(kept, verdict);
+    }
+    let set = |kept: Vec<u32>| Set { verdicts: (1..=sheet.count).map(|tasks| verdicts[&kept[..tasks]]).collect(), kept };
+    Ok(kept_sets(sheet, sheet.count).into_iter().map(set).collect())
+}
+
+/// The set that has in each slot the least number over all sets under which these tasks fit: these tasks fit under it too. None where they
+/// fit under no set.
+fn least_set<'a>(sets: &'a [Set], tasks: &[usize]) -> Option<&'a Set> {
+    let fit: Vec<&Set> = sets.iter().filter(|set| set.fits(tasks)).collect();
+    let first = fit.first()?;
+    let least: Vec<u32> = (0..first.kept.len()).map(|i| fit.iter().map(|set| set.kept[i]).min().unwrap()).collect();
+    Some(fit.into_iter().find(|set| set.kept == least).expect("the least numbers are not a set under which the tasks fit"))
+}
+
+/// What a choice that judges these tasks answers with a set under which they fit: the worst value of another task is 0.
+fn chosen_of(set: &Set, tasks: &[usize], high_only: bool) -> Chosen {
+    let worst = set.verdicts.iter().enumerate().map(|(i, verdict)| match verdict {
+        Verdict::Fits { r, .. } if tasks.contains(&i) => *r as u32,
+        _ => 0,
+    });
+    Chosen { kept: set.kept.clone(), worst: worst.collect(), high_only }
+}
+
+/// The tasks that are high with these marks.
+fn high_tasks(lows: &[bool]) -> Vec<usize> {
+    (0..lows.len()).filter(|&i| !lows[i]).collect()
+}
+
+/// The choice with these marks by all sets, and not task by task: the least set under which every task fits; where there is none, the
+/// least one under which every high task fits, whatever the low ones do; and where there is none either, 15 at the first high task with
+/// which the high tasks up to it fit under no set.
+fn choice_by_sets(sets: &[Set], lows: &[bool]) -> Result<Chosen, Refusal> {
+    let (all, high) = ((0..lows.len()).collect::<Vec<usize>>(), high_tasks(lows));
+    for (tasks, high_only) in [(&all, false), (&high, true)] {
+        if let Some(set) = least_set(sets, tasks) {
+            return Ok(chosen_of(set, tasks, high_only));
+        }
+    }
+    let last = (0..high.len()).find(|&n| least_set(sets, &high[..=n]).is_none()).unwrap();
+    Err(Refusal { number: 15, place: high[last] as u64 })
+}
+
+/// Notes what a sheet has of which all sets were tried, with its choice where every mark is high, and whether the marks of it show the
+/// last two of TRIED.
+fn note_tried(tally: &mut Tally, sheet: &Sheet, sets: &[Set], chosen: &Result<Chosen, Refusal>, marks: [bool; 2]) {
+    let over = chosen.as_ref().map_or(false, |c| c.kept.iter().any(|&k| k > 0));
+    let refused = |place: u64| chosen.as_ref().map_or_else(|x| x.place == place, |_| false);
+    let windows = sheet.frame.as_ref().map_or(0, |f| f.count);
+    let horizon = sets.iter().any(|set| set.verdicts.iter().any(|v| matches!(v, Verdict::Horizon { .. })));
+    let seen = [
+        chosen.is_ok() && !over,
+        over,
+        refused(0),
+        refused(1),
+        refused(2),
+        refused(3),
+        horizon,
+        sheet.tasks.iter().any(|t| t.j > t.p),
+        over && windows > 0,
+        over && windows > 1,
+        over && sheet.charge > 0,
+        marks[0],
+        marks[1],
+    ];
+    for (count, seen) in tally.tried.iter_mut().zip(seen) {
+        *count += seen as u64;
+    }
+    tally.sets += sets.len() as u64;
+    tally.most_sets = tally.most_sets.max(sets.len() as u64);
+}
+
+/// The archive's verdicts at a choice: each task that it judged fits with its worst value, and with no smaller K of its own.
+fn compare_least_keeps(tally: &mut Tally, case: &Case, chosen: &Chosen) {
+    let sheet = case.sheet();
+    for task in judged_tasks(&sheet, chosen) {
+        for k in 0..=chosen.kept[task] {
+            let (mut kept, mut answer) = (chosen.kept.clone(), [7; 4]);
+            kept[task] = k;
+            let got = library::verdict(&case.numbers, case.count, case.charge, &case.frame, task as u32, &kept, &mut answer);
+            let same = match answer {
+                [2, _, worst, _] => k == chosen.kept[task] && worst == chosen.worst[task] as u64,
+                _ => k < chosen.kept[task],
+            };
+            tally.note(1, None, got, same, || format!("task {} kept {:?} answer {:?} {:?} {}", task, kept, answer, chosen, case.show()));
+        }
+    }
+}
+
+/// Whether the choice is the ordinary one, and every high task fits under some set with a smaller K for a high task.
+fn fit_with_less(sets: &[Set], lows: &[bool], chosen: &Chosen) -> bool {
+    let high = high_tasks(lows);
+    let least = least_set(sets, &high).unwrap();
+    !chosen.high_only && high.iter().any(|&i| least.kept[i] < chosen.kept[i])
+}
+
+/// Small sheets of which all sets of kept jitters are tried by the reference's verdicts, with every pattern of marks: the archive chooses the
+/// least set, or refuses where there is none. A sheet with a walk that takes too long is passed over.
+fn small_sets(r: &mut Random, tally: &mut Tally, cases: u32) {
+    for _ in 0..cases {
+        let sheet = sheet_of_few_sets(r);
+        let budget = if r.once_in(200) { 20_000_000 } else { 200_000 };
+        let Ok(sets) = all_sets(&sheet, &mut Budget::of(budget)) else {
+            tally.passed_over += 1;
+            continue;
+        };
+        let n = sheet.count;
+        let mut marks = [false; 2];
+        for lows in patterns(n) {
+            let expected = choice_by_sets(&sets, &lows);
+            let case = Case::sound(r, &sheet.marked(&lows), &[]);
+            let more = r.within(0, 2) as usize;
+            compare_choice_with(r, tally, &case, [n + more, n, 1 + more], &expected);
+            if let Ok(chosen) = &expected {
+                compare_least_keeps(tally, &case, chosen);
+                marks[0] |= chosen.high_only && lows.contains(&false);
+                marks[1] |= fit_with_less(&sets, &lows, chosen);
+            }
+        }
+        note_tried(tally, &sheet, &sets, &choice_by_sets(&sets, &vec![false; n]), marks);
+    }
+}
+
+/// A sheet whose high task fits with less than the choice keeps. Task 0 (10, 5, 1, 4) is low: W(0) = 1, R(0) = 1 + 1 + 5 − K, which is at
+/// most 4 from K = 3 on. Task 1 (20, 5, 8, 12) is high. With task 0 kept at 3 its σ(9) and σ(10) are 2, since 9 + 3 is over its period of
+/// 10: W(0) = 8 + 2 = 10, R(0) = 10 + 1 + 5 − K, which is at most 12 from K = 4 on. So the choice is 3, 4. With task 0 kept at 0 its σ(9)
+/// is 1: W(0) = 8 + 1 = 9, R(0) = 9 + 1 + 5 − K, which is at most 12 from K = 3 on. Under the set 0, 3 the high task fits, with less than
+/// the choice keeps, and the low one is late with R(0) = 7. So with low tasks it is not enough that every high task fits under a set.
+fn set_by_hand(r: &mut Random, tally: &mut Tally) {
+    let sheet = Sheet::of(&[Task::high(10, 5, 1, 4).marked(true), Task::high(20, 5, 8, 12)]);
+    let verdicts = |kept: [u32; 2]| [0, 1].map(|i| reference::verdict_of(&sheet, &kept, i, &mut Budget::of(1_000)).ok().unwrap());
+    let (late, fits) = (|r: i64| Verdict::Late { q: 0, r }, |r: i64| Verdict::Fits { r, q: 0 });
+    assert_eq!(verdicts([3, 4]), [fits(4), fits(12)]);
+    assert_eq!(verdicts([2, 4]), [late(5), fits(12)]);
+    assert_eq!(verdicts([3, 3]), [fits(4), late(13)]);
+    assert_eq!(verdicts([0, 3]), [late(7), fits(12)]);
+    assert_eq!(verdicts([0, 2]), [late(7), late(13)]);
+    let sets = all_sets(&sheet, &mut Budget::of(10_000)).ok().unwrap();
+    let expected = Chosen { kept: vec![3, 4], worst: vec![4, 12], high_only: false };
+    for lows in patterns(2) {
+        assert_eq!(choice_by_sets(&sets, &lows).as_ref(), Ok(&expected));
+        assert_eq!(fit_with_less(&sets, &lows, &expected), lows == [true, false]);
+        let case = Case::sound(r, &sheet.marked(&lows), &[]);
+        compare_choice_with(r, tally, &case, [2, 2, 1], &Ok(expected.clone()));
+        compare_least_keeps(tally, &case, &expected);
+    }
+}
+
+/// The walk of a task: its verdict, and W(q) of each q that it took. One over the horizon is the largest number.
+type Walk = (Verdict, Vec<i64>);
+
+/// The walks of a task under each set of kept jitters for it and the tasks above it.
+fn all_walks(sheet: &Sheet, i: usize, budget: &mut Budget) -> Result<BTreeMap<Vec<u32>, Walk>, Exhausted> {
+    let mut walks = BTreeMap::new();
+    for kept in kept_sets(sheet, i + 1) {
+        let judged = reference::judge(sheet, &kept, i, budget)?;
+        let mut windows = reference::Windows::of(sheet, &kept, i, budget);
+        let mut taken = Vec::new();
+        for q in 0..judged.taken {
+            taken.push(windows.get(q)?.unwrap_or(i64::MAX));
+        }
+        walks.insert(kept, (judged.verdict, taken));
+    }
+    Ok(walks)
+}
+
+/// The walk of a task with less kept above it, and that with more, and the same K of its own: each W(q) is no larger, and so is each R(q),
+/// which is W(q) and a number that depends on q and that K alone. Where it fits with more it fits with less, the largest R is no larger and
+/// the walk stops no later. Returns whether it stops earlier, and whether it fits with less alone.
+fn check_less((less, first): &Walk, (more, second): &Walk) -> [bool; 2] {
+    assert!(first.iter().zip(second).all(|(a, b)| a <= b), "{first:?} {second:?}");
+    match (less, more) {
+        (Verdict::Fits { r: a, .. }, Verdict::Fits { r: b, .. }) => {
+            assert!(a <= b && first.len() <= second.len(), "{less:?} {first:?} {more:?} {second:?}");
+            [first.len() < second.len(), false]
+        }
+        (_, Verdict::Fits { .. }) => panic!("{less:?} with less kept above, {more:?} with more"),
+        _ => [false, matches!(less, Verdict::Fits { .. })],
+    }
+}
+
+/// The verdicts of a task over its own K from 0 to J, with those above it kept as they are: late for some, then fits for some, then horizon
+/// for some, and any of the three for none. Returns 1 for late, 2 for fits and 4 for horizon, added up over those that there are.
+fn check_stretches(verdicts: &[Verdict]) -> usize {
+    let place = |verdict: &Verdict| match verdict {
+        Verdict::Late { .. } => 0,
+        Verdict::Fits { .. } => 1,
+        Verdict::Horizon { .. } => 2,
+    };
+    assert!(verdicts.windows(2).all(|pair| place(&pair[0]) <= place(&pair[1])), "{verdicts:?}");
+    verdicts.iter().fold(0, |seen, verdict| seen | 1 << place(verdict))
+}
+
+/// A sheet of two tasks whose second is late with K = 0 and at the horizon with more, which rarely comes up. They take 599,999 of 600,000
+/// ticks. With 20 kept for task 0, W(q) has q + 2 jobs of it up to q = 18: W(q) = (q + 1) × 599,999 + 300,000, over (q + 1) × 600,000, so
+/// that the walk does not stop before q = 16, where W(q) is over the horizon. R(0) = 899,999 + 1 + 2 − K is over 900,001 with K = 0 alone, and
+/// R(q) of a later q is 900,002 − q.
+fn late_then_horizon() -> Sheet {
+    Sheet::of(&[Task::high(600_000, 20, 300_000, MAX_TIME), Task::high(600_000, 2, 299_999, 900_001)])
+}
+
+/// The laws by which a choice is the least set, on the walks of the reference: every set is compared with each that has one less for one task
+/// above, and from any set such steps lead to any that is nowhere larger; and the verdicts over a task's own K. Each combination of late,
+/// fits and horizon comes up.
+fn check_reference_sets(r: &mut Random, cases: u32) {
+    let (mut earlier, mut fit, mut stretches) = (0, 0, [0; 8]);
+    for case in 0..cases {
+        let sheet = if case == 0 { late_then_horizon() } else { sheet_of_few_sets(r) };
+        for i in 0..sheet.count {
+            let Ok(walks) = all_walks(&sheet, i, &mut Budget::of(200_000)) else { break };
+            for (kept, walk) in &walks {
+                for j in (0..i).filter(|&j| kept[j] > 0) {
+                    let mut less = kept.clone();
+                    less[j] -= 1;
+                    let seen = check_less(&walks[&less], walk);
+                    (earlier, fit) = (earlier + seen[0] as u32, fit + seen[1] as u32);
+                }
+            }
+            // sets that differ in the task's own K alone stand side by side
+            let verdicts: Vec<Verdict> = walks.values().map(|walk| walk.0).collect();
+            for row in verdicts.chunks(sheet.task(i).j as usize + 1) {
+                stretches[check_stretches(row)] += 1;
+            }
+        }
+    }
+    assert!(earlier > 1_000 && fit > 1_000 && !stretches[1..].contains(&0), "{earlier} {fit} {stretches:?}");
 }
 
 /// Some tasks of one period P and one kept jitter K above a task of which W(0) is kP − K: what they leave free of each P up to there is
@@ -2565,6 +2846,7 @@ fn main() {
     timed("reference: marks and late jobs", || check_reference_marks(r, 10_000));
     timed("reference: frames by step and by tick", || check_reference_frames(r, 4_000));
     timed("reference: frames and late jobs", || check_reference_promises(r, 4_000));
+    timed("reference: sets of kept jitters", || check_reference_sets(r, 20_000));
     timed("printed sheet", || printed(r, tally));
     timed("answers that are too short", || short_answers(r, tally));
     timed("small sheets and lists", || small(r, tally, 120_000));
@@ -2594,6 +2876,8 @@ fn main() {
     timed("frames: bursts and so on", || framed_lists(r, tally, 300, &[2, 5, 33], &[2, 5, 12, 100, MAX_FRAME]));
     timed("the same with 1,024 releases", || framed_lists(r, tally, 8, &[1024], &[5, 100, MAX_FRAME]));
     timed("frames: largest finish", || largest_framed_finish(r, tally));
+    timed("sets of kept jitters: by hand", || set_by_hand(r, tally));
+    timed("sets of kept jitters: of small sheets", || small_sets(r, tally, 60_000));
     timed("ticks at 1,000,000,000", || late_ticks(r, tally, 3));
     timed("ticks past it, up to the limit", || long_ticks(r, tally, 20_000, &[0, 1, 2, 5, 12]));
     timed("the same with 1,024 releases", || long_ticks(r, tally, 60, &[1023, 1024, 1024, 1025]));
@@ -2633,6 +2917,8 @@ fn main() {
     println!("charges with which a call was answered: {}", tally.charges.len());
     let ends: Vec<String> = ENDS.iter().zip(tally.ends).map(|(name, n)| format!("{name} {n}")).collect();
     println!("choices with low tasks  {}; last bytes of kind 6 refused {}", ends.join("  "), tally.wrong_marks.len());
+    let tried: Vec<String> = TRIED.iter().zip(tally.tried).map(|(name, n)| format!("{name} {n}")).collect();
+    println!("sets of kept jitters tried {}, most of one sheet {}; sheets  {}", tally.sets, tally.most_sets, tried.join("  "));
     let [horizon, late, fits] = tally.framed_verdicts;
     println!("verdicts with a frame  horizon {}  late {}  fits {}", horizon, late, fits);
     let unlike: Vec<String> = (0..4).map(|k| format!("{} {} of {}", UNLIKE[k], tally.unlike_none[k], tally.beside_none[k])).collect();
@@ -2650,12 +2936,13 @@ fn main() {
     let charges = tally.charges.len() == 255 && (0..10).all(|call| (tally.charged[call] > 0) != (call == 8));
     let marks = tally.wrong_marks.len() == 255 && (0..10).all(|call| (tally.marked[call] > 0) != (call == 8));
     let ends = tally.ends.iter().all(|&n| n >= OFTEN);
+    let sets = tally.tried.iter().all(|&n| n >= SOME);
     let lists = !tally.lists.contains(&0) && tally.most_evaluations > 1_000_000 && tally.added_up > 0;
     let numbers = !(1..19).any(|n| tally.refusals[n] == 0) && !tally.verdicts.contains(&0);
-    let missing = !(numbers && lists && stops && ticks && charges && marks && ends && frames);
+    let missing = !(numbers && lists && stops && ticks && charges && marks && ends && sets && frames);
     if missing {
         println!("some refusal, verdict, kind of list, number of evaluations or stops, largest tick, charge, mark, frame or choice never came up");
-        println!("or, of the choices with low tasks, not often enough");
+        println!("or, of the choices with low tasks or of the sheets all of whose sets of kept jitters were tried, not often enough");
     }
     std::process::exit(if tally.differences == 0 && !missing { 0 } else { 1 });
 }

@@ -1,6 +1,6 @@
 //! Seeded cases: sheets, frames, kept jitters, lists of releases, files and texts, sound and damaged.
 
-use crate::reference::{add_release, add_task, encode, finish_ticks_by_job, text_of, Frame, Release, Sheet, Task};
+use crate::reference::{add_release, add_task, encode, finish_ticks_by_job, text_of, Budget, Frame, Release, Sheet, Supply, Task, Windows};
 use crate::reference::{MAX_SHORT_TICK, MAX_TICK, MAX_TIME, MAX_WINDOWS};
 
 /// SplitMix64.
@@ -196,6 +196,72 @@ pub fn boundary_sheet(r: &mut Random) -> Sheet {
         })
         .collect();
     Sheet::of(&tasks)
+}
+
+/// The most sets of kept jitters of a sheet of which all are tried.
+const MOST_SETS: u32 = 300;
+
+/// Jitters of so many tasks, some of them 0, of which there are at most MOST_SETS sets of kept jitters. Any task may have the largest.
+fn few_jitters(r: &mut Random, tasks: u32) -> Vec<u32> {
+    let mut left = MOST_SETS;
+    let mut all = Vec::new();
+    for _ in 0..tasks {
+        let most = r.of(&[0, 2, 4, 9, 30]).min(left - 1);
+        let j = r.within(0, most);
+        left /= j + 1;
+        all.push(j);
+    }
+    all.rotate_left(r.within(0, tasks - 1) as usize);
+    all
+}
+
+/// Periods, and what a job takes with the charge, of so many tasks with so many of our ticks in each 840: short periods, and a part of our
+/// ticks that is taken in all, from little to more than there are.
+fn short_works(r: &mut Random, tasks: u32, least: u32, ours: u32) -> Vec<(u32, u32)> {
+    let (per_cent, stretch) = (r.of(&[30, 60, 80, 95, 110]), 840 / ours);
+    let work = |p: u32| (p * ours / 840 * per_cent / 100 / tasks).clamp(least, p);
+    (0..tasks).map(|_| r.within(least, 6 * least * tasks * stretch)).map(|p| (p, work(p))).collect()
+}
+
+/// The same with one long period of whole frames, of which the tasks take all of our ticks but so many, so that a walk reaches the horizon
+/// after a few q. Now and then a task more is below them.
+fn long_works(r: &mut Random, tasks: u32, least: u32, ours: u32, slack: u32) -> Vec<(u32, u32)> {
+    let frames = r.within(480, 1_170);
+    let (p, all) = (840 * frames, ours * frames - slack);
+    let full = if tasks > 1 && r.once_in(3) { tasks - 1 } else { tasks };
+    let mut works: Vec<(u32, u32)> = (0..tasks).map(|i| (p, if i < full { all / full } else { least })).collect();
+    works[0].1 += all % full;
+    works
+}
+
+/// A task below the others of a sheet, with a deadline that it just meets with up to so much of its jitter kept, or just misses, where the
+/// tasks above are kept at some number; and any deadline where there is no such.
+fn add_edge_task(r: &mut Random, sheet: &mut Sheet, (p, work): (u32, u32), j: u32, most: u32) {
+    sheet.tasks.push(Task::high(p, j, work - sheet.charge as u32, MAX_TIME));
+    sheet.count += 1;
+    let i = sheet.count - 1;
+    let kept = kept_for(r, sheet);
+    let d = match Windows::of(sheet, &kept, i, &mut Budget::of(5_000)).get(0) {
+        Ok(Some(w)) if !r.once_in(8) => w as u32 + 1 + j - r.within(0, most.min(j)) - r.once_in(8) as u32,
+        _ => r.within(work, 4 * work + p + j),
+    };
+    sheet.tasks[i].d = d.clamp(work, MAX_TIME);
+}
+
+/// One to four high tasks of which all sets of kept jitters can be tried, with a charge of up to 3 or none, and a frame of up to 8 ticks
+/// or none. Periods are short or long.
+pub fn sheet_of_few_sets(r: &mut Random) -> Sheet {
+    let (n, charge, ticks) = (r.within(1, 4), r.of(&[0, 0, 1, 2, 3]), r.within(2, 8));
+    let pattern = r.within(1, (1 << ticks) - 1);
+    let frame = if r.once_in(2) { None } else { Some(pattern_frame(ticks, pattern)) };
+    let (ours, least) = (Supply::of(&frame).before(840) as u32, charge as u32 + 1);
+    let mut sheet = Sheet::of(&[]).charged(charge).framed(frame);
+    let (long, slack) = (r.once_in(3), r.within(0, 3));
+    let works = if long { long_works(r, n, least, ours, slack) } else { short_works(r, n, least, ours) };
+    for (work, j) in works.into_iter().zip(few_jitters(r, n)) {
+        add_edge_task(r, &mut sheet, work, j, if long { slack } else { j });
+    }
+    sheet
 }
 
 /// The numbers of a sheet as the archive writes them: a mark is 0 for high and 1 for low.

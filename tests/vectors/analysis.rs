@@ -854,6 +854,41 @@ fn framed_checks(v: &mut Vectors) {
     v.worked("verdict, frame 18 at 1, charge 5", &verdict_blocks(&charged), &verdict_answer(&charged), " refused 17 at 0");
 }
 
+/// The verdicts of two tasks under every set of kept jitters, and the choice, worked out by hand: no set under which both tasks fit is smaller at either of them.
+fn every_set(v: &mut Vectors) {
+    let pair = |e: u32, d: u32| sheet(&[(10, 5, 1, 4), (20, 5, e, d)]);
+    // W(0) of task 0 is 1, R(0) 7 - K. W(0) of task 1 is 9, R(0) 15 - K, and with K 2 or more of task 0 one more. So with D 10 task 1 fits where task 0 keeps 0 or 1 alone.
+    let charged = sheet(&[(10, 5, 1, 5), (20, 5, 7, 13)]).charged(1);
+    let gaps = in_frame(&sheet(&[(20, 4, 2, 8), (40, 4, 4, 13)]), 10, &[(0, 3), (4, 3)]);
+    for (label, s, lows, line) in [
+        ("D 12", pair(8, 12), [false, false], " fits, 3 4 - -, 4 12 - -"),
+        ("D 12", pair(8, 12), [true, false], " fits, 3 4 - -, 4 12 - -"),
+        ("D 10", pair(8, 10), [false, false], " refused 15 at 1, - - - -, - - - -"),
+        ("D 10", pair(8, 10), [true, false], " high only, 0 5 - -, 0 10 - -"),
+        // Loads of 2 and 8: W(0) is 2, and 12 with K 3 of task 0.
+        ("charge 1", charged, [false, false], " fits, 3 5 - -, 5 13 - -"),
+        // W(0) is 5 and 10.
+        ("gaps of 1 and 3", gaps, [false, false], " fits, 2 2 - -, 8 13 - -"),
+    ] {
+        let s = s.marked(&lows);
+        let c = choosing(&s);
+        v.worked(&format!("choice, every set, {label}, marks {}", letters(&lows)), &choice_blocks(&c), &choice_answer(&c), line);
+        if lows == [false, false] {
+            verdicts_of_every_set(v, label, &s);
+        }
+    }
+}
+
+/// The verdicts of two tasks under every set of kept jitters.
+fn verdicts_of_every_set(v: &mut Vectors, label: &str, s: &Sheet) {
+    for k in 0..=s.tasks[0].j {
+        add_verdict(v, &format!("every set, {label}, task 0, K {k}"), &about(s, 0, &[k, 0], 0));
+        for own in 0..=s.tasks[1].j {
+            add_verdict(v, &format!("every set, {label}, task 1, K {k} {own}"), &about(s, 1, &[k, own], 0));
+        }
+    }
+}
+
 pub fn vectors() -> Vectors {
     let mut v = Vectors::new();
     worked_tasks(&mut v);
@@ -894,5 +929,6 @@ pub fn vectors() -> Vectors {
     framed_whole(&mut v);
     framed_small(&mut v);
     framed_checks(&mut v);
+    every_set(&mut v);
     v
 }

@@ -28,7 +28,8 @@ use Rattle.response.specs.VerdictSays.{Passed}
 use Rattle.response.proofs.VerdictLaws.{goes-on}
 use Rattle.choice.specs.Choices.{nextHigh}
 use Rattle.choice.proofs.WorstPeakLaws.{bound-under, bound-equal, peak-is}
-use Rattle.choice.proofs.VerdictOfKeepLaws.{keep-own, Passes, passes-on, horizon-at, late-at, fits-at, taken-at}
+use Rattle.response.proofs.ChoiceLaws.{keep-own}
+use Rattle.choice.proofs.VerdictOfKeepLaws.{Passes, passes-on, horizon-at, late-at, fits-at, taken-at}
 
 -- x = J − qP: max(0, −x), and max(0, x − K)
 abbrev pub beyond : Tasks → ℕ → ℕ → ℕ
@@ -124,7 +125,7 @@ module _ (s : Tasks) (above : List ℕ) (i : ℕ) (W : ℕ → Option ℕ) (len 
     module _ (w : ℕ) (is : W q ≡ some w) where
       is-late : (K : ℕ) → A - s .deadline i ≤ K → s .deadline i + beyond s i q < w + pickup + ahead s i K q → isFits (verdict s (andKeep above K) i) ≡ false
       unfolding isFits
-      is-late K l h = ap isFits (late-at s (andKeep above K) i q w (walked .within) (walked .passes K l) (same K q ∙ is) (late-yes K q w h))
+      is-late K l h = ap isFits (late-at s (andKeep above K) i q w (same K q ∙ is) (walked .within) (walked .passes K l) (late-yes K q w h))
 
       -- where W(q) + pickup + min(0, x) is over D, no K fits
       pub walk-over : s .deadline i + beyond s i q < w + pickup → leastKeep s above i ≡ none
@@ -184,13 +185,13 @@ module _ (s : Tasks) (above : List ℕ) (i : ℕ) (W : ℕ → Option ℕ) (len 
               (peak (boundAt s (andKeep above (N - s .deadline i)) i) q .at)
           fits-next =
               let K = N - s .deadline i in
-              fits-at s (andKeep above K) i q w (walked .within) (walked .passes K (omega arith)) (same K q ∙ is) (in-time K (omega arith)) (last-yes K q w stop)
+              fits-at s (andKeep above K) i q w (same K q ∙ is) (walked .within) (walked .passes K (omega arith)) (in-time K (omega arith)) (last-yes K q w stop)
 
           -- its verdict takes the q up to here
           pub walk-taken : taken s (andKeep above (N - s .deadline i)) i ≡ suc q
           walk-taken =
               let K = N - s .deadline i in
-              taken-at s (andKeep above K) i q w (walked .within) (walked .passes K (omega arith)) (same K q ∙ is) (in-time K (omega arith)) (last-yes K q w stop)
+              taken-at s (andKeep above K) i q w (same K q ∙ is) (walked .within) (walked .passes K (omega arith)) (in-time K (omega arith)) (last-yes K q w stop)
 
           -- where it stops there, it is the choice
           pub walk-keep : leastKeep s above i ≡ some (N - s .deadline i)

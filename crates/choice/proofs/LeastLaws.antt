@@ -29,7 +29,7 @@ use Rattle.choice.specs.declared.Step.{Step}
 use Rattle.choice.specs.declared.Step.the-variants.{Stops, Fails, Next}
 use Rattle.choice.specs.Choices.{flat, Searched, WithinIs, Flat, Walkable, LeastOf, nextHigh, stepOf, Stepped}
 use Rattle.choice.proofs.ChoiceStepLaws.{step-over, step-keep, step-next, gap-over, gap-under}
-use Rattle.choice.proofs.VerdictOfKeepLaws.{keep-above}
+use Rattle.response.proofs.ChoiceLaws.{keep-above}
 use Rattle.choice.proofs.ChoiceWalkLaws.{Walked, walk-start, walk-none, walk-over, walk-next, walk-taken, walk-keep, walk-worst}
 
 -- W(q) of task i, from the columns

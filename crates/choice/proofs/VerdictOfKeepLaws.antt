@@ -1,92 +1,56 @@
 -- What the verdict of a task says where its walk stops, and the q that it takes.
 use Prim.Native.Nat.{ℕ, suc, _≤_, _<_}
-use mathlib.Core.Path.{_≡_, _∙_}
+use mathlib.Core.Path.{_≡_}
 use mathlib.Core.Bool.{true, false}
 use mathlib.Core.Option.{some, none}
-use mathlib.Core.List.{List, [], _∷_}
 use native.Mathlib.Omega.{arith}
-use lib.ListN.{length, getD, List·getD-append}
-use lib.Seq.{getD-append-seam}
+use borrow.Author.Tests.{leb-true, leb-false}
 use Rattle.model.specs.Limits.{horizonTick}
-use Rattle.model.specs.Search.{first}
 use Rattle.model.specs.Tasks.{Tasks}
 use Rattle.model.specs.Demand.{window}
-use Rattle.model.specs.Verdict.{horizon, late, fits, boundOf, isLate, isLast, stops, boundAt, peak, judge, verdict}
+use Rattle.model.specs.Verdict.{horizon, late, fits, boundOf, isLate, isLast, stops, boundAt, peak, verdict}
 use Rattle.model.specs.Evaluations.{taken}
-use Rattle.model.specs.Choice.{andKeep}
-use Rattle.model.proofs.SearchLaws.{first-is}
-
--- the choices of the tasks above, and K for the task below them
-pub keep-above : (above : List ℕ) (K j : ℕ) → j < length above → andKeep above K j ≡ getD above j 0
-keep-above above K j h = List·getD-append above (K ∷ []) 0 j h
-
-pub keep-own : (above : List ℕ) (K i : ℕ) → length above ≡ i → andKeep above K i ≡ K
-keep-own above K i h = rw (← h) (getD-append-seam above K [] 0)
+use Rattle.response.specs.VerdictSays.{Missing, Passed}
+use Rattle.response.proofs.VerdictLaws.{stops-none}
+use Rattle.response.proofs.WalkEnds.{Ended, last-stops, over-goes, missing-stops, says-late, says-fits, says-horizon, takes}
 
 module _ (s : Tasks) (k : ℕ → ℕ) (i : ℕ) where
   -- the walk over q has not stopped before q
   abbrev pub Passes : ℕ → Type 0
   Passes q = (x : ℕ) → x < q → stops s k i x ≡ false
 
-  pub passes-on : (q w : ℕ) → window s k i q ≡ some w → isLate s k i q w ≡ false → isLast s k i q w ≡ false → stops s k i q ≡ false
-  unfolding stops
-  passes-on q w e l f = rw (stops, e, l, f)
+  -- it ends at q where it stops there
+  abbrev end-at : (q : ℕ) → q ≤ horizonTick → Passes q → stops s k i q ≡ true → Ended s k i
+  end-at q h f e = record { at = q; found = record { holds = e; low = omega arith; high = omega arith; before = λ x a b. f x b } }
 
-  stops-none : (q : ℕ) → window s k i q ≡ none → stops s k i q ≡ true
-  unfolding stops
-  stops-none q e = rw (stops, e)
+  module _ (q w : ℕ) (e : window s k i q ≡ some w) where
+    abbrev missed : isLate s k i q w ≡ true → Missing s k i q
+    missed l = record { w = w; is = e; over = l }
 
-  stops-late : (q w : ℕ) → window s k i q ≡ some w → isLate s k i q w ≡ true → stops s k i q ≡ true
-  unfolding stops
-  stops-late q w e l = rw (stops, e, l)
+    abbrev passed : isLate s k i q w ≡ false → Passed s k i q
+    passed l = record { w = w; is = e; in-time = l }
 
-  stops-last : (q w : ℕ) → window s k i q ≡ some w → isLate s k i q w ≡ false → isLast s k i q w ≡ true → stops s k i q ≡ true
-  unfolding stops
-  stops-last q w e l f = rw (stops, e, l, f)
+    pub passes-on : isLate s k i q w ≡ false → isLast s k i q w ≡ false → stops s k i q ≡ false
+    unfolding isLast
+    passes-on l f = over-goes s k i q (passed l) (leb-false _ _ f)
 
-  -- the first q that stops
-  first-stop : (q : ℕ) → q ≤ horizonTick → Passes q → stops s k i q ≡ true → first (stops s k i) (suc horizonTick) 0 ≡ some q
-  first-stop q h f e =
-      first-is (stops s k i) (suc horizonTick) 0 q (record { holds = e; low = omega arith; high = omega arith; before = λ x a b. f x b })
+    stops-last : isLate s k i q w ≡ false → isLast s k i q w ≡ true → stops s k i q ≡ true
+    unfolding isLast
+    stops-last l m = last-stops s k i q (passed l) (leb-true _ _ m)
 
-  -- the verdict is what is said there
-  verdict-at : (q : ℕ) → q ≤ horizonTick → Passes q → stops s k i q ≡ true → verdict s k i ≡ judge s k i q
-  unfolding verdict
-  verdict-at q h f e = rw (verdict, first-stop q h f e)
+    -- "late"
+    pub late-at : q ≤ horizonTick → Passes q → isLate s k i q w ≡ true → verdict s k i ≡ late q (boundOf s k i q w)
+    late-at h f l = says-late s k i (end-at q h f (missing-stops s k i q (missed l))) (missed l)
+
+    module _ (h : q ≤ horizonTick) (f : Passes q) (l : isLate s k i q w ≡ false) (m : isLast s k i q w ≡ true) where
+      -- "fits"
+      pub fits-at : verdict s k i ≡ fits (peak (boundAt s k i) q .value) (peak (boundAt s k i) q .at)
+      fits-at = says-fits s k i (end-at q h f (stops-last l m)) (passed l)
+
+      -- the q that it takes
+      pub taken-at : taken s k i ≡ suc q
+      taken-at = takes s k i (end-at q h f (stops-last l m))
 
   -- "horizon"
   pub horizon-at : (q : ℕ) → q ≤ horizonTick → Passes q → window s k i q ≡ none → verdict s k i ≡ horizon q
-  unfolding judge
-  horizon-at q h f e = verdict-at q h f (stops-none q e) ∙ rw (judge, e)
-
-  -- "late"
-  pub late-at : (q w : ℕ)
-      → q ≤ horizonTick
-      → Passes q
-      → window s k i q ≡ some w
-      → isLate s k i q w ≡ true
-      → verdict s k i ≡ late q (boundOf s k i q w)
-  unfolding judge
-  late-at q w h f e l = verdict-at q h f (stops-late q w e l) ∙ rw (judge, e, l)
-
-  -- "fits"
-  pub fits-at : (q w : ℕ)
-      → q ≤ horizonTick
-      → Passes q
-      → window s k i q ≡ some w
-      → isLate s k i q w ≡ false
-      → isLast s k i q w ≡ true
-      → verdict s k i ≡ fits (peak (boundAt s k i) q .value) (peak (boundAt s k i) q .at)
-  unfolding judge
-  fits-at q w h f e l m = verdict-at q h f (stops-last q w e l m) ∙ rw (judge, e, l)
-
-  -- the q that it takes
-  pub taken-at : (q w : ℕ)
-      → q ≤ horizonTick
-      → Passes q
-      → window s k i q ≡ some w
-      → isLate s k i q w ≡ false
-      → isLast s k i q w ≡ true
-      → taken s k i ≡ suc q
-  unfolding taken
-  taken-at q w h f e l m = rw (taken, first-stop q h f (stops-last q w e l m))
+  horizon-at q h f e = says-horizon s k i (end-at q h f (stops-none s k i q e)) e

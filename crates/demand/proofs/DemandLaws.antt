@@ -10,14 +10,10 @@ use Rattle.model.specs.Tasks.{Tasks, load, boardOf, ourTicks}
 use Rattle.model.specs.Demand.{aboveLoad, demand}
 use Rattle.model.proofs.SeriesLaws.{sum-le, on-le}
 use Rattle.model.proofs.SupplyLaws.{supply-next, supply-high}
-use Rattle.response.proofs.LoadSums.{loads-rise}
+use Rattle.response.proofs.LoadSums.{Periodic, loads-rise}
 use Rattle.response.proofs.WindowLaws.{Window, TooShortFrom}
 use Rattle.demand.proofs.ArrivalCountLaws.{arrivals-some}
 use Rattle.demand.specs.Searching.{TooShort}
-
--- the periods of the tasks above i are at least 1
-abbrev pub Periodic : Tasks → ℕ → Type 0
-Periodic s i = (j : ℕ) → j < i → 1 ≤ s .period j
 
 module _ (s : Tasks) (k : ℕ → ℕ) (i : ℕ) (p : Periodic s i) where
   -- in more ticks the tasks above bring no less

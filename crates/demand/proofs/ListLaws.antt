@@ -20,7 +20,8 @@ use Rattle.model.proofs.SearchLaws.{first-is}
 use Rattle.model.proofs.SeriesLaws.{below-suc}
 use Rattle.model.proofs.TableLaws.{length-table}
 use Rattle.response.proofs.WindowLaws.{PlainWindow, plain-beyond}
-use Rattle.demand.proofs.DemandLaws.{Periodic, demand-mono, demand-own, short-start, short-next}
+use Rattle.response.proofs.LoadSums.{Periodic}
+use Rattle.demand.proofs.DemandLaws.{demand-mono, demand-own, short-start, short-next}
 use Rattle.demand.specs.Searching.{TooShort, Search}
 
 module _ (s : Tasks) (k : ℕ → ℕ) (i : ℕ) (p : Periodic s i) (e : 1 ≤ load s i) where

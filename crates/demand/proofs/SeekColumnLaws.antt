@@ -23,7 +23,7 @@ use Rattle.frame.proofs.ColumnLaws.{ruled-columns}
 use Rattle.demand.specs.Columns.{flatTasks, Searchable, IsLoad, IsOnce}
 use Rattle.demand.specs.Seeking.{Counts, tallyOf, Seeking}
 use Rattle.demand.proofs.FlatColumnLaws.{flat-loads, column-above}
-use Rattle.demand.proofs.DemandLaws.{Periodic}
+use Rattle.response.proofs.LoadSums.{Periodic}
 use Rattle.demand.proofs.SeekLaws as seek
 
 module _ (o : Option Frame) (loads periods keeps : List ℕ) (i J D : ℕ) (c : Searchable loads periods keeps i) (v : Ruled o) where

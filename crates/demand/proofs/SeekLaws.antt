@@ -21,7 +21,8 @@ use Rattle.frame.proofs.ReachedLaws.{reached-all, reached-low, reached-one}
 use Rattle.frame.proofs.WindowEnds.{window-ends}
 use Rattle.demand.specs.Searching.{Search}
 use Rattle.demand.specs.Seeking.{Counts, Seeking}
-use Rattle.demand.proofs.DemandLaws.{Periodic, from-start, from-next}
+use Rattle.response.proofs.LoadSums.{Periodic}
+use Rattle.demand.proofs.DemandLaws.{from-start, from-next}
 use Rattle.demand.proofs.ListLaws.{search-start, search-next, found-length, over-length}
 
 -- without a frame d ticks have d of ours

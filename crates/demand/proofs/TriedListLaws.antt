@@ -22,7 +22,7 @@ use Rattle.model.proofs.TableLaws.{length-table, getD-table}
 use Rattle.response.proofs.ArrivalLaws.{arrivals-mono}
 use Rattle.response.proofs.WindowLaws.{PlainWindow, plain-some, plain-none, plain-found}
 use Rattle.demand.proofs.ArrivalCountLaws.{arrivals-some}
-use Rattle.demand.proofs.DemandLaws.{Periodic}
+use Rattle.response.proofs.LoadSums.{Periodic}
 use Rattle.demand.proofs.ListLaws.{demand-reaches, search-start, search-next, ends-over, ends-met, list-is, search-found, search-over}
 use Rattle.demand.specs.Searching.{Search}
 use Rattle.demand.specs.TriedList.{arrivalsAbove, memberAt, lastOf, TriedList, TriedLists, EvaluationsFew}

@@ -54,7 +54,7 @@ second s n (chosen ks ws) e h =
     let z : _≡_ {A = ℕ} 0 1 = cc in absurd (omega arith)
 
 -- a task that is judged there is high
-high-of : (s : Tasks) (n : ℕ) (b : Bool) → s .low n ≡ b → judges high-only s n ≡ true → s .low n ≡ false
+pub high-of : (s : Tasks) (n : ℕ) (b : Bool) → s .low n ≡ b → judges high-only s n ≡ true → s .low n ≡ false
 unfolding judges
 high-of s n false e j = e
 high-of s n true e j = let w : false ≡ true = sym (ap not e) ∙ j in let z : _≡_ {A = ℕ} 0 1 = cc in absurd (omega arith)

@@ -6,6 +6,8 @@ pub mod LimitShareOfRun
 pub mod OnProcessor
 pub mod Demand3
 pub mod ChoiceSafe
+pub mod NoneSmaller
+pub mod LowAbove
 pub mod AnsweredCalls
 pub mod ExactResponse
 pub mod IdleLaws

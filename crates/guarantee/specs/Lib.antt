@@ -6,4 +6,5 @@ pub mod WholeFrame
 pub mod Idle
 pub mod RunBounds
 pub mod ChoiceSafe
+pub mod NoneSmaller
 pub mod AnsweredCalls

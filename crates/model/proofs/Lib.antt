@@ -1,6 +1,6 @@
 -- Laws of the definitions: searches, sums and tables, checks and their order, traces; the sums and figures of the documents proved. From the ground up.
-pub mod SearchLaws
 pub mod SeriesLaws
+pub mod SearchLaws
 pub mod SupplyLaws
 pub mod LargestLaws
 pub mod FrameLaws
@@ -11,6 +11,7 @@ pub mod OrderLaws
 pub mod TableLaws
 pub mod SlotLaws
 pub mod RefusalPlaces
+pub mod FifteenLaws
 pub mod StopLaws
 pub mod SameVerdict
 pub mod SameChoice

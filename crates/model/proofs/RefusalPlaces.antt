@@ -14,7 +14,8 @@ use Rattle.model.specs.Frame.{Frame}
 use Rattle.model.specs.Tasks.{Tasks, Release}
 use Rattle.model.specs.Choice.{Choice, unfit, chosen, Scope, keepFor, choiceNext, choiceOf, scope, choice}
 use Rattle.model.specs.Refusal.{Refusal, refuse, refused, answered, firstOf}
-use Rattle.model.specs.Checks.{Lent, Inputs, refuseAt, refuseIf, faultOf, faultAt, refuseBy, checkEntries, checkWindows, checkFrame, checkTasks, checkTask, checkCount, checkSlots, checkKept, releaseFault, checkReleases, checkChoice, refusalOf, answerOf}
+use Rattle.model.specs.Checks.{Lent, Inputs, refuseAt, refuseIf, faultOf, faultAt, refuseBy, checkEntries, checkWindows, checkFrame, checkTasks}
+use Rattle.model.specs.Checks.{checkTask, checkCount, checkSlots, checkKept, releaseFault, checkReleases, checkChoice, refusalOf, answerOf}
 use Rattle.model.specs.Calls.{releasesOf, taskInputs, choiceInputs, unfitOf, listInputs, readyInputs, runInputs}
 use Rattle.model.proofs.SearchLaws.{first-found}
 use Rattle.model.proofs.SeriesLaws.{and-right}
@@ -69,13 +70,13 @@ within-entry s (some p) r l e = go (faultOf s p) refl
     go (some n) h = numbered n (entry-number _ _ _ _ _ n h) (rw (refuseBy, h) at e)
 
 -- checks in order: the first refuses, or it passes and a later one refuses
-by-first
+pub by-first
     : {A : Type 0} (c : Option Refusal) (l : List (Option Refusal)) (r : Refusal) → (some r ≡ c → A) → (none ≡ c → some r ≡ firstOf l → A) → some r ≡ firstOf (c ∷ l) → A
 unfolding firstOf
 by-first none l r f g e = g refl e
 by-first (some q) l r f g e = f e
 
-by-last : {A : Type 0} (c : Option Refusal) (r : Refusal) → (some r ≡ c → A) → some r ≡ firstOf (c ∷ []) → A
+pub by-last : {A : Type 0} (c : Option Refusal) (r : Refusal) → (some r ≡ c → A) → some r ≡ firstOf (c ∷ []) → A
 unfolding firstOf
 by-last none r f e = let z : _≡_ {A = ℕ} 0 1 = cc in absurd (omega arith)
 by-last (some q) r f e = f e

@@ -3,11 +3,12 @@ use Prim.Native.Nat.{ℕ, zero, suc, _+_, _-_, _≤_, _<_}
 use mathlib.Core.Path.{_≡_, refl, sym, ap, _∙_}
 use mathlib.Core.Logic.{⊎-elim}
 use mathlib.Core.Bool.{Bool, true, false}
-use mathlib.Core.Option.{some, none}
+use mathlib.Core.Option.{Option, some, none}
 use native.Mathlib.Omega.{arith}
 use native.Mathlib.Nat.{eq-or-lt-of-le}
 use native.Mathlib.Numerals.{add-one}
 use Rattle.model.specs.Search.{first}
+use Rattle.model.proofs.SeriesLaws.{clash, le-by}
 
 module _ (test : ℕ → Bool) where
   -- a number at which the test holds ends the search
@@ -79,6 +80,14 @@ first-is test (suc n) t m f = ⊎-elim here (later (first-is test n (suc t) m)) 
     later : (Found test n (suc t) m → first test n (suc t) ≡ some m) → t < m → first test (suc n) t ≡ some m
     later ih l =
         first-skip test n t (f .before t (omega arith) l) ∙ ih (record { holds = f .holds; low = l; high = omega arith; before = λ x a g. f .before x (omega arith) g })
+
+-- where a number passes, the search finds one that is not over it
+pub first-under : (test : ℕ → Bool) (n t x : ℕ) → t ≤ x → x < t + n → test x ≡ true → (m : ℕ) × (first test n t ≡ some m) × (m ≤ x)
+first-under test n t x l g h = go (first test n t) refl
+  where
+    go : (o : Option ℕ) → first test n t ≡ o → (m : ℕ) × (first test n t ≡ some m) × (m ≤ x)
+    go none e = clash (test x) h (first-nothing test n t e x l g)
+    go (some m) e = (m, e, le-by m x (λ (b : x < m). clash (test x) h (first-found test n t m e .before x l b)))
 
 -- a loop that counts i up to n: the search from i on
 module _ (test : ℕ → Bool) (n i : ℕ) where

@@ -6,8 +6,8 @@ use mathlib.Core.Logic.{dite}
 use native.Mathlib.Omega.{arith}
 use native.Mathlib.Decide.{decLe, decLt}
 use lib.IntN.{pos, negsuc, subℕ, _+ℤ_, _-ℤ_}
-use lib.Signed.{ltZ}
-use lib.Dec.{ltb}
+use lib.Signed.{ltZ, _≤ℤ_}
+use lib.Dec.{ltb, le→leb}
 use borrow.Author.Tests.{lt-ltb, le-ltb, ltb-true, ltb-false}
 use Rattle.model.specs.Processor.{pickup}
 use Rattle.model.specs.Bound.{maxZ, minZ, offset, bound}
@@ -66,6 +66,32 @@ module _ (P J K q w : ℕ) where
   unfolding bound offset
   bound-down h = let e : suc (q * P - suc J) ≡ q * P - J = omega arith in rw (minus J (q * P), sub-lt J (q * P) h, down (q * P - suc J) K (w + pickup), e)
 
+-- R(q) as one difference
+pub bound-is : (P J K q w : ℕ) → bound P J K q w ≡ subℕ (w + pickup + (J - (q * P + K))) (q * P - J)
+bound-is P J K q w =
+    dite (decLe (q * P) J)
+    (λ h. bound-up P J K q w h ∙ sym (sub-ge (w + pickup + (J - (q * P + K))) (q * P - J) (omega arith) ∙ ap pos (omega arith)))
+    (λ h. let e : w + pickup ≡ w + pickup + (J - (q * P + K)) = omega arith in bound-down P J K q w (omega arith) ∙ ap (λ (x : ℕ). subℕ x (q * P - J)) e)
+
+-- differences in their order
+pub sub-order : (a b c d : ℕ) → a + d ≤ c + b → subℕ a b ≤ℤ subℕ c d
+sub-order a b c d h = dite (decLe d c) above below
+  where
+    above : d ≤ c → subℕ a b ≤ℤ subℕ c d
+    above l =
+        dite (decLe b a)
+        (λ g. rw (sub-ge c d l, sub-ge a b g) (record { le = le→leb (a - b) (c - d) (omega arith) }))
+        (λ g. rw (sub-ge c d l, sub-lt a b (omega arith)) (record { le = tt }))
+
+    below : (d ≤ c → ⊥) → subℕ a b ≤ℤ subℕ c d
+    below l = rw (sub-lt c d (omega arith), sub-lt a b (omega arith)) (record { le = le→leb (d - suc c) (b - suc a) (omega arith) })
+
+-- R(q) rises with W(q), and does not rise with K
+pub bound-order : (P J K K′ q v w : ℕ) → v + (J - (q * P + K)) ≤ w + (J - (q * P + K′)) → bound P J K q v ≤ℤ bound P J K′ q w
+bound-order P J K K′ q v w h =
+    rw (bound-is P J K′ q w, bound-is P J K q v)
+    (sub-order (v + pickup + (J - (q * P + K))) (q * P - J) (w + pickup + (J - (q * P + K′))) (q * P - J) (omega arith))
+
 -- the test of a bound
 same-test : (a b c d : ℕ) → (a < b → c < d) → (c < d → a < b) → ltb a b ≡ ltb c d
 same-test a b c d f g =
@@ -103,3 +129,12 @@ module _ (s : Tasks) (k : ℕ → ℕ) (i q w : ℕ) where
   pub not-late
       : isLate s k i q w ≡ false → w + pickup + (s .jitter i - (q * s .period i + k i)) ≤ s .deadline i + (q * s .period i - s .jitter i)
   not-late h = ltb-false _ _ (sym late-test ∙ h)
+
+  -- and back
+  pub late-by
+      : s .deadline i + (q * s .period i - s .jitter i) < w + pickup + (s .jitter i - (q * s .period i + k i)) → isLate s k i q w ≡ true
+  late-by h = late-test ∙ lt-ltb _ _ h
+
+  pub in-time-by
+      : w + pickup + (s .jitter i - (q * s .period i + k i)) ≤ s .deadline i + (q * s .period i - s .jitter i) → isLate s k i q w ≡ false
+  in-time-by h = late-test ∙ le-ltb _ _ h

@@ -7,7 +7,7 @@ use mathlib.Core.List.{List, [], _∷_, _++_}
 use mathlib.Core.Logic.{_⊎_, inl, inr}
 use native.Mathlib.Omega.{arith}
 use lib.ListN.{length, getD, take, length-append, List·getD-append}
-use lib.Seq.{take-suc, take-append-le, take-at, getD-at, getD-take}
+use lib.Seq.{take-suc, take-append-le, take-at, getD-at, getD-take, getD-append-seam}
 use lib.IntN.{ℤ, pos}
 use Rattle.model.specs.Tasks.{Tasks}
 use Rattle.model.specs.Verdict.{Verdict, horizon, late, fits, verdict}
@@ -15,6 +15,13 @@ use Rattle.model.specs.Choice.{isFits, worstOf, column, andKeep, leastKeep, Cho
 use Rattle.model.proofs.SeriesLaws.{below-suc}
 use Rattle.model.proofs.SearchLaws.{Found, first-found, first-nothing}
 use Rattle.model.proofs.SameVerdict.{verdict-kept}
+
+-- the choices of the tasks above, and K for the task below them
+pub keep-above : (above : List ℕ) (K j : ℕ) → j < length above → andKeep above K j ≡ getD above j 0
+keep-above above K j h = List·getD-append above (K ∷ []) 0 j h
+
+pub keep-own : (above : List ℕ) (K i : ℕ) → length above ≡ i → andKeep above K i ≡ K
+keep-own above K i h = rw (← h) (getD-append-seam above K [] 0)
 
 -- a task that is judged has the least kept jitter at which it fits and its worst value there; one that is not has 0 and 0
 module _ (c : Scope) (s : Tasks) (above : List ℕ) (i : ℕ) where
@@ -50,7 +57,7 @@ module _ (c : Scope) (s : Tasks) where
   unfolding choiceNext
   next-none n ks ws h = rw (choiceNext, h)
 
-  next-some
+  pub next-some
       : (n : ℕ) (ks : List ℕ) (ws : List ℤ) (K : ℕ) → keepFor c s ks n ≡ some K
       → choiceNext c s n (chosen ks ws) ≡ chosen (ks ++ (K ∷ [])) (ws ++ (worstFor c s ks K n ∷ []))
   unfolding choiceNext

@@ -7,11 +7,11 @@ use Rattle.model.specs.Tasks.{Tasks, load}
 use Rattle.model.specs.Demand.{aboveLoad, demand, window}
 use Rattle.model.proofs.SeriesLaws.{le-by}
 use Rattle.model.proofs.FrameLaws.{Ruled}
-use Rattle.response.proofs.LoadSums.{loads-rise}
+use Rattle.response.proofs.LoadSums.{Periodic, loads-rise}
 use Rattle.response.proofs.WindowLaws.{Window, window-some, window-none}
 
 module _
-    (s : Tasks) (i : ℕ) (periods : (j : ℕ) → j < i → 0 < s .period j) (k above : ℕ → ℕ)
+    (s : Tasks) (i : ℕ) (periods : Periodic s i) (k above : ℕ → ℕ)
     (kept : (j : ℕ) → j < i → k j ≤ above j) where
   -- the tasks above bring no more
   pub above-keeps : (t : ℕ) → aboveLoad s k i t ≤ aboveLoad s above i t

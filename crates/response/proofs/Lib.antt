@@ -5,5 +5,11 @@ pub mod ChoiceLaws
 pub mod LoadSums
 pub mod WindowLaws
 pub mod KeptLaws
+pub mod PastStop
 pub mod VerdictLaws
+pub mod WalkEnds
+pub mod PeakLaws
+pub mod LessAboveLaws
+pub mod LessOwnLaws
+pub mod ChosenUnder
 pub mod WorstLaws

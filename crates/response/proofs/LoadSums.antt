@@ -4,9 +4,18 @@ use mathlib.Core.Path.{refl}
 use native.Mathlib.Omega.{arith}
 use native.Mathlib.Nat.{mul-le-mul-left}
 use Rattle.model.specs.Series.{sum}
+use Rattle.model.specs.Tasks.{Tasks, Valid}
 use Rattle.model.specs.Arrival.{arrivals}
 use Rattle.model.proofs.SeriesLaws.{sum-le, sum-add}
 use Rattle.response.proofs.ArrivalLaws.{arrivals-mono, arrivals-add}
+
+-- the periods of the tasks above i are at least 1
+abbrev pub Periodic : Tasks → ℕ → Type 0
+Periodic s i = (j : ℕ) → j < i → 1 ≤ s .period j
+
+-- the tasks above a task of a sheet within the limits have a period
+pub above-periods : (s : Tasks) → Valid s → (i : ℕ) → i < s .count → Periodic s i
+above-periods s v i l j g = v .in-range j (omega arith) .period-low
 
 -- the load × σ(t) of task j
 abbrev pub loadIn : (ℕ → ℕ) → (ℕ → ℕ) → (ℕ → ℕ) → ℕ → ℕ → ℕ

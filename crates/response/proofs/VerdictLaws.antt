@@ -27,23 +27,23 @@ pub data Case (s : Tasks) (k : ℕ → ℕ) (i q : ℕ) : Type 0 where
 
 module _ (s : Tasks) (k : ℕ → ℕ) (i : ℕ) where
   -- whether the walk stops at q, and what it says there
-  stops-some : (q w : ℕ) → window s k i q ≡ some w → stops s k i q ≡ (isLate s k i q w || isLast s k i q w)
+  pub stops-some : (q w : ℕ) → window s k i q ≡ some w → stops s k i q ≡ (isLate s k i q w || isLast s k i q w)
   unfolding stops
   stops-some q w h = rw (stops, h)
 
-  stops-none : (q : ℕ) → window s k i q ≡ none → stops s k i q ≡ true
+  pub stops-none : (q : ℕ) → window s k i q ≡ none → stops s k i q ≡ true
   unfolding stops
   stops-none q h = rw (stops, h)
 
-  judge-none : (q : ℕ) → window s k i q ≡ none → judge s k i q ≡ horizon q
+  pub judge-none : (q : ℕ) → window s k i q ≡ none → judge s k i q ≡ horizon q
   unfolding judge
   judge-none q h = rw (judge, h)
 
-  judge-late : (q w : ℕ) → window s k i q ≡ some w → isLate s k i q w ≡ true → judge s k i q ≡ late q (boundOf s k i q w)
+  pub judge-late : (q w : ℕ) → window s k i q ≡ some w → isLate s k i q w ≡ true → judge s k i q ≡ late q (boundOf s k i q w)
   unfolding judge
   judge-late q w h e = rw (judge, h, e)
 
-  judge-fits
+  pub judge-fits
       : (q w : ℕ) → window s k i q ≡ some w → isLate s k i q w ≡ false
       → judge s k i q ≡ fits (peak (boundAt s k i) q .value) (peak (boundAt s k i) q .at)
   unfolding judge

@@ -1,2 +1,3 @@
--- What a verdict says of its walk over q.
+-- What a verdict says of its walk over q, and how it moves with the kept jitters.
 pub mod VerdictSays
+pub mod KeptOrder

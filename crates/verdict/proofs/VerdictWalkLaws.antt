@@ -18,7 +18,8 @@ use Rattle.model.specs.Verdict.{Verdict, horizon, late, fits, boundOf, isLate, 
 use Rattle.model.proofs.SearchLaws.{sought-none, sought-next, sought-here}
 use Rattle.model.proofs.FrameLaws.{Ruled}
 use Rattle.response.proofs.WindowLaws.{window-some, window-over}
-use Rattle.demand.proofs.DemandLaws.{Periodic, window-rises}
+use Rattle.response.proofs.LoadSums.{Periodic}
+use Rattle.demand.proofs.DemandLaws.{window-rises}
 use Rattle.verdict.specs.declared.Best.{Best}
 use Rattle.verdict.proofs.VerdictWalk.{Walk}
 use Rattle.verdict.specs.Walking.{betterOf}
