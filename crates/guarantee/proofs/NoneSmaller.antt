@@ -1,14 +1,14 @@
 -- No set of kept jitters under which every task fits is smaller than the choice anywhere.
-use Prim.Native.Nat.{ℕ, zero, suc, _≤_, _<_}
+use Prim.Native.Nat.{ℕ, _≤_, _<_}
 use mathlib.Core.Path.{_≡_, refl, sym, ap, _∙_}
-use mathlib.Core.Bool.{Bool, true, false, not}
+use mathlib.Core.Bool.{true}
 use mathlib.Core.Option.{Option, some, none}
 use mathlib.Core.List.{List, [], _∷_}
 use native.Mathlib.Omega.{arith}
 use lib.ListN.{length, drop, List·getD-append}
-use lib.IntN.{ℤ, pos}
+use lib.IntN.{ℤ}
 use Rattle.model.specs.Tasks.{Tasks, Valid}
-use Rattle.model.specs.Verdict.{fits, verdict}
+use Rattle.model.specs.Verdict.{verdict}
 use Rattle.model.specs.Choice.{column, andKeep, isFits, leastKeep, Choice, unfit, chosen, Scope, ordinary, high-only, judges, choiceOf, scopeAfter, scope, choice}
 use Rattle.model.specs.Refusal.{Refusal, answered}
 use Rattle.model.specs.Checks.{checkTasks, checkSlots, refusalOf}

@@ -1,6 +1,6 @@
 -- Smaller kept jitters above: no larger demand, W(q) and R(q), and no later end of the walk, so a task that fits stays fitting.
-use Prim.Native.Nat.{ℕ, suc, _+_, _-_, _*_, _≤_, _<_}
-use mathlib.Core.Path.{_≡_, sym, ap, _∙_}
+use Prim.Native.Nat.{ℕ, suc, _-_, _*_, _≤_, _<_}
+use mathlib.Core.Path.{_≡_, sym, _∙_}
 use mathlib.Core.Bool.{true}
 use mathlib.Core.Option.{some, Option·some-injective}
 use native.Mathlib.Omega.{arith}
@@ -10,8 +10,8 @@ use lib.Signed.{_≤ℤ_}
 use Rattle.model.specs.Tasks.{Tasks, Valid}
 use Rattle.model.specs.Gap.{gap}
 use Rattle.model.specs.Demand.{window}
-use Rattle.model.specs.Verdict.{boundOf, isLate, isLast, boundAt, peak, verdict}
-use Rattle.model.specs.Choice.{isFits, worstOf}
+use Rattle.model.specs.Verdict.{boundOf, isLast, boundAt, peak, verdict}
+use Rattle.model.specs.Choice.{worstOf}
 use Rattle.response.specs.VerdictSays.{Passed}
 use Rattle.response.specs.KeptOrder.{LessAbove, LessAboveIsNoWorse}
 use Rattle.response.proofs.LoadSums.{above-periods}

@@ -9,11 +9,10 @@ use native.Mathlib.Nat.{eq-or-lt-of-le}
 use native.Mathlib.Decide.{decLe}
 use borrow.Author.Tests.{leb-true, le-leb}
 use lib.Signed.{_≤ℤ_, ≤ℤ-refl}
-use Rattle.model.specs.Processor.{pickup}
 use Rattle.model.specs.Tasks.{Tasks, Valid}
 use Rattle.model.specs.Gap.{gap}
 use Rattle.model.specs.Demand.{window}
-use Rattle.model.specs.Verdict.{Verdict, horizon, late, fits, boundOf, isLate, isLast, boundAt, stops, verdict}
+use Rattle.model.specs.Verdict.{boundOf, isLate, isLast, boundAt, stops, verdict}
 use Rattle.model.proofs.SeriesLaws.{clash, le-by}
 use Rattle.model.proofs.FrameLaws.{Ruled}
 use Rattle.model.proofs.SameVerdict.{window-same}

@@ -2,7 +2,6 @@
 use Prim.Native.Nat.{ℕ, suc, _+_, _-_, _*_, _≤_}
 use native.Mathlib.Omega.{arith}
 use borrow.Author.Tests.{leb-true}
-use lib.Signed.{_≤ℤ_}
 use Rattle.model.specs.Processor.{pickup}
 use Rattle.model.specs.Tasks.{Tasks, load, boardOf}
 use Rattle.model.specs.Gap.{gap}

@@ -8,8 +8,8 @@ use native.Mathlib.Nat.{le-trans}
 use borrow.Author.Tests.{ltb-true}
 use lib.Dec.{leb→le, le→leb}
 use lib.IntN.{ℤ, pos, negsuc}
-use lib.Signed.{ltZ, leZ, _≤ℤ_, ltZ-no, ≤ℤ-refl}
-use Rattle.model.specs.Verdict.{Peak, peak}
+use lib.Signed.{ltZ, _≤ℤ_, ltZ-no, ≤ℤ-refl}
+use Rattle.model.specs.Verdict.{peak}
 use Rattle.model.proofs.SeriesLaws.{clash, below-suc}
 
 pub order-trans : (a b c : ℤ) → a ≤ℤ b → b ≤ℤ c → a ≤ℤ c

@@ -2,7 +2,7 @@
 use Prim.Native.Nat.{ℕ, suc, _≤_, _<_}
 use mathlib.Core.Path.{_≡_, refl, sym, ap, _∙_}
 use mathlib.Core.Logic.{⊎-elim}
-use mathlib.Core.Bool.{Bool, true, false, _||_}
+use mathlib.Core.Bool.{true, false}
 use mathlib.Core.Option.{Option, some, none}
 use native.Mathlib.Omega.{arith}
 use native.Mathlib.Nat.{eq-or-lt-of-le}
@@ -12,7 +12,7 @@ use Rattle.model.specs.Limits.{horizonTick}
 use Rattle.model.specs.Tasks.{Tasks}
 use Rattle.model.specs.Gap.{gap}
 use Rattle.model.specs.Demand.{window}
-use Rattle.model.specs.Verdict.{boundOf, boundAt, peak, horizon, late, fits, isLate, isLast, stops, judge, verdict}
+use Rattle.model.specs.Verdict.{boundOf, boundAt, peak, horizon, late, fits, isLast, stops, judge, verdict}
 use Rattle.model.specs.Evaluations.{taken}
 use Rattle.model.specs.Choice.{isFits}
 use Rattle.model.proofs.SeriesLaws.{clash, le-by}
