@@ -13,7 +13,8 @@ use Rattle.model.specs.Refusal.{Refusal, refuse, Answer, refused, answered, fir
 use Rattle.model.specs.Checks.{Lent, checkSlots}
 use Rattle.model.specs.Calls.{lends, columnAfter}
 use Rattle.model.proofs.TableLaws.{getD-table}
-use Rattle.reader.specs.declared.Job.{Job}
+use Rattle.records.specs.declared.Job.{Job}
+use Rattle.records.specs.RecordIn.{releaseOf}
 use Rattle.reader.specs.declared.Scanned.{Scanned}
 use Rattle.reader.specs.declared.ReadOutcome.the-variants.{Read, Refused as Halted}
 use Rattle.taskset.specs.declared.TaskSet.{TaskSet}
@@ -23,7 +24,7 @@ use Rattle.taskset.specs.TaskSet.{refusalIn}
 use Rattle.fileformat.specs.Records.{widthIn, Width, short, long, kindOf, bodySize, releaseRecord, releaseFrom, releaseSize}
 use Rattle.fileformat.specs.File.{File, decode}
 use Rattle.fileformat.specs.FileCalls.{setOf, readCall, readCount, readSheet, readColumn}
-use Rattle.reader.specs.Reader.{releaseOf, recordThere, offsetOf, releaseIn, releasesAt, AreReleases, Listed, Copied, Putting, answerWith, startIn, fileIn, ScanSays, ReadSays}
+use Rattle.reader.specs.Reader.{recordThere, offsetOf, releaseIn, releasesAt, AreReleases, Listed, Copied, Putting, answerWith, startIn, fileIn, ScanSays, ReadSays}
 use Rattle.fileformat.proofs.ReleasePlaces.{Placed, placed}
 use Rattle.reader.proofs.ScanLaws.{length-releases, offset-more}
 

@@ -1,5 +1,5 @@
 -- Laws of the scan: what holds where the scan stands, and what each record does.
-use Prim.Native.Nat.{ℕ, zero, suc, _+_, _*_, _-_, _≤_, _<_}
+use Prim.Native.Nat.{ℕ, suc, _+_, _*_, _-_, _≤_, _<_}
 use mathlib.Core.Path.{_≡_, refl, sym, ap, ap₂, _∙_}
 use mathlib.Core.Option.{some, none}
 use mathlib.Core.List.{List, [], _∷_, _++_}
@@ -9,9 +9,8 @@ use lib.ListN.{length, getD, drop, set, replicate, length-set, drop-of-length-le
 use lib.Seq.{take-suc-set, drop-set-lt, drop-drop, drop-cons, getD-set-same, getD-set-other}
 use Rattle.model.specs.Limits.{maxTasks}
 use Rattle.model.specs.Series.{sum, table}
-use Rattle.model.specs.Tasks.{Tasks, Release}
+use Rattle.model.specs.Tasks.{Release}
 use Rattle.model.specs.Refusal.{Refusal, refused, answered}
-use Rattle.model.specs.Checks.{releaseFault}
 use Rattle.model.proofs.SeriesLaws.{sum-eq}
 use Rattle.model.proofs.TableLaws.{length-table}
 use Rattle.taskset.specs.declared.Task.{Task}
@@ -19,11 +18,11 @@ use Rattle.taskset.specs.declared.TaskSet.{TaskSet}
 use Rattle.taskset.specs.declared.Checked.the-variants.{Fine}
 use Rattle.taskset.specs.TaskSet.{noTask, viewOf}
 use Rattle.model.specs.Checks.{faultAt}
-use Rattle.model.proofs.CheckLaws.{faulty, fault-of, faultless-of}
+use Rattle.model.proofs.CheckLaws.{fault-of, faultless-of}
 use Rattle.fileformat.specs.Records.{Width, Record, broken, wrongMark, taskRecord, releaseRecord, chargeRecord, endRecord, taskSize, releaseSize, recordOf, sizeOf}
-use Rattle.fileformat.specs.File.{State, stop, sheetWith, chargeFault, taskFault, markFault, lowTick, highTick, listFault, advance, afterEnd, readFrom, empty, decode}
+use Rattle.fileformat.specs.File.{State, stop, sheetWith, chargeFault, taskFault, markFault, listFault, advance, afterEnd, readFrom, decode}
 use Rattle.fileformat.specs.FileCalls.{tasksIn, setOf, setWith, chargeBytes, tasksBytes, readSheet}
-use Rattle.fileformat.proofs.StepLaws.{charge-of, charge-stops, charge-taken, task-few, task-first, list-fault, end-early, end-fine}
+use Rattle.fileformat.proofs.StepLaws.{charge-of, charge-stops, charge-taken, task-few, task-first, end-early, end-fine}
 use Rattle.fileformat.proofs.StepLaws.{broken-stops, mark-stops}
 use Rattle.fileformat.proofs.StepLaws.{task-stops, task-taken, release-stops, release-taken, end-stops, end-taken, read-stop, read-next, read-last}
 use Rattle.fileformat.proofs.SheetLaws.{same-sheet, length-tasks, list-agrees, set-of-tasks}
@@ -31,22 +30,15 @@ use Rattle.fileformat.proofs.NumberLaws.{by-order}
 use Rattle.fileformat.proofs.OffsetLaws.{room}
 use Rattle.fileformat.proofs.RoundTrips.{no-charge-bytes, some-charge-bytes}
 use Rattle.fileformat.proofs.WidthLaws.{size-low}
-use Rattle.fileformat.proofs.TaskSizeLaws.{tasks-bytes-none, tasks-bytes-more}
-use Rattle.reader.specs.declared.Job.{Job}
+use Rattle.fileformat.proofs.TaskSizeLaws.{tasks-bytes-more}
+use Rattle.records.specs.declared.Job.{Job}
+use Rattle.records.specs.RecordIn.{releaseOf}
 use Rattle.reader.specs.declared.Scanned.{Scanned}
-use Rattle.reader.specs.Reader.{releaseOf, recordThere, offsetOf, releaseIn, releasesAt, AreReleases, answerWith, startIn, fileIn, ScanSays, Refuses}
+use Rattle.reader.specs.Reader.{recordThere, offsetOf, releaseIn, releasesAt, AreReleases, answerWith, startIn, fileIn, ScanSays, Refuses}
 
 -- an answer is no refusal
 never-both : {A B : Type 0} (a : A) (q : Refusal) → answered a ≡ refused q → B
 never-both a q e = let z : _≡_ {A = ℕ} 0 1 = cc in absurd (omega arith)
-
--- the fault of a release decides its record's
-pub list-refused
-    : (s : Tasks) (n before p : ℕ) (w : Width) (r : Release) (q : Refusal) → 1 ≤ s .count
-    → some q ≡ faultAt p (releaseFault s (lowTick w before) (highTick w) r) → some q ≡ faultAt p (listFault s n before w r)
-list-refused s n before p w r q l e =
-    let a = fault-of p _ q e in
-    ap some (a .1) ∙ faulty p (q .number) _ (list-fault s n before w r (q .number) l (a .0))
 
 -- the releases from an offset on
 pub length-releases : (f : List ℕ) (start n : ℕ) → length (releasesAt f start n) ≡ n

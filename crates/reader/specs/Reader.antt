@@ -1,7 +1,7 @@
 -- What the reader's structs and answers mean.
 use Prim.Native.Nat.{ℕ, zero, suc, _+_, _≤_, _<_}
 use mathlib.Core.Path.{_≡_}
-use mathlib.Core.List.{List, [], map}
+use mathlib.Core.List.{List, map}
 use lib.ListN.{length, take, drop}
 use mathlib.Core.Option.{none}
 use Rattle.model.specs.Limits.{maxTasks}
@@ -11,30 +11,15 @@ use Rattle.model.specs.Tasks.{Release, noRelease}
 use Rattle.model.specs.Refusal.{Refusal, Answer, refused, answered}
 use Rattle.taskset.specs.declared.Checked.{Checked}
 use Rattle.taskset.specs.declared.Checked.the-variants.{Fine, Refused}
-use Rattle.fileformat.specs.Records.{Width, short, long, Record, broken, wrongMark, taskRecord, releaseRecord, chargeRecord, endRecord, recordOf, sizeOf}
+use Rattle.fileformat.specs.Records.{Width, long, Record, broken, wrongMark, taskRecord, releaseRecord, chargeRecord, endRecord, recordOf, sizeOf}
 use Rattle.fileformat.specs.File.{File, decode}
 use Rattle.taskset.specs.declared.TaskSet.{TaskSet}
 use Rattle.taskset.specs.TaskSet.{viewOf}
 use Rattle.fileformat.specs.FileCalls.{tasksIn, sheetBytes, readCall, readCount, readSheet, readColumn}
-use Rattle.reader.specs.declared.Job.{Job}
 use Rattle.reader.specs.declared.Scanned.{Scanned}
 use Rattle.reader.specs.declared.ReadOutcome.{ReadOutcome}
 use Rattle.reader.specs.declared.ReadOutcome.the-variants.{Read, Refused as Halted}
 use Rattle.reader.specs.declared.ReadAnswer.{ReadAnswer}
-use Rattle.reader.specs.declared.Found.{Found}
-use Rattle.reader.specs.declared.Found.the-variants.{Broken, WrongMark, OfTask, OfRelease, OfLongRelease, OfCharge, End}
-
-abbrev pub releaseOf : Job → Release
-releaseOf j = record { task = j .task; tick = j .tick; cost = j .cost }
-
-abbrev pub recordIn : Found → Record
-recordIn (Broken n) = broken n
-recordIn WrongMark = wrongMark
-recordIn (OfTask t) = taskRecord t
-recordIn (OfRelease j) = releaseRecord short (releaseOf j)
-recordIn (OfLongRelease j) = releaseRecord long (releaseOf j)
-recordIn (OfCharge c) = chargeRecord c
-recordIn End = endRecord
 
 -- the record at an offset of a file, and the offset of the record r places after one
 abbrev pub recordThere : List ℕ → ℕ → Record

@@ -1,5 +1,5 @@
 -- The first refusal decides; without it the second is the answer.
-use mathlib.Core.Path.{_≡_, sym, ap}
+use mathlib.Core.Path.{sym, ap}
 use borrow.Author.Needs.{needs}
 use Rattle.taskset.specs.TaskSet.{refusalIn}
 use Rattle.reader.proofs.ReadColumnLaws.{first-of-two, second-of-two}

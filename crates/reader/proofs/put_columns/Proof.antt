@@ -1,5 +1,4 @@
 -- The short records, then the others.
-use native.Mathlib.Omega.{arith}
 use borrow.Author.Needs.{needs}
 use Rattle.reader.proofs.ReadColumnLaws.{putting-here, putting-then}
 use Rattle.reader.proofs.put_columns.Statement.{statement}

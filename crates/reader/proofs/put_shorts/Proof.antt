@@ -1,9 +1,8 @@
 -- The releases below i are written, and their records are short.
 use Prim.Native.Nat.{_-_, _+_, _*_}
-use mathlib.Core.Path.{refl, ap, _∙_}
+use mathlib.Core.Path.{refl}
 use native.Mathlib.Omega.{arith}
 use borrow.Author.Needs.{needs}
-use Rattle.fileformat.specs.Records.{bodySize}
 use Rattle.reader.specs.Reader.{Putting}
 use Rattle.reader.proofs.ReadColumnLaws.{Reading, short-room, putting-none, reading, putting-short}
 use Rattle.reader.proofs.put_shorts.Statement.{statement}

@@ -6,8 +6,8 @@ use Rattle.model.specs.Checks.{faultAt}
 use Rattle.taskset.specs.TaskSet.{refusalIn}
 use Rattle.fileformat.specs.File.{taskFault}
 use Rattle.fileformat.specs.Records.{short, long, recordOf}
-use Rattle.reader.specs.declared.Found.{Found}
-use Rattle.reader.specs.Reader.{recordIn}
+use Rattle.records.specs.declared.Found.{Found}
+use Rattle.records.specs.RecordIn.{recordIn}
 use native.Mathlib.Omega.{arith}
 use Rattle.model.proofs.TraceLaws.{fault-task}
 use Rattle.model.proofs.CheckLaws.{faulty}

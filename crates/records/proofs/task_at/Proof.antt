@@ -1,7 +1,7 @@
 use Rattle.fileformat.proofs.OffsetLaws.{task-fields}
 use borrow.Author.Needs.{needs}
-use Rattle.reader.proofs.task_at.Statement.{statement}
-use Rattle.reader.proofs.task_at.Tie as tie
+use Rattle.records.proofs.task_at.Statement.{statement}
+use Rattle.records.proofs.task_at.Tie as tie
 
 number-at-requires : tie.Need-number-at-requires
 number-at-requires c κs = search needs

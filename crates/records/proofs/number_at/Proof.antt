@@ -2,8 +2,8 @@ use mathlib.Core.Path.{sym, _∙_}
 use native.Mathlib.Omega.{arith}
 use Rattle.fileformat.proofs.NumberLaws.{field-four}
 use borrow.Author.Needs.{needs}
-use Rattle.reader.proofs.number_at.Statement.{statement}
-use Rattle.reader.proofs.number_at.Tie as tie
+use Rattle.records.proofs.number_at.Statement.{statement}
+use Rattle.records.proofs.number_at.Tie as tie
 
 shared-slice-read-wide-byte : tie.Need-shared-slice-read-wide-byte
 shared-slice-read-wide-byte c = search needs

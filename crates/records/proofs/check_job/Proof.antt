@@ -9,11 +9,11 @@ use Rattle.model.proofs.CheckLaws.{faulty, faultless, faultless-of}
 use Rattle.fileformat.specs.File.{lowTick, highTick}
 use Rattle.fileformat.proofs.StepLaws.{list-over, list-fine}
 use Rattle.fileformat.specs.Records.{widthIn}
-use Rattle.reader.specs.Reader.{releaseOf}
-use Rattle.reader.proofs.ScanLaws.{list-refused}
+use Rattle.records.specs.RecordIn.{releaseOf}
+use Rattle.records.proofs.ReleaseRecordLaws.{list-refused}
 use borrow.Author.Needs.{needs}
-use Rattle.reader.proofs.check_job.Statement.{statement}
-use Rattle.reader.proofs.check_job.Tie as tie
+use Rattle.records.proofs.check_job.Statement.{statement}
+use Rattle.records.proofs.check_job.Tie as tie
 
 abbrev start : tie.After-check-release → tie.Start
 start c = c .before .before .before

@@ -5,8 +5,8 @@ use Rattle.fileformat.specs.Records.{short, long}
 use Rattle.fileformat.proofs.OffsetLaws.{at-due, at-task-cut, at-task, at-low-task, at-wrong-mark}
 use Rattle.fileformat.proofs.OffsetLaws.{at-release-cut, at-release, at-charge-cut, at-charge, at-end, at-unknown}
 use borrow.Author.Needs.{needs}
-use Rattle.reader.proofs.record_at.Statement.{statement}
-use Rattle.reader.proofs.record_at.Tie as tie
+use Rattle.records.proofs.record_at.Statement.{statement}
+use Rattle.records.proofs.record_at.Tie as tie
 
 -- where the kind byte is known
 abbrev start : tie.After-shared-slice-known2 → tie.Start

@@ -2,8 +2,8 @@ use mathlib.Core.Path.{sym, ap, _∙_}
 use Rattle.fileformat.specs.File.{lowTick}
 use Rattle.fileformat.specs.Records.{widthIn}
 use borrow.Author.Needs.{needs}
-use Rattle.reader.proofs.low_tick.Statement.{statement}
-use Rattle.reader.proofs.low_tick.Tie as tie
+use Rattle.records.proofs.low_tick.Statement.{statement}
+use Rattle.records.proofs.low_tick.Tie as tie
 
 larger-requires : tie.Need-larger-requires
 larger-requires c κs = search needs

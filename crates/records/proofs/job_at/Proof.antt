@@ -5,8 +5,8 @@ use Rattle.fileformat.specs.Records.{widthIn, short, long, bodySize, releaseFro
 use Rattle.fileformat.proofs.NumberLaws.{field-one}
 use Rattle.fileformat.proofs.OffsetLaws.{release-fields}
 use borrow.Author.Needs.{needs}
-use Rattle.reader.proofs.job_at.Statement.{statement}
-use Rattle.reader.proofs.job_at.Tie as tie
+use Rattle.records.proofs.job_at.Statement.{statement}
+use Rattle.records.proofs.job_at.Tie as tie
 
 -- the body has 13 bytes, or 9
 is-long : (c : tie.Then1) → bodySize (widthIn (c .before .before .before .before .args .long)) ≡ 13

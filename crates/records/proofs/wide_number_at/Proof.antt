@@ -2,8 +2,8 @@ use mathlib.Core.Path.{sym, _∙_}
 use native.Mathlib.Omega.{arith}
 use Rattle.fileformat.proofs.NumberLaws.{field-eight}
 use borrow.Author.Needs.{needs}
-use Rattle.reader.proofs.wide_number_at.Statement.{statement}
-use Rattle.reader.proofs.wide_number_at.Tie as tie
+use Rattle.records.proofs.wide_number_at.Statement.{statement}
+use Rattle.records.proofs.wide_number_at.Tie as tie
 
 number-at-requires : tie.Need-number-at-requires
 number-at-requires c κs = search needs

@@ -1,0 +1,2 @@
+-- Laws of the check of a release record.
+pub mod ReleaseRecordLaws

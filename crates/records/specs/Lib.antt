@@ -1,0 +1,2 @@
+-- Records read from a file.
+pub mod RecordIn
