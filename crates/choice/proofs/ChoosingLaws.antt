@@ -24,8 +24,9 @@ use Rattle.model.proofs.ChargeLaws.{absorbed-valid}
 use Rattle.taskset.specs.declared.TaskSet.{TaskSet}
 use Rattle.taskset.specs.TaskSet.{viewOf}
 use Rattle.demand.specs.Columns.{Small, Copied}
-use Rattle.choice.specs.declared.Least.the-variants.{Keep, Unfit}
-use Rattle.choice.specs.Choices.{Flat, Walkable, KeepOf, evaluationsFor, choiceIn, ChoicesAre}
+use Rattle.keeping.specs.declared.Least.the-variants.{Keep, Unfit}
+use Rattle.keeping.specs.Keeping.{Flat, Walkable}
+use Rattle.choice.specs.Choices.{KeepOf, evaluationsFor, choiceIn, ChoicesAre}
 use Rattle.choice.proofs.NextChoiceLaws.{choice-start, next-keep, next-unfit, unfit-stays, judged-unspared, for-kept, NextIs, found-keep, found-none}
 
 -- a slot set, and those past it kept

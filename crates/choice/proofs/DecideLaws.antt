@@ -1,7 +1,7 @@
 -- Which of the two choices is the answer, and when the second need not be made.
 use Prim.Native.Nat.{ℕ, zero, suc, _+_, _≤_, _<_}
 use mathlib.Core.Path.{_≡_, refl, sym, ap, _∙_}
-use mathlib.Core.Bool.{Bool, true, false, not, _||_}
+use mathlib.Core.Bool.{Bool, true, false, _||_}
 use mathlib.Core.Logic.{_⊎_, inl, inr}
 use native.Mathlib.Omega.{arith}
 use native.Mathlib.Numerals.{add-one}
@@ -9,10 +9,8 @@ use borrow.Author.Tests.{le-leb, lt-leb}
 use mathlib.Core.List.{map}
 use lib.ListN.{take}
 use lib.IntN.{pos}
-use lib.Dec.{leb}
-use Rattle.model.specs.Series.{sum}
 use Rattle.model.specs.Tasks.{Tasks}
-use Rattle.model.specs.Choice.{column, unfit, chosen, Scope, ordinary, high-only, judges, choiceOf, scopeAfter, scope}
+use Rattle.model.specs.Choice.{column, unfit, chosen, ordinary, high-only, judges, choiceOf, scopeAfter, scope}
 use Rattle.model.proofs.SeriesLaws.{sum-eq, below-suc}
 use Rattle.model.proofs.MarkLaws.{high-same}
 use Rattle.choice.specs.declared.Choices.{Choices}

@@ -14,9 +14,10 @@ use Rattle.model.specs.Tasks.{Tasks}
 use Rattle.model.specs.Choice.{andKeep, Choice, unfit, chosen, Scope, scopeIn, judges, keepFor, worstFor, choiceNext, choiceOf}
 use Rattle.model.proofs.SameVerdict.{evaluations-kept}
 use Rattle.response.proofs.ChoiceLaws.{keep-judged, keep-left-out, worst-judged, worst-left-out, least-keep}
-use Rattle.choice.specs.declared.Least.{Least}
-use Rattle.choice.specs.declared.Least.the-variants.{Keep, Unfit}
-use Rattle.choice.specs.Choices.{Flat, KeepIs, LeastOf, KeepOf, evaluationsFor}
+use Rattle.keeping.specs.declared.Least.{Least}
+use Rattle.keeping.specs.declared.Least.the-variants.{Keep, Unfit}
+use Rattle.keeping.specs.Keeping.{Flat, KeepIs, LeastOf}
+use Rattle.choice.specs.Choices.{KeepOf, evaluationsFor}
 
 module _ (c : Scope) (s : Tasks) where
   -- before the first task

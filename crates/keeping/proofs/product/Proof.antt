@@ -4,8 +4,8 @@ use mathlib.Core.Path.{ap₂}
 use native.Mathlib.Omega.{arith}
 use native.Mathlib.Nat.{mul-le-mul}
 use borrow.Author.Needs.{needs}
-use Rattle.choice.proofs.product.Statement.{statement}
-use Rattle.choice.proofs.product.Tie as tie
+use Rattle.keeping.proofs.product.Statement.{statement}
+use Rattle.keeping.proofs.product.Tie as tie
 
 wide-requires : tie.Need-wide-requires
 wide-requires c κs = search needs

@@ -13,7 +13,6 @@ use lib.ListN.{length}
 use lib.IntN.{pos}
 use lib.Signed.{ltZ}
 use Rattle.model.specs.Limits.{horizonTick}
-use Rattle.model.specs.Search.{first}
 use Rattle.model.specs.Processor.{pickup}
 use Rattle.model.specs.Tasks.{Tasks}
 use Rattle.model.specs.Gap.{gap}
@@ -26,10 +25,10 @@ use Rattle.model.proofs.SearchLaws.{first-none, first-is}
 use Rattle.response.proofs.BoundLaws.{late-test, not-late}
 use Rattle.response.specs.VerdictSays.{Passed}
 use Rattle.response.proofs.VerdictLaws.{goes-on}
-use Rattle.choice.specs.Choices.{nextHigh}
-use Rattle.choice.proofs.WorstPeakLaws.{bound-under, bound-equal, peak-is}
+use Rattle.keeping.specs.Keeping.{nextHigh}
+use Rattle.keeping.proofs.WorstPeakLaws.{bound-under, bound-equal, peak-is}
 use Rattle.response.proofs.ChoiceLaws.{keep-own}
-use Rattle.choice.proofs.VerdictOfKeepLaws.{Passes, passes-on, horizon-at, late-at, fits-at, taken-at}
+use Rattle.keeping.proofs.VerdictOfKeepLaws.{Passes, passes-on, horizon-at, late-at, fits-at, taken-at}
 
 -- x = J − qP: max(0, −x), and max(0, x − K)
 abbrev pub beyond : Tasks → ℕ → ℕ → ℕ

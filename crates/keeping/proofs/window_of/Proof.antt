@@ -4,9 +4,9 @@ use native.Mathlib.Omega.{arith}
 use borrow.Author.Needs.{needs}
 use Rattle.frame.proofs.ColumnLaws.{ruled-columns}
 use Rattle.demand.proofs.SeekLaws.{some-start}
-use Rattle.choice.proofs.WindowOfLaws.{Searching, search-start, search-over, search-within, search-next, search-turn}
-use Rattle.choice.proofs.window_of.Statement.{statement}
-use Rattle.choice.proofs.window_of.Tie as tie
+use Rattle.keeping.proofs.WindowOfLaws.{Searching, search-start, search-over, search-within, search-next, search-turn}
+use Rattle.keeping.proofs.window_of.Statement.{statement}
+use Rattle.keeping.proofs.window_of.Tie as tie
 
 abbrev Inv-loop : tie.InvT-loop
 Inv-loop loads periods highs lows keeps framed ticks per count first size n once q own need starts tally at₀ before₀ t₀ w₀ k₀ tries₀ at before t w k tries =

@@ -6,10 +6,10 @@ use native.Mathlib.Omega.{arith}
 use Rattle.model.specs.Frame.{Frame}
 use Rattle.frame.specs.WindowColumns.{columnFrame}
 use Rattle.frame.proofs.ColumnLaws.{ruled-columns}
-use Rattle.choice.specs.Choices.{WithinIs}
-use Rattle.choice.proofs.LeastLaws.{Walking, Stepping, walking-start, searched, walking-none, stepped, walking-step}
-use Rattle.choice.proofs.least_keep.Statement.{statement}
-use Rattle.choice.proofs.least_keep.Tie as tie
+use Rattle.keeping.specs.Keeping.{WithinIs}
+use Rattle.keeping.proofs.LeastLaws.{Walking, Stepping, walking-start, searched, walking-none, stepped, walking-step}
+use Rattle.keeping.proofs.least_keep.Statement.{statement}
+use Rattle.keeping.proofs.least_keep.Tie as tie
 
 abbrev Inv-loop : tie.InvT-loop
 Inv-loop loads periods highs lows keeps framed ticks per count first size i jitter deadline period once q₀ high₀ evaluations₀ q high evaluations =

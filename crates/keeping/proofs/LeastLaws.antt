@@ -2,7 +2,7 @@
 use Prim.Native.Nat.{ℕ, suc, _+_, _-_, _*_, _≤_, _<_, min}
 use mathlib.Core.Path.{_≡_, refl, sym, ap, _∙_}
 use mathlib.Core.Logic.{dite}
-use mathlib.Core.Option.{Option, some, none}
+use mathlib.Core.Option.{Option, none}
 use mathlib.Core.List.{List}
 use native.Mathlib.Omega.{arith}
 use native.Mathlib.Nat.{add-zero}
@@ -24,13 +24,13 @@ use Rattle.model.proofs.FrameLaws.{Ruled, ours-same, turn-same}
 use Rattle.model.proofs.SameVerdict.{unframed-same, SameAbove, window-same, tried-same}
 use Rattle.response.proofs.WindowLaws.{Window, window-some, window-over}
 use Rattle.demand.specs.Columns.{IsOnce}
-use Rattle.choice.specs.declared.Least.the-variants.{Keep, Unfit}
-use Rattle.choice.specs.declared.Step.{Step}
-use Rattle.choice.specs.declared.Step.the-variants.{Stops, Fails, Next}
-use Rattle.choice.specs.Choices.{flat, Searched, WithinIs, Flat, Walkable, LeastOf, nextHigh, stepOf, Stepped}
-use Rattle.choice.proofs.ChoiceStepLaws.{step-over, step-keep, step-next, gap-over, gap-under}
+use Rattle.keeping.specs.declared.Least.the-variants.{Keep, Unfit}
+use Rattle.keeping.specs.declared.Step.{Step}
+use Rattle.keeping.specs.declared.Step.the-variants.{Stops, Fails, Next}
+use Rattle.keeping.specs.Keeping.{flat, Searched, WithinIs, Flat, Walkable, LeastOf, nextHigh, stepOf, Stepped}
+use Rattle.keeping.proofs.ChoiceStepLaws.{step-over, step-keep, step-next, gap-over, gap-under}
 use Rattle.response.proofs.ChoiceLaws.{keep-above}
-use Rattle.choice.proofs.ChoiceWalkLaws.{Walked, walk-start, walk-none, walk-over, walk-next, walk-taken, walk-keep, walk-worst}
+use Rattle.keeping.proofs.ChoiceWalkLaws.{Walked, walk-start, walk-none, walk-over, walk-next, walk-taken, walk-keep, walk-worst}
 
 -- W(q) of task i, from the columns
 abbrev pub windowAt : Option Frame → List ℕ → List ℕ → List ℕ → ℕ → ℕ → Option ℕ

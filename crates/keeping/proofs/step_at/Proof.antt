@@ -3,11 +3,11 @@ use Prim.Native.Nat.{ℕ, _+_, _-_, max}
 use mathlib.Core.Path.{_≡_, ap, ap₂, _∙_}
 use native.Mathlib.Omega.{arith}
 use Rattle.model.specs.Processor.{pickup}
-use Rattle.choice.specs.Choices.{nextHigh}
-use Rattle.choice.proofs.ChoiceStepLaws.{step-over, step-keep, step-next}
+use Rattle.keeping.specs.Keeping.{nextHigh}
+use Rattle.keeping.proofs.ChoiceStepLaws.{step-over, step-keep, step-next}
 use borrow.Author.Needs.{needs}
-use Rattle.choice.proofs.step_at.Statement.{statement}
-use Rattle.choice.proofs.step_at.Tie as tie
+use Rattle.keeping.proofs.step_at.Statement.{statement}
+use Rattle.keeping.proofs.step_at.Tie as tie
 
 abbrev start : tie.After-larger → tie.Start
 start c = c .before .before .before .before .before .before .before .before .before .before

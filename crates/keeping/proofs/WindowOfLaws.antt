@@ -19,7 +19,7 @@ use Rattle.demand.specs.Columns.{IsLoad}
 use Rattle.demand.specs.Seeking.{Counts, tallyOf, Started, Seeking}
 use Rattle.demand.proofs.SeekColumnLaws.{counts-of, counts-by, tally-high}
 use Rattle.demand.proofs.SeekColumnLaws as seek
-use Rattle.choice.specs.Choices.{flat, Searched, WithinIs, Product}
+use Rattle.keeping.specs.Keeping.{flat, Searched, WithinIs, Product}
 
 -- the loop of the search: own is what the task itself brings; k starts are done, of which w is the largest W; m has counted, t is tried next from the place at
 pub record Searching (framed : Bool) (ticks count : ℕ) (first size loads periods keeps : List ℕ) (n once q own starts tally at before t w k m : ℕ) : Type 0 where

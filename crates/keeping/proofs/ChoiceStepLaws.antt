@@ -6,8 +6,8 @@ use native.Mathlib.Nat.{add-mul}
 use borrow.Author.Tests.{lt-ltb, le-ltb, le-leb, lt-leb}
 use Rattle.model.specs.Processor.{pickup}
 use Rattle.model.specs.Gap.{gap}
-use Rattle.choice.specs.declared.Step.the-variants.{Stops, Fails, Next}
-use Rattle.choice.specs.Choices.{nextHigh, stepOf}
+use Rattle.keeping.specs.declared.Step.the-variants.{Stops, Fails, Next}
+use Rattle.keeping.specs.Keeping.{nextHigh, stepOf}
 
 module _ (P J D high q w : ℕ) where
   -- W(q) + pickup + min(0, x) is over D
