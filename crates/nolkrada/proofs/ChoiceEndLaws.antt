@@ -13,8 +13,8 @@ use Rattle.model.specs.Calls.{columnAfter, choiceInputs, choiceCall, keptColumn
 use Rattle.model.proofs.CheckLaws.{unfit-refused, chosen-passes}
 use Rattle.choice.specs.Choices.{roomInputs}
 use Rattle.choice.proofs.ChoiceCallLaws.{room-decides, choice-decides}
-use Rattle.nolkrada.specs.Interface.{framedFrom, refusalCode, codeOf, afterSlots, orTooFew, scopeWord, Ends}
-use Rattle.nolkrada.proofs.InterfaceLaws.{few-before}
+use Rattle.interface.specs.Interface.{framedFrom, refusalCode, codeOf, afterSlots, orTooFew, scopeWord, Ends}
+use Rattle.interface.proofs.InterfaceLaws.{few-before}
 use Rattle.nolkrada.proofs.ColumnEndLaws.{ends-stopped, ends-no-words, ends-refused, ends-answered}
 use Rattle.nolkrada.specs.Runs.{choiceAnswer, ColumnsEnd}
 

@@ -20,7 +20,7 @@ use Rattle.fileformat.proofs.RoundTrips.{decode-valid}
 use Rattle.fileformat.proofs.FilePlaces.{decode-within, write-limited}
 use Rattle.textformat.specs.TextSheet.{load}
 use Rattle.textformat.proofs.TextPlaces.{load-within}
-use Rattle.nolkrada.specs.Interface.{sheetFrom, framedFrom, refusalCode, codeOf, codeIn, asWords, tooFew, afterSlots, orTooFew, withSlots, oneWord, verdictWords, traceWords}
+use Rattle.interface.specs.Interface.{sheetFrom, framedFrom, refusalCode, codeOf, codeIn, asWords, tooFew, afterSlots, orTooFew, withSlots, oneWord, verdictWords, traceWords}
 use Rattle.nolkrada.specs.Files.{readLent, readWithin, readAnswer, writeAnswer}
 use Rattle.nolkrada.specs.Texts.{loadLent, loadWithin, loadAnswer}
 use Rattle.nolkrada.specs.Runs.{jumpAnswer, choiceAnswer}

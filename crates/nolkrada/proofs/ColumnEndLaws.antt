@@ -8,8 +8,8 @@ use lib.ListN.{length}
 use Rattle.model.specs.Refusal.{Refusal, Answer, refused, answered}
 use Rattle.model.specs.Checks.{Inputs, refusalOf, answerOf}
 use Rattle.model.specs.Calls.{columnAfter}
-use Rattle.nolkrada.specs.Interface.{refusalCode, codeOf, codeIn, wordsAfter, asWords, orTooFew, withSlots, Ends}
-use Rattle.nolkrada.proofs.InterfaceLaws.{with-enough, with-few, words-put}
+use Rattle.interface.specs.Interface.{refusalCode, codeOf, codeIn, wordsAfter, asWords, orTooFew, withSlots, Ends}
+use Rattle.interface.proofs.InterfaceLaws.{with-enough, with-few, words-put}
 use Rattle.nolkrada.specs.Runs.{ColumnsEnd}
 
 module _ {A : Type 0} (c : Inputs) (x : A) where

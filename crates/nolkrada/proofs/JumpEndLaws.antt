@@ -10,7 +10,7 @@ use Rattle.model.specs.Checks.{Inputs, refusalOf}
 use Rattle.model.specs.Ready.{readyList}
 use Rattle.model.specs.Run.{finishList}
 use Rattle.model.specs.Calls.{releasesOf, columnAfter, runInputs, jumpCall}
-use Rattle.nolkrada.specs.Interface.{framedFrom, refusalCode, codeOf, orTooFew, oneWord, Ends}
+use Rattle.interface.specs.Interface.{framedFrom, refusalCode, codeOf, orTooFew, oneWord, Ends}
 use Rattle.nolkrada.proofs.ColumnEndLaws.{ends-stopped, ends-no-words, ends-refused, ends-answered}
 use Rattle.nolkrada.specs.Runs.{jumpAnswer, ColumnsEnd}
 

@@ -1,10 +1,7 @@
--- Laws of the C interface: order of checks, what stands in the lent slices afterwards. From the ground up.
-pub mod InterfaceLaws
-pub mod AnswerOrderLaws
+-- Laws of the calls for C: what their codes tell, what stands in the lent slices afterwards. From the ground up.
 pub mod CodeLaws
 pub mod ReadLaws
-pub mod FileLaws
-pub mod SameNumbers
+pub mod ReadEndLaws
 pub mod WriteEndLaws
 pub mod ColumnEndLaws
 pub mod JumpEndLaws

@@ -11,10 +11,11 @@ use Rattle.taskset.specs.declared.Task.{Task}
 use Rattle.taskset.specs.declared.TaskSet.{TaskSet}
 use Rattle.fileformat.specs.FileCalls.{setOf, setWith}
 use Rattle.textformat.specs.TextSheet.{load}
-use Rattle.nolkrada.specs.Interface.{refusalCode, codeIn, wordsAfter, asWords, tooFew, Ends}
-use Rattle.nolkrada.specs.Files.{numbersOf, entryNumbers}
+use Rattle.interface.specs.Interface.{refusalCode, codeIn, wordsAfter, asWords, tooFew, Ends}
+use Rattle.interface.specs.TaskNumbers.{numbersOf}
+use Rattle.nolkrada.specs.Files.{entryNumbers}
 use Rattle.nolkrada.specs.Texts.{textWord, loadLent, loadWithin, loadAnswer, LoadEnds}
-use Rattle.nolkrada.proofs.InterfaceLaws.{words-put}
+use Rattle.interface.proofs.InterfaceLaws.{words-put}
 
 module _ (text sheet answer : List ℕ) where
   abbrev ended : Answer (List Task)

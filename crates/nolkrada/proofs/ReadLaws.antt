@@ -18,8 +18,8 @@ use Rattle.fileformat.specs.Numbers.{field}
 use Rattle.fileformat.specs.Records.{taskBody, bodySize, long, short, Width, Record, broken, wrongMark, taskRecord, releaseRecord, chargeRecord, endRecord, markedFrom, recordOf, whole, sizeOf}
 use Rattle.fileformat.specs.File.{File, State, Step, stop, next, last, chargeFault, taskFault, markFault, lowTick, highTick, listFault, endFault, unless, advance, afterEnd, readBy, readFrom, decode}
 use Rattle.fileformat.specs.FileCalls.{readCall, readCount}
-use Rattle.nolkrada.specs.Interface.{refusalCode, codeOf, codeIn, tooFew}
-use Rattle.nolkrada.proofs.AnswerOrderLaws.{slots-extra}
+use Rattle.interface.specs.Interface.{refusalCode, codeOf, codeIn, tooFew}
+use Rattle.interface.proofs.AnswerOrderLaws.{slots-extra}
 use Rattle.nolkrada.specs.Files.{readLent, readWithin}
 
 -- both ways of a test

@@ -11,8 +11,8 @@ use Rattle.model.specs.Calls.{columnAfter}
 use Rattle.taskset.specs.TaskSet.{viewOf}
 use Rattle.fileformat.specs.File.{encode}
 use Rattle.fileformat.specs.FileCalls.{writeInputs, fileOf}
-use Rattle.nolkrada.specs.Interface.{sheetFrom, refusalCode, codeOf, codeIn, wordsAfter, asWords, orTooFew, withSlots, Ends}
-use Rattle.nolkrada.proofs.InterfaceLaws.{with-enough, with-few, words-put}
+use Rattle.interface.specs.Interface.{sheetFrom, refusalCode, codeOf, codeIn, wordsAfter, asWords, orTooFew, withSlots, Ends}
+use Rattle.interface.proofs.InterfaceLaws.{with-enough, with-few, words-put}
 use Rattle.nolkrada.specs.Files.{writeAnswer, WriteEnds}
 
 -- the file of a call with these inputs: its bytes and its word

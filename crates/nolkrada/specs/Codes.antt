@@ -10,7 +10,7 @@ use Rattle.model.specs.Refusal.{Refusal, Answer, refused, answered}
 use Rattle.model.specs.Checks.{refusalOf}
 use Rattle.model.specs.Calls.{arrivalCall, verdictCall, traceCall, readyInputs, runInputs}
 use Rattle.taskset.specs.TaskSet.{viewOf}
-use Rattle.nolkrada.specs.Interface.{sheetFrom, framedFrom, codeOf, codeIn, asWords, withSlots, oneWord, verdictWords, traceWords}
+use Rattle.interface.specs.Interface.{sheetFrom, framedFrom, codeOf, codeIn, asWords, withSlots, oneWord, verdictWords, traceWords}
 use Rattle.nolkrada.specs.Files.{readAnswer, writeAnswer}
 use Rattle.nolkrada.specs.Texts.{loadAnswer}
 use Rattle.nolkrada.specs.Runs.{jumpAnswer, choiceAnswer}

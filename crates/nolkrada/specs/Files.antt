@@ -1,9 +1,8 @@
 -- The C interface of read and write: words and numbers from a file.
 use Prim.Native.Nat.{ℕ}
 use mathlib.Core.Path.{_≡_}
-use mathlib.Core.Bool.{Bool, true, false}
 use mathlib.Core.Option.{some, none}
-use mathlib.Core.List.{List, [], _∷_, _++_}
+use mathlib.Core.List.{List, [], _∷_}
 use lib.ListN.{length}
 use Rattle.model.specs.Refusal.{Answer, refused, answered}
 use Rattle.model.specs.Checks.{Lent, checkSlots, answerOf}
@@ -11,21 +10,8 @@ use Rattle.taskset.specs.declared.Task.{Task}
 use Rattle.taskset.specs.TaskSet.{viewOf}
 use Rattle.fileformat.specs.File.{File, encode, decode}
 use Rattle.fileformat.specs.FileCalls.{setOf, readColumn, writeInputs, fileOf}
-use Rattle.nolkrada.specs.Interface.{sheetFrom, codeIn, wordsAfter, asWords, withSlots}
-
--- a mark as a number: 0 for high, 1 for low
-unfoldable pub markNumber : Bool → ℕ
-markNumber true = 1
-markNumber false = 0
-
--- the numbers of a task
-abbrev pub taskNumbers : Task → List ℕ
-taskNumbers t = t .period ∷ t .jitter ∷ t .cost ∷ t .deadline ∷ markNumber (t .low) ∷ []
-
--- the numbers of some tasks
-unfoldable pub numbersOf : List Task → List ℕ
-numbersOf [] = []
-numbersOf (t ∷ l) = taskNumbers t ++ numbersOf l
+use Rattle.interface.specs.Interface.{sheetFrom, codeIn, wordsAfter, asWords, withSlots}
+use Rattle.interface.specs.TaskNumbers.{numbersOf}
 
 -- a file as three words: how many tasks and releases it has, and its charge
 unfoldable pub fileWords : File → List ℕ

@@ -1,6 +1,4 @@
--- The C interface: numbers and words for sheets, answers, files and texts.
-pub mod Interface
-pub mod SlotsLast
+-- The calls for C: what each answers, and how it ends.
 pub mod Files
 pub mod Texts
 pub mod Runs

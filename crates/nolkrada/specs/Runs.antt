@@ -6,7 +6,7 @@ use lib.ListN.{length}
 use Rattle.model.specs.Choice.{Scope}
 use Rattle.model.specs.Refusal.{Answer}
 use Rattle.model.specs.Calls.{choiceCall, jumpCall}
-use Rattle.nolkrada.specs.Interface.{framedFrom, codeIn, wordsAfter, asWords, withSlots}
+use Rattle.interface.specs.Interface.{framedFrom, codeIn, wordsAfter, asWords, withSlots}
 
 -- the run that jumps: the number of stops, with one word lent after the columns
 unfoldable pub jumpAnswer : List ℕ → ℕ → ℕ → List ℕ → List ℕ → ℕ → List ℕ → List ℕ → List ℕ → List ℕ → List ℕ → List ℕ → Answer ℕ

@@ -8,7 +8,7 @@ use Rattle.model.specs.Refusal.{Answer, refused, answered}
 use Rattle.model.specs.Checks.{Lent, checkSlots}
 use Rattle.taskset.specs.declared.Task.{Task}
 use Rattle.textformat.specs.TextSheet.{load}
-use Rattle.nolkrada.specs.Interface.{codeIn, wordsAfter, asWords}
+use Rattle.interface.specs.Interface.{codeIn, wordsAfter, asWords}
 use Rattle.nolkrada.specs.Files.{entryNumbers, slots}
 
 -- what is loaded as one word: how many tasks

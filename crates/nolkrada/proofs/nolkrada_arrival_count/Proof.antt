@@ -1,8 +1,8 @@
 -- The answer of the call goes to the first words, where they are enough.
-use Rattle.nolkrada.specs.Interface.{oneWord}
+use Rattle.interface.specs.Interface.{oneWord}
 use mathlib.Core.Path.{sym, ap, _∙_}
 use Rattle.demand.specs.ArrivalAnswer.{arrivalIn}
-use Rattle.nolkrada.proofs.InterfaceLaws.{ends-refused, ends-answered}
+use Rattle.interface.proofs.InterfaceLaws.{ends-refused, ends-answered}
 use borrow.Author.Needs.{needs}
 use Rattle.nolkrada.proofs.nolkrada_arrival_count.Statement.{statement}
 use Rattle.nolkrada.proofs.nolkrada_arrival_count.Tie as tie

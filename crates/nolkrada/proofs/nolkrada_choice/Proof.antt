@@ -4,7 +4,7 @@ use Rattle.model.specs.Checks.{refusalOf}
 use Rattle.taskset.specs.TaskSet.{refusalIn}
 use Rattle.choice.specs.Choices.{roomInputs, scopeTold}
 use lib.ListN.{length}
-use Rattle.nolkrada.specs.Interface.{framedFrom, scopeWord}
+use Rattle.interface.specs.Interface.{framedFrom, scopeWord}
 use Rattle.nolkrada.proofs.ChoiceEndLaws.{choice-stopped, choice-no-words, choice-refused, choice-made}
 use borrow.Author.Needs.{needs}
 use Rattle.nolkrada.proofs.nolkrada_choice.Statement.{statement}

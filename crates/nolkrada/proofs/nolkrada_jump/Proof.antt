@@ -5,7 +5,7 @@ use Rattle.model.specs.Calls.{runInputs}
 use Rattle.taskset.specs.TaskSet.{refusalIn}
 use Rattle.trace.proofs.ListCallLaws.{run-checks}
 use Rattle.jumps.specs.Jumps.{jumpIn}
-use Rattle.nolkrada.specs.Interface.{framedFrom}
+use Rattle.interface.specs.Interface.{framedFrom}
 use Rattle.nolkrada.proofs.JumpEndLaws.{jump-stopped, jump-no-words, jump-refused, jump-ran}
 use borrow.Author.Needs.{needs}
 use Rattle.nolkrada.proofs.nolkrada_jump.Statement.{statement}

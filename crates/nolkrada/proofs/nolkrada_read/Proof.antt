@@ -3,7 +3,7 @@ use mathlib.Core.Path.{sym, ap, _∙_}
 use Rattle.reader.specs.Reader.{outcomeIn}
 use Rattle.nolkrada.proofs.ReadLaws.{sheet-halts, answer-halts}
 use Rattle.nolkrada.specs.Files.{readAnswer}
-use Rattle.nolkrada.proofs.FileLaws.{read-halted, read-refused, read-answered}
+use Rattle.nolkrada.proofs.ReadEndLaws.{read-halted, read-refused, read-answered}
 use borrow.Author.Needs.{needs}
 use Rattle.nolkrada.proofs.nolkrada_read.Statement.{statement}
 use Rattle.nolkrada.proofs.nolkrada_read.Tie as tie

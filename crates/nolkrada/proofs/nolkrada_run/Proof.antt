@@ -1,6 +1,6 @@
 -- The columns of the call, and its refusal as a code.
 use mathlib.Core.Path.{ap, _∙_}
-use Rattle.nolkrada.specs.Interface.{codeOf}
+use Rattle.interface.specs.Interface.{codeOf}
 use borrow.Author.Needs.{needs}
 use Rattle.nolkrada.proofs.nolkrada_run.Statement.{statement}
 use Rattle.nolkrada.proofs.nolkrada_run.Tie as tie

@@ -2,8 +2,8 @@
 
 use mathlib.Core.Path.{sym, ap, _∙_}
 use Rattle.trace.specs.TraceCalls.{traceIn}
-use Rattle.nolkrada.proofs.InterfaceLaws.{ends-refused, ends-answered}
-use Rattle.nolkrada.specs.Interface.{traceWords}
+use Rattle.interface.proofs.InterfaceLaws.{ends-refused, ends-answered}
+use Rattle.interface.specs.Interface.{traceWords}
 use borrow.Author.Needs.{needs}
 use Rattle.nolkrada.proofs.nolkrada_trace_check.Statement.{statement}
 use Rattle.nolkrada.proofs.nolkrada_trace_check.Tie as tie

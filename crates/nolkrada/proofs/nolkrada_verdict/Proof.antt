@@ -2,8 +2,8 @@
 
 use mathlib.Core.Path.{sym, ap, _∙_}
 use Rattle.verdict.specs.VerdictAnswer.{verdictIn}
-use Rattle.nolkrada.proofs.InterfaceLaws.{ends-refused, ends-answered}
-use Rattle.nolkrada.specs.Interface.{verdictWords}
+use Rattle.interface.proofs.InterfaceLaws.{ends-refused, ends-answered}
+use Rattle.interface.specs.Interface.{verdictWords}
 use borrow.Author.Needs.{needs}
 use Rattle.nolkrada.proofs.nolkrada_verdict.Statement.{statement}
 use Rattle.nolkrada.proofs.nolkrada_verdict.Tie as tie

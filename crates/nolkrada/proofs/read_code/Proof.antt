@@ -2,7 +2,7 @@
 use Rattle.model.proofs.CheckLaws.{slots-short, slots-next, slots-none}
 use mathlib.Core.Path.{refl, sym, ap, _∙_}
 use Rattle.reader.specs.Reader.{outcomeIn}
-use Rattle.nolkrada.specs.Interface.{codeOf}
+use Rattle.interface.specs.Interface.{codeOf}
 use Rattle.nolkrada.proofs.ReadLaws.{code-refused, code-slots}
 use borrow.Author.Needs.{needs}
 use Rattle.nolkrada.proofs.read_code.Statement.{statement}
