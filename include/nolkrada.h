@@ -138,7 +138,7 @@ extern "C" {
 /* The version of this interface. The archive has no symbol for it: take header and archive of one build. */
 #define NOLKRADA_VERSION_MAJOR 0
 #define NOLKRADA_VERSION_MINOR 9
-#define NOLKRADA_VERSION_PATCH 0
+#define NOLKRADA_VERSION_PATCH 1
 #define NOLKRADA_VERSION "0.9.1"
 
 /* Tasks of a sheet, numbers of a sheet that is read or loaded (P, J, E, D and mark of 32 tasks), releases of a list. */

@@ -19,6 +19,7 @@ extern "C" {
     fn setsid() -> i32;
     fn ioctl(fd: i32, request: u64, ...) -> i32;
     fn kill(process: i32, signal: i32) -> i32;
+    fn signal(signal: i32, handler: usize) -> usize;
     fn close(fd: i32) -> i32;
     fn geteuid() -> u32;
 }
@@ -726,6 +727,9 @@ fn install() {
 }
 
 fn main() {
+    // A shell ignores interrupts in what it starts in the background, and what is ignored cannot be trapped by a call of ./run.
+    const DEFAULT: usize = 0;
+    unsafe { signal(INT, DEFAULT) };
     let path = std::env::var("PATH").unwrap();
     let real = Tree { root: std::env::current_dir().unwrap(), path };
     inputs(&real);
