@@ -1,6 +1,7 @@
 //! Times the archive against the same methods in plain Rust and against the reference implementation, and shows how the cost
 //! grows with tasks, releases and ticks. All three are optimised and called in turn. Each figure is the median of several
-//! repetitions, in processor time of the thread, so that other work on the machine counts little.
+//! repetitions, in processor time of the thread, so that other work on the machine counts little. The table of the last 256 jobs has no
+//! reference.
 
 #[path = "../tests/outside/generator.rs"]
 #[allow(dead_code)]
@@ -8,6 +9,7 @@ mod generator;
 #[path = "../tests/outside/library.rs"]
 #[allow(dead_code)]
 mod library;
+mod monitor;
 #[path = "../tests/outside/reference.rs"]
 #[allow(dead_code)]
 mod reference;
@@ -504,16 +506,19 @@ fn longest_verdicts(searches: &mut Searches) {
     }
 }
 
-/// Without an argument all tables; with `full` the first and that of frames alone, with `frames` that of frames alone. Then the evaluations
-/// of the verdicts and choices timed without a frame.
+/// Without an argument all tables; with `full` the first, that of frames and that of the last 256 jobs alone, with `frames` or `monitor` one of
+/// these two alone. Then the evaluations of the verdicts and choices timed without a frame.
 fn main() {
     let searches = &mut Searches::default();
     let which = std::env::args().nth(1);
-    if which.as_deref() == Some("frames") {
-        return with_frames();
+    match which.as_deref() {
+        Some("frames") => return with_frames(),
+        Some("monitor") => return monitor::table(),
+        _ => (),
     }
     full_size(searches);
     with_frames();
+    monitor::table();
     if which.as_deref() != Some("full") {
         growth(searches);
         longest_verdicts(searches);

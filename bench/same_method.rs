@@ -2,7 +2,7 @@
 //! is made anew for the high tasks alone where it does not succeed, a shaper of two numbers for each task, a run tick by tick with one
 //! queue for each task, a run from one start or finish to the next, a reader in two passes, a writer in one, a loader that looks once at
 //! each byte. With a frame the search goes on from where our ticks reach the demand just found, at the starts where a gap begins, and a job's
-//! end is reckoned by counting windows.
+//! end is reckoned by counting windows. The last 256 jobs are a ring in lent slots, which is looked through when it is shown.
 //! Each makes the checks of its call. Used as the measure of the archive's speed.
 
 use crate::reference::{Frame, Refusal, Task, HORIZON, MAX_FRAME, MAX_RELEASES, MAX_SHORT_TICK, MAX_TASKS, MAX_TICK, MAX_TIME, MAX_WINDOWS};
@@ -792,4 +792,106 @@ pub fn load(text: &[u8], sheet: &mut [Task; 32]) -> Result<usize, Refusal> {
     loading.end()?;
     *sheet = loading.tasks;
     Ok(loading.count)
+}
+
+// ---- The last 256 jobs -------------------------------------------------------------------------------------------------
+
+/// The slots of a window: the number of tasks, the count of jobs, 32 deadlines, then the tasks and the responses of 256 jobs.
+pub const WINDOW_SLOTS: usize = 546;
+const DEADLINES: usize = 2;
+const JOB_TASKS: usize = 34;
+const JOB_RESPONSES: usize = 290;
+const WINDOW_JOBS: u64 = 256;
+
+pub fn open_window(tasks: &[Task], charge: u8, window: &mut [u64]) -> Checked {
+    check_sheet(tasks, charge)?;
+    check_slots(window.len(), WINDOW_SLOTS)?;
+    window[0] = tasks.len() as u64;
+    window[1] = 0;
+    for (slot, t) in window[DEADLINES..].iter_mut().zip(tasks) {
+        *slot = t.d as u64;
+    }
+    Ok(())
+}
+
+fn check_window(window: &[u64]) -> Checked {
+    check_slots(window.len(), WINDOW_SLOTS)?;
+    if window[0] == 0 {
+        return refuse(5, 0);
+    }
+    if window[0] > MAX_TASKS as u64 {
+        return refuse(4, MAX_TASKS);
+    }
+    Ok(())
+}
+
+fn check_task_in(window: &[u64], task: usize) -> Checked {
+    check_window(window)?;
+    if window[0] <= task as u64 {
+        return refuse(14, task);
+    }
+    Ok(())
+}
+
+/// A finished job goes to the next place of the ring. The count goes on from 256 after 511.
+pub fn take_job(window: &mut [u64], task: usize, response: u64) -> Checked {
+    check_task_in(window, task)?;
+    let count = window[1];
+    let place = (count % WINDOW_JOBS) as usize;
+    window[JOB_TASKS + place] = task as u64;
+    window[JOB_RESPONSES + place] = response;
+    window[1] = if count < WINDOW_JOBS { count + 1 } else { WINDOW_JOBS + (count % WINDOW_JOBS + 1) % WINDOW_JOBS };
+    Ok(())
+}
+
+/// What is shown of a task: its jobs, the late ones among them, and the largest response.
+#[derive(Clone, Copy, Debug, PartialEq, Eq)]
+pub struct Shown {
+    pub jobs: u32,
+    pub late: u32,
+    pub largest: u64,
+}
+
+/// The places of the ring in use: tasks and responses.
+fn jobs_in(window: &[u64]) -> impl Iterator<Item = (u64, u64)> + '_ {
+    let used = window[1].min(WINDOW_JOBS) as usize;
+    let (tasks, responses) = (&window[JOB_TASKS..][..used], &window[JOB_RESPONSES..][..used]);
+    tasks.iter().copied().zip(responses.iter().copied())
+}
+
+/// One look at each place in use.
+pub fn show_task(window: &[u64], task: usize) -> Result<Shown, Refusal> {
+    check_task_in(window, task)?;
+    let deadline = window[DEADLINES + task];
+    let mut shown = Shown { jobs: 0, late: 0, largest: 0 };
+    for (t, r) in jobs_in(window) {
+        if t == task as u64 {
+            shown.jobs += 1;
+            shown.late += (r > deadline) as u32;
+            shown.largest = shown.largest.max(r);
+        }
+    }
+    Ok(shown)
+}
+
+/// One look at each place in use, whatever the tasks.
+pub fn show_all(window: &[u64], jobs: &mut [u32], late: &mut [u32], largest: &mut [u64]) -> Checked {
+    check_window(window)?;
+    let count = window[0] as usize;
+    for slots in [jobs.len(), late.len(), largest.len()] {
+        check_slots(slots, count)?;
+    }
+    let (jobs, late, largest) = (&mut jobs[..count], &mut late[..count], &mut largest[..count]);
+    jobs.fill(0);
+    late.fill(0);
+    largest.fill(0);
+    for (t, r) in jobs_in(window) {
+        if t < count as u64 {
+            let i = t as usize;
+            jobs[i] += 1;
+            late[i] += (r > window[DEADLINES + i]) as u32;
+            largest[i] = largest[i].max(r);
+        }
+    }
+    Ok(())
 }

@@ -13,12 +13,13 @@
  * goes tick by tick: some 0.4 s for each 1000000000 ticks up to the last finish, so that one release near the last tick allowed
  * makes nolkrada_run go on for days. Take nolkrada_jump for such lists. A run that jumps goes from one ready or finish moment to the
  * next: microseconds for a few releases, whatever their ticks, and below a millisecond for 1024. These figures are for calls without
- * a frame. docs/BENCHMARK.md has all of them; PLANNING A CHOICE says how to plan for a choice on a board.
+ * a frame. docs/BENCHMARK.md has all of them; PLANNING A CHOICE says how to plan for a choice on a board. The time of a call on a
+ * window does not grow with the jobs that it has taken: see LAST JOBS.
  *
  * WHAT A CALL RETURNS
  *   0 where it answered. Otherwise a refusal, number * 2^32 + place; nolkrada_number and nolkrada_place take it apart.
  *   A refusal leaves every slot of every lent array as it was. An answer fills the first slots of an array, and the slots
- *   past it keep what they held.
+ *   past it keep what they held. A window is changed inside its first NOLKRADA_WINDOW_SLOTS slots alone.
  *
  * SHEET
  *   sheet, sheet_length: the numbers of the tasks, P, J, E, D and the mark of task 0, then of task 1, and so on; task 0 has the
@@ -72,6 +73,23 @@
  *   that t on the right side becomes our ticks among t ticks from a start, and W(q) is the largest of these least t over all starts
  *   in the frame.
  *
+ * LAST JOBS
+ *   For a display of a run: per task the number of jobs among the last 256 (NOLKRADA_WINDOW_JOBS) that were taken, or among all while
+ *   there are fewer, how many of them were late, and their largest response. The 256 jobs are those of all tasks together. Each number
+ *   is what a fresh count of these jobs gives, however many were taken before: the largest response falls when the last job that had
+ *   it is no longer among them.
+ *   window, window_length: memory that the caller keeps from call to call, at least 546 uint64_t (NOLKRADA_WINDOW_SLOTS; 4368 bytes).
+ *   It is no window of a frame. What its slots mean is left open: only these calls read it, and only nolkrada_monitor_open and
+ *   nolkrada_monitor_take change it. It may be copied or stored as a whole, and the copy goes on from there. There may be any number of
+ *   windows. As any array that a call writes, a window must not overlap another one; and while one thread is in a call that changes
+ *   it, no other thread may be in a call on it.
+ *   Open it on a sheet. A job is late where its response is over the D of its task in this sheet, until the window is opened anew.
+ *   Then let it take each finished job, in order of finish: its task and its response, finish - tick, which may be any number of 64
+ *   bits. A job of a task that is not in the sheet is refused with 14 and is not counted.
+ *   Whatever numbers the slots hold, a call ends, touches no memory but what is lent, and answers or is refused. One on a window of
+ *   zeros is refused with 5. Where other code wrote to a window, what it shows is about no run.
+ *   Taking a job is the same few steps each time. A show, of one task or of all, goes over the 256 jobs once.
+ *
  * PLANNING A CHOICE
  *   This is about calls without a frame. A verdict takes q = 0, 1, .. and finds each W(q) by a list of t. The first t is
  *   (q + 1) * (E + S) plus one E + S of each task above. The next is the demand in the t before it: (q + 1) * (E + S) + (the sum over
@@ -101,8 +119,9 @@
  *    1  read: kind byte not 1 to 6; offset of the kind byte
  *    2  read: the file ends inside a record, or where a kind is due; offset of that kind
  *    3  read: task after a release; a second charge, or one after a task or a release; offset of the record
- *    4  over 32 tasks; 32 (read: offset; load: the line)
- *    5  no task: count 0; 0 (read: release or end before any task; offset. load: an empty text; 0)
+ *    4  over 32 tasks; 32 (read: offset; load: the line. A window that holds such a number: 32)
+ *    5  no task: count 0; 0 (read: release or end before any task; offset. load: an empty text; 0. A window that was not opened and
+ *       holds zeros: 0)
  *    6  P, J, E or D outside its range; the task (read: offset; also a charge of 0 in kind 5, and a last byte of kind 6 that is not 0.
  *       load: the line, however long a number is)
  *    7  release of a task that is not in the sheet; the release (read: offset)
@@ -112,8 +131,8 @@
  *   10  over 1024 releases; 1024 (read: offset)
  *   11  read: a byte follows the end record; its offset
  *   12  some kept jitter is over J; the first such task
- *   13  an array is too short; the slots that it needs
- *   14  there is no such task; the number given
+ *   13  an array is too short; the slots that it needs (a window: 546)
+ *   14  there is no such task; the number given (a window: in the sheet on which it was opened)
  *   15  choice: no K fits; the first such task, of the high ones alone (see nolkrada_choice)
  *   16  load: a line that is not P,J,E,D and a line feed; the line
  *   17  E + S is over P or over D; the task (read: offset of the task's record)
@@ -123,7 +142,9 @@
  * A call checks, in this order: the sheet (5, 4, then 6 and 17 of task 0, 6 and 17 of task 1, and so on), 18, 14, 10, 13 (arrays
  * by task, then by release, then bytes, then `answer`), 12, the releases in order (7, 8, 9), 15. A read checks the whole file, record
  * by record and the lower number first, and then 13 (`sheet`, then task, tick and cost, then `answer`). A load checks the whole text,
- * line by line: 16, then 4, then 6 on a line, 5 where there is none; and then 13 (`sheet`, then `answer`).
+ * line by line: 16, then 4, then 6 on a line, 5 where there is none; and then 13 (`sheet`, then `answer`). nolkrada_monitor_open checks
+ * the sheet and then 13. The other calls on a window check the window (13, then 5, then 4), then 14, then 13 (`answer`; jobs, then late,
+ * then largest).
  */
 #ifndef NOLKRADA_H
 #define NOLKRADA_H
@@ -137,9 +158,9 @@ extern "C" {
 
 /* The version of this interface. The archive has no symbol for it: take header and archive of one build. */
 #define NOLKRADA_VERSION_MAJOR 0
-#define NOLKRADA_VERSION_MINOR 9
-#define NOLKRADA_VERSION_PATCH 1
-#define NOLKRADA_VERSION "0.9.1"
+#define NOLKRADA_VERSION_MINOR 10
+#define NOLKRADA_VERSION_PATCH 0
+#define NOLKRADA_VERSION "0.10.0"
 
 /* Tasks of a sheet, numbers of a sheet that is read or loaded (P, J, E, D and mark of 32 tasks), releases of a list. */
 #define NOLKRADA_MAX_TASKS 32
@@ -171,6 +192,9 @@ extern "C" {
  * refused; what its refusal is may depend on every byte. Make a buffer that is filled from an input one byte longer: the first
  * NOLKRADA_MAX_TEXT bytes of a longer text may be accepted, the first NOLKRADA_MAX_TEXT + 1 never are. */
 #define NOLKRADA_MAX_TEXT 1024
+/* The jobs that a window counts, and its slots, uint64_t each. */
+#define NOLKRADA_WINDOW_JOBS 256
+#define NOLKRADA_WINDOW_SLOTS 546
 
 /* The numbers of the refusals. NOLKRADA_REFUSED_TASK_AFTER_RELEASE is also that of a charge that is not the first record. */
 enum {
@@ -295,6 +319,26 @@ uint64_t nolkrada_write(const uint32_t *sheet, size_t sheet_length, uint32_t cou
  * answer: 1 slot, the tasks of the text.                                                                Refuses 16 4 6 5 13. */
 uint64_t nolkrada_load(const uint8_t *text, size_t text_length, uint32_t *sheet, size_t sheet_length, uint64_t *answer,
                        size_t answer_length);
+
+/* Open a window on a sheet: no job. What the window held does not matter. The charge is checked and changes nothing that is shown.
+ * window: NOLKRADA_WINDOW_SLOTS slots, some of them written.                                            Refuses 5 4 6 17 13. */
+uint64_t nolkrada_monitor_open(const uint32_t *sheet, size_t sheet_length, uint32_t count, uint8_t charge, uint64_t *window,
+                               size_t window_length);
+
+/* Take one finished job, the last one so far. From the 257th on it takes the place of the oldest.
+ * window: NOLKRADA_WINDOW_SLOTS slots, some of them written.                                                Refuses 13 5 4 14. */
+uint64_t nolkrada_monitor_take(uint64_t *window, size_t window_length, uint32_t task, uint64_t response);
+
+/* Show one task. The window is not changed.
+ * answer: 3 slots, written: the jobs of the task among the last 256, how many of them were late, and their largest response, 0 where
+ * there is no job.                                                                                          Refuses 13 5 4 14. */
+uint64_t nolkrada_monitor_show(const uint64_t *window, size_t window_length, uint32_t task, uint64_t *answer, size_t answer_length);
+
+/* Show all tasks, each as nolkrada_monitor_show does. The window is not changed.
+ * jobs, late, largest: a slot for each task of the sheet on which the window was opened, written; NOLKRADA_MAX_TASKS slots take any.
+ *                                                                                                              Refuses 13 5 4. */
+uint64_t nolkrada_monitor_show_all(const uint64_t *window, size_t window_length, uint32_t *jobs, size_t jobs_length, uint32_t *late,
+                                   size_t late_length, uint64_t *largest, size_t largest_length);
 
 #ifdef __cplusplus
 }

@@ -1,9 +1,10 @@
 //! Compares the archive with the reference implementation: every answer, every lent slot, refusals with their place; and the run
-//! that jumps with the ticking run of the archive, where the ticks are not too many.
+//! that jumps with the ticking run of the archive, where the ticks are not too many. The calls on a window are in monitor.rs.
 //! One argument may give another seed. The last line says how many calls were compared and how many differed.
 
 mod generator;
 mod library;
+mod monitor;
 mod reference;
 mod sums;
 
@@ -183,13 +184,13 @@ impl Case {
 
 #[derive(Default)]
 struct Tally {
-    calls: [u64; 10],
+    calls: [u64; NAMES.len()],
     refusals: [u64; 19],
     /// How many of the calls were answered with a charge, and the charges; how many with a low task; and how many with a frame.
-    charged: [u64; 10],
+    charged: [u64; NAMES.len()],
     charges: BTreeSet<u8>,
-    marked: [u64; 10],
-    framed: [u64; 10],
+    marked: [u64; NAMES.len()],
+    framed: [u64; NAMES.len()],
     /// The verdicts with a frame, by kind; and of each of UNLIKE how many were compared with that of no frame, and how many differ.
     framed_verdicts: [u64; 3],
     beside_none: [u64; 4],
@@ -220,11 +221,18 @@ struct Tally {
     passed_over: u64,
     /// Runs that were not made tick by tick, since the ticks are too many.
     not_ticked: u64,
+    /// Of the tasks that a window showed: how many had each of DISPLAYS. The most jobs since an opening. And the refusals of the calls on a
+    /// window, by call, number and whether it is that the window is too short.
+    displays: [u64; DISPLAYS.len()],
+    most_jobs: usize,
+    window_refusals: BTreeSet<(usize, u32, bool)>,
     differences: u64,
 }
 
-const NAMES: [&str; 10] =
-    ["arrival count", "verdict", "choice", "trace check", "ready ticks", "run", "read", "write", "load", "jumping run"];
+const NAMES: [&str; 14] = [
+    "arrival count", "verdict", "choice", "trace check", "ready ticks", "run", "read", "write", "load", "jumping run", "monitor open",
+    "monitor take", "monitor show", "show all",
+];
 
 /// What the lists of t of a verdict may have: one member at q = 0, a last t over H after others, a first t over H; and more than one list.
 const LISTS: [&str; 4] = ["a list of one", "a last t over H", "a first t over H", "more than one q"];
@@ -244,7 +252,18 @@ const TRIED: [&str; 13] = [
 /// What of a sheet with a frame may differ from that without it.
 const UNLIKE: [&str; 4] = ["kinds of verdicts", "verdicts", "choices", "runs"];
 
-/// How often each end of a choice has to come up, and each of TRIED.
+/// What a window may show of a task: after so many jobs since the opening; no job of the task among those that count, none of its jobs late,
+/// some of them, all of 256; a largest response below the one shown before; and anything, in a window that no call made.
+const DISPLAYS: [&str; 11] = [
+    "no job yet", "up to 255 jobs", "256 jobs", "257 jobs", "over 512 jobs", "none of the task", "none late", "some late", "256 late",
+    "a largest that fell", "slots that no call made",
+];
+
+/// How many refusals the calls on a window have: 5, 4, 6, 17 and 13 of an opening; 13, 5, 4 and 14 of a job; the same and 13 for the answer
+/// of a show; 13, 5, 4 and 13 for the columns of a show of all.
+const WINDOW_REFUSALS: usize = 5 + 4 + 5 + 4;
+
+/// How often each end of a choice has to come up, and each of TRIED and of DISPLAYS.
 const OFTEN: u64 = 2_000;
 const SOME: u64 = 100;
 
@@ -2903,6 +2922,13 @@ fn main() {
     timed("arrival counts at their steps", || counts_at_steps(r, tally, 1_000));
     timed("evaluations counted by hand", || numbers_by_hand(r, tally));
     timed("long walks", || long_walks(r, tally));
+    timed("last jobs: what decides", || monitor::refusals(r, tally));
+    timed("last jobs: after each of the first 1,030", || monitor::first_jobs(r, tally, 1_030, &[1, 2, 5, 31, 32]));
+    timed("last jobs: equal largest responses", || monitor::equal_largest(r, tally));
+    timed("last jobs: runs of up to 20,000", || monitor::long_runs(r, tally, &[3_000, 8_000, 20_000], false));
+    timed("last jobs: the same, reopened", || monitor::long_runs(r, tally, &[3_000, 8_000], true));
+    timed("last jobs: openings", || monitor::openings(r, tally, 40_000));
+    timed("last jobs: slots that no call made", || monitor::any_slots(r, tally, 20_000));
     for (call, name) in NAMES.iter().enumerate() {
         let (charged, marked, framed) = (tally.charged[call], tally.marked[call], tally.framed[call]);
         println!("{:<14} {:8} calls, {} answered with a charge, {} with a low task, {} with a frame", name, tally.calls[call], charged, marked, framed);
@@ -2924,25 +2950,28 @@ fn main() {
     let unlike: Vec<String> = (0..4).map(|k| format!("{} {} of {}", UNLIKE[k], tally.unlike_none[k], tally.beside_none[k])).collect();
     println!("unlike those without their frame  {}", unlike.join("  "));
     println!("largest ready tick {}, finish {}; too many ticks to be ticked through {}", tally.last_ready, tally.last_finish, tally.not_ticked);
+    let displays: Vec<String> = DISPLAYS.iter().zip(tally.displays).map(|(name, n)| format!("{name} {n}")).collect();
+    println!("tasks shown  {}; most jobs of a window {}", displays.join("  "), tally.most_jobs);
     println!("outside comparison: {} calls, {} differences", tally.calls.iter().sum::<u64>(), tally.differences);
     let stops = tally.most_stops == 2 * MAX_RELEASES as u64 && tally.shared_stops > 0;
     let ticks = (tally.last_ready, tally.last_finish) == (1_000_001_023_000_000, 1_010_240_000_000_001);
-    // a read and a load have no frame, the other calls on values ignore it or take it
-    let frames = (0..10).all(|call| (tally.framed[call] > 0) != matches!(call, 6 | 8))
+    // a read, a load and the calls on a window have no frame, the other calls on values ignore it or take it
+    let frames = (0..NAMES.len()).all(|call| (tally.framed[call] > 0) != matches!(call, 6 | 8 | 10..))
         && tally.frame_places.len() == 18
         && !tally.framed_verdicts.contains(&0)
         && !tally.unlike_none.contains(&0);
-    // a load has no charge and no low task
-    let charges = tally.charges.len() == 255 && (0..10).all(|call| (tally.charged[call] > 0) != (call == 8));
-    let marks = tally.wrong_marks.len() == 255 && (0..10).all(|call| (tally.marked[call] > 0) != (call == 8));
+    // a load has no charge and no low task; of the calls on a window only an opening has a sheet
+    let charges = tally.charges.len() == 255 && (0..NAMES.len()).all(|call| (tally.charged[call] > 0) != matches!(call, 8 | 11..));
+    let marks = tally.wrong_marks.len() == 255 && (0..NAMES.len()).all(|call| (tally.marked[call] > 0) != matches!(call, 8 | 11..));
     let ends = tally.ends.iter().all(|&n| n >= OFTEN);
     let sets = tally.tried.iter().all(|&n| n >= SOME);
     let lists = !tally.lists.contains(&0) && tally.most_evaluations > 1_000_000 && tally.added_up > 0;
     let numbers = !(1..19).any(|n| tally.refusals[n] == 0) && !tally.verdicts.contains(&0);
-    let missing = !(numbers && lists && stops && ticks && charges && marks && ends && sets && frames);
+    let windows = tally.displays.iter().all(|&n| n >= SOME) && tally.most_jobs >= 15_000 && tally.window_refusals.len() == WINDOW_REFUSALS;
+    let missing = !(numbers && lists && stops && ticks && charges && marks && ends && sets && frames && windows);
     if missing {
         println!("some refusal, verdict, kind of list, number of evaluations or stops, largest tick, charge, mark, frame or choice never came up");
-        println!("or, of the choices with low tasks or of the sheets all of whose sets of kept jitters were tried, not often enough");
+        println!("or, of the choices with low tasks, of the sheets all of whose sets of kept jitters were tried or of the displays, not often enough");
     }
     std::process::exit(if tally.differences == 0 && !missing { 0 } else { 1 });
 }

@@ -1,7 +1,7 @@
-//! Seeded cases: sheets, frames, kept jitters, lists of releases, files and texts, sound and damaged.
+//! Seeded cases: sheets, frames, kept jitters, lists of releases, files and texts, sound and damaged; finished jobs and lent windows.
 
 use crate::reference::{add_release, add_task, encode, finish_ticks_by_job, text_of, Budget, Frame, Release, Sheet, Supply, Task, Windows};
-use crate::reference::{MAX_SHORT_TICK, MAX_TICK, MAX_TIME, MAX_WINDOWS};
+use crate::reference::{MAX_SHORT_TICK, MAX_TICK, MAX_TIME, MAX_WINDOWS, WINDOW_JOBS, WINDOW_SLOTS};
 
 /// SplitMix64.
 pub struct Random {
@@ -767,4 +767,75 @@ pub fn random_text(r: &mut Random) -> Vec<u8> {
         }
     }
     text
+}
+
+// ---- The last 256 jobs -------------------------------------------------------------------------------------------------
+
+/// Numbers of tasks and counts of jobs in a window that no call made, at the limits and beyond; the low half of some is small.
+pub const HELD_TASKS: [u64; 10] = [0, 1, 2, 31, 32, 33, 1 << 32, (1 << 32) + 3, 1 << 63, u64::MAX];
+pub const HELD_COUNTS: [u64; 15] =
+    [0, 1, 2, 254, 255, 256, 257, 510, 511, 512, 513, 1 << 32, (1 << 32) + 5, 1 << 63, u64::MAX];
+
+/// A task that a sheet of so many tasks does not have; the low byte or half of some is that of one that it has.
+pub fn no_task_of(r: &mut Random, tasks: u32) -> u32 {
+    r.of(&[tasks, tasks + 1, tasks.max(32), 256 + tasks - 1, (1 << 16) + tasks - 1, 1 << 31, u32::MAX])
+}
+
+/// A sound sheet of so many tasks with a charge that they hold, or none, and marks. Some deadlines are at the limits.
+pub fn watched_sheet(r: &mut Random, tasks: usize) -> Sheet {
+    let sheet = if r.once_in(2) { sheet_for(r, tasks) } else { Sheet::of(&tasks_for(r, tasks)) };
+    let sheet = with_fitting_charge(r, sheet);
+    with_marks(r, sheet)
+}
+
+/// Responses of the jobs of a run: at the edges, around the deadline; and so that the largest leaves the last 256 jobs time and again: few
+/// that are much later than the others, some of them equally late, and responses that fall, three equal ones after each other.
+#[derive(Clone, Copy)]
+pub enum Responses {
+    Edges,
+    Near,
+    FewLate,
+    Falling,
+}
+
+pub const RESPONSES: [Responses; 4] = [Responses::Edges, Responses::Near, Responses::FewLate, Responses::Falling];
+
+impl Responses {
+    /// That of the n-th job, of a task with this deadline.
+    pub fn next(self, r: &mut Random, n: u64, deadline: u64) -> u64 {
+        let edges = [0, 1, deadline.wrapping_sub(1), deadline, deadline.wrapping_add(1), u64::MAX];
+        match self {
+            Responses::Edges => r.of(&edges),
+            Responses::Near => deadline.saturating_add(r.tick(0, 6)).saturating_sub(3),
+            Responses::FewLate if r.once_in(100) => r.of(&[deadline.saturating_add(9), 1 << 32, 1 << 63, u64::MAX - 1, u64::MAX]),
+            Responses::FewLate => r.of(&edges[..4]),
+            Responses::Falling => (1 << 33) - n / 3,
+        }
+    }
+}
+
+/// So many slots of a window that no call made: any numbers. Its jobs are mostly of the tasks that it has, and some of others: of the
+/// first that it does not have, and of a task in the low half alone.
+pub fn any_window(r: &mut Random, slots: usize, tasks: u64, count: u64) -> Vec<u64> {
+    let mut window: Vec<u64> = (0..slots.max(WINDOW_SLOTS)).map(|_| r.bits()).collect();
+    (window[0], window[1]) = (tasks, count);
+    let (few, style) = (tasks.clamp(1, 4), r.of(&RESPONSES));
+    for deadline in &mut window[2..34] {
+        *deadline = match r.within(0, 4) {
+            0 => r.of(&[0, 1, (1 << 32) - 1, 1 << 32, 1 << 63, u64::MAX - 1, u64::MAX]),
+            _ => r.tick(1, 1_000_000),
+        };
+    }
+    for place in 0..WINDOW_JOBS {
+        let task = r.tick(0, few - 1);
+        window[34 + place] = match r.within(0, 9) {
+            0 => r.of(&[tasks, tasks.wrapping_add(1), 31, 32, 33, u64::MAX]),
+            1 => r.of(&[task + (1 << 32), task + (1 << 63)]),
+            2 => r.tick(0, tasks.saturating_sub(1)),
+            _ => task,
+        };
+        window[290 + place] = style.next(r, place as u64, window[2 + task as usize]);
+    }
+    window.truncate(slots);
+    window
 }

@@ -1,7 +1,7 @@
 /*
  * The constants of include/nolkrada.h: the limits of documents 01 and 02, the sizes of files and texts, the largest charge, the
- * largest finish and the most stops of a run, each refusal by its name, verdicts with their evaluations, choices with marks, and
- * frames, got from the archive.
+ * largest finish and the most stops of a run, each refusal by its name, verdicts with their evaluations, choices with marks, frames,
+ * and windows of the last jobs, got from the archive.
  */
 #include <stddef.h>
 #include <stdio.h>
@@ -43,6 +43,10 @@ SAME(NOLKRADA_MAX_FILE, 2 + 18 * NOLKRADA_MAX_TASKS + 14 * NOLKRADA_MAX_RELEASES
 SAME(NOLKRADA_READ_BYTES, 2 + 18 * NOLKRADA_MAX_TASKS + 14 * NOLKRADA_MAX_RELEASES + 18);
 /* Four numbers of up to 7 digits, three commas and a line feed in a line. */
 SAME(NOLKRADA_MAX_TEXT, NOLKRADA_MAX_TASKS * (4 * 7 + 3 + 1));
+/* Number of tasks, count of jobs, deadline of each task, task and response of each job. */
+SAME(NOLKRADA_WINDOW_JOBS, 256);
+SAME(NOLKRADA_WINDOW_SLOTS, 2 + NOLKRADA_MAX_TASKS + 2 * NOLKRADA_WINDOW_JOBS);
+SAME(NOLKRADA_WINDOW_SLOTS * sizeof(uint64_t), 4368);
 
 #define TEXT_OF(x) #x
 #define TEXT(x) TEXT_OF(x)
@@ -442,18 +446,124 @@ static void frames(void) {
     if (finish[all - 1] != NOLKRADA_MAX_FINISH || answer[0] != NOLKRADA_MAX_STOPS) wrong = 1;
 }
 
+/* One slot more than a window has, which no call may change. */
+static uint64_t window[NOLKRADA_WINDOW_SLOTS + 1];
+#define WINDOW window, NOLKRADA_WINDOW_SLOTS
+/* What the slot after a window holds. */
+#define BEHIND UINT64_C(0x0123456789abcdef)
+
+/* What is shown of a task, alone and beside the others, in a window of three tasks. */
+static void expect_shown(const char *name, uint32_t which, uint64_t jobs, uint64_t late, uint64_t largest) {
+    uint32_t all_jobs[4] = {9, 9, 9, 9}, all_late[4] = {9, 9, 9, 9};
+    uint64_t all_largest[4] = {9, 9, 9, 9}, before[NOLKRADA_WINDOW_SLOTS + 1];
+    memcpy(before, window, sizeof window);
+    answer[3] = 9;
+    expect(name, nolkrada_monitor_show(WINDOW, which, answer, 4), 0, 0);
+    expect(name, nolkrada_monitor_show_all(WINDOW, all_jobs, 4, all_late, 4, all_largest, 4), 0, 0);
+    if (answer[3] == 9 && all_jobs[3] == 9 && all_late[3] == 9 && all_largest[3] == 9 && memcmp(before, window, sizeof window) == 0 &&
+        answer[0] == jobs && answer[1] == late && answer[2] == largest && all_jobs[which] == jobs && all_late[which] == late &&
+        all_largest[which] == largest)
+        return;
+    printf("%s: task %u, not what it shows\n", name, which);
+    wrong = 1;
+}
+
+/* So many jobs of a task with this response. */
+static void take_jobs(const char *name, uint32_t jobs, uint32_t which, uint64_t response) {
+    for (uint32_t n = 0; n < jobs; n++) expect(name, nolkrada_monitor_take(WINDOW, which, response), 0, 0);
+}
+
+/* A window on the printed sheet, with deadlines 6, 8 and 10: what is late, a task that is not in the sheet, the last jobs after 256 and
+ * after thousands, equal largest responses, the largest number, a copy, an opening that is refused, and one on another sheet. */
+static void last_jobs(void) {
+    static const uint32_t tighter[] = {6, 5, 2, 2, 0, 8, 7, 2, 7, 0, 10, 0, 2, 2, 0};
+    uint64_t stored[NOLKRADA_WINDOW_SLOTS], largest[3] = {9, 9, 9};
+    uint32_t jobs[3] = {9, 9, 9}, late[3] = {9, 9, 9};
+    memset(window, 0, sizeof window);
+    window[NOLKRADA_WINDOW_SLOTS] = BEHIND;
+    for (size_t n = 0; n < NOLKRADA_WINDOW_SLOTS; n += NOLKRADA_WINDOW_SLOTS - 1)
+        expect("short window", nolkrada_monitor_open(printed, PRINTED, 3, 0, window, n), NOLKRADA_REFUSED_SHORT_ARRAY, NOLKRADA_WINDOW_SLOTS);
+    expect("take in a window of zeros", nolkrada_monitor_take(WINDOW, 0, 1), NOLKRADA_REFUSED_NO_TASK, 0);
+    expect("show of a window of zeros", nolkrada_monitor_show(WINDOW, 0, answer, 3), NOLKRADA_REFUSED_NO_TASK, 0);
+    expect("show all of a window of zeros", nolkrada_monitor_show_all(WINDOW, jobs, 3, late, 3, largest, 3), NOLKRADA_REFUSED_NO_TASK, 0);
+    for (size_t n = 0; n < NOLKRADA_WINDOW_SLOTS; n++) wrong |= window[n] != 0;
+    memset(window, 0xff, sizeof stored);
+    expect("take in a window of ones", nolkrada_monitor_take(WINDOW, 0, 1), NOLKRADA_REFUSED_TOO_MANY_TASKS, 32);
+    expect("show of a window of ones", nolkrada_monitor_show(WINDOW, 0, answer, 3), NOLKRADA_REFUSED_TOO_MANY_TASKS, 32);
+    expect("show all of a window of ones", nolkrada_monitor_show_all(WINDOW, jobs, 3, late, 3, largest, 3), NOLKRADA_REFUSED_TOO_MANY_TASKS, 32);
+    expect("open", nolkrada_monitor_open(printed, PRINTED, 3, 4, window, NOLKRADA_WINDOW_SLOTS + 1), 0, 0);
+    for (uint32_t i = 0; i < 3; i++) expect_shown("no job", i, 0, 0, 0);
+    take_jobs("at the deadline", 1, 0, 6);
+    take_jobs("after the deadline", 2, 0, 7);
+    take_jobs("response of 0", 1, 1, 0);
+    take_jobs("largest response", 1, 2, UINT64_MAX);
+    expect("task that is not in the sheet", nolkrada_monitor_take(WINDOW, 3, 100), NOLKRADA_REFUSED_NO_SUCH_TASK, 3);
+    expect("no such task", nolkrada_monitor_show(WINDOW, UINT32_MAX, answer, 0), NOLKRADA_REFUSED_NO_SUCH_TASK, UINT32_MAX);
+    expect_shown("five jobs", 0, 3, 2, 7);
+    expect_shown("five jobs", 1, 1, 0, 0);
+    expect_shown("five jobs", 2, 1, 1, UINT64_MAX);
+    /* Short arrays: nothing is written. */
+    for (size_t n = 0; n < 3; n++) {
+        answer[0] = answer[1] = answer[2] = 9;
+        expect("short answer", nolkrada_monitor_show(WINDOW, 0, answer, n), NOLKRADA_REFUSED_SHORT_ARRAY, 3);
+        if (answer[0] != 9 || answer[1] != 9 || answer[2] != 9) wrong = 1;
+        expect("short column", nolkrada_monitor_show_all(WINDOW, jobs, n == 0 ? 2 : 3, late, n == 1 ? 2 : 3, largest, n == 2 ? 2 : 3),
+               NOLKRADA_REFUSED_SHORT_ARRAY, 3);
+        for (int i = 0; i < 3; i++) wrong |= jobs[i] != 9 || late[i] != 9 || largest[i] != 9;
+        expect("short window, take", nolkrada_monitor_take(window, NOLKRADA_WINDOW_SLOTS - 1 - n, 3, 1), NOLKRADA_REFUSED_SHORT_ARRAY,
+               NOLKRADA_WINDOW_SLOTS);
+        expect("short window, show", nolkrada_monitor_show(window, NOLKRADA_WINDOW_SLOTS - 1 - n, 3, answer, n),
+               NOLKRADA_REFUSED_SHORT_ARRAY, NOLKRADA_WINDOW_SLOTS);
+        expect("short window, show all", nolkrada_monitor_show_all(window, NOLKRADA_WINDOW_SLOTS - 1 - n, jobs, 0, late, 0, largest, 0),
+               NOLKRADA_REFUSED_SHORT_ARRAY, NOLKRADA_WINDOW_SLOTS);
+    }
+    /* 251 jobs more: all 256 count. One more: the first of task 0 does not; then one of two equal largest ones, then the other. */
+    take_jobs("251 jobs more", NOLKRADA_WINDOW_JOBS - 5, 1, 8);
+    expect_shown("256 jobs", 0, 3, 2, 7);
+    expect_shown("256 jobs", 1, NOLKRADA_WINDOW_JOBS - 4, 0, 8);
+    take_jobs("job 257", 1, 1, 9);
+    expect_shown("257 jobs", 0, 2, 2, 7);
+    take_jobs("job 258", 1, 1, 9);
+    expect_shown("258 jobs", 0, 1, 1, 7);
+    take_jobs("job 259", 1, 1, 9);
+    expect_shown("259 jobs", 0, 0, 0, 0);
+    expect_shown("259 jobs", 1, NOLKRADA_WINDOW_JOBS - 1, 3, 9);
+    expect_shown("259 jobs", 2, 1, 1, UINT64_MAX);
+    /* A window that is stored, and copied back after 5000 jobs more. */
+    memcpy(stored, window, sizeof stored);
+    take_jobs("5000 jobs more", 5000, 0, 6);
+    expect_shown("5000 jobs more", 0, NOLKRADA_WINDOW_JOBS, 0, 6);
+    expect_shown("5000 jobs more", 2, 0, 0, 0);
+    memcpy(window, stored, sizeof stored);
+    expect_shown("stored", 2, 1, 1, UINT64_MAX);
+    /* Openings that are refused change nothing. One on another sheet begins with no job, and its deadlines decide. */
+    expect("open, no task", nolkrada_monitor_open(printed, PRINTED, 0, 0, window, 0), NOLKRADA_REFUSED_NO_TASK, 0);
+    expect("open, too many tasks", nolkrada_monitor_open(printed, PRINTED, 33, 0, window, 0), NOLKRADA_REFUSED_TOO_MANY_TASKS, 32);
+    expect("open, range", nolkrada_monitor_open(printed, PRINTED, 4, 0, WINDOW), NOLKRADA_REFUSED_RANGE, 3);
+    expect("open, charge", nolkrada_monitor_open(printed, PRINTED, 3, 5, WINDOW), NOLKRADA_REFUSED_CHARGE, 0);
+    if (memcmp(window, stored, sizeof stored) != 0) wrong = 1;
+    expect("open anew", nolkrada_monitor_open(tighter, PRINTED, 3, 0, WINDOW), 0, 0);
+    expect_shown("opened anew", 1, 0, 0, 0);
+    take_jobs("later than the new deadline", 1, 1, 8);
+    expect_shown("opened anew", 1, 1, 1, 8);
+    if (window[NOLKRADA_WINDOW_SLOTS] != BEHIND) wrong = 1;
+}
+
 /* The calling convention leaves open what stands above the byte of a charge in its register: the archive looks at the byte alone. */
 typedef uint64_t (*whole_register)(const uint32_t *, size_t, uint32_t, uint32_t, const uint32_t *, size_t, uint32_t,
                                    const uint32_t *, size_t, uint64_t *, size_t);
+typedef uint64_t (*whole_register_open)(const uint32_t *, size_t, uint32_t, uint32_t, uint64_t *, size_t);
 
 static void upper_bits(void) {
     static const uint32_t none[3] = {0, 0, 0};
     uint64_t other[4];
     whole_register verdict = (whole_register)(void (*)(void))nolkrada_verdict;
+    whole_register_open open = (whole_register_open)(void (*)(void))nolkrada_monitor_open;
     for (uint32_t c = 0; c < 6; c++) {
         uint64_t code = nolkrada_verdict(printed, PRINTED, 3, (uint8_t)c, NO_FRAME, 1, none, 3, answer, 4);
         if (verdict(printed, PRINTED, 3, UINT32_C(0xabcdef00) + c, NO_FRAME, 1, none, 3, other, 4) != code) wrong = 1;
         if (code == 0 && memcmp(answer, other, sizeof other) != 0) wrong = 1;
+        if (open(printed, PRINTED, 3, UINT32_C(0xabcdef00) + c, WINDOW) != nolkrada_monitor_open(printed, PRINTED, 3, (uint8_t)c, WINDOW)) wrong = 1;
     }
 }
 
@@ -471,7 +581,8 @@ int main(void) {
     runs();
     jumps();
     frames();
+    last_jobs();
     puts(wrong ? "header: something is not as it says"
-               : "header: limits, sizes, refusals, verdicts, evaluations, marks, charge, pickup, frames, largest finish and stops as it says");
+               : "header: limits, sizes, refusals, verdicts, evaluations, marks, charge, pickup, frames, largest finish, stops and last jobs as it says");
     return wrong;
 }

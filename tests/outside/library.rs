@@ -46,6 +46,17 @@ extern "C" {
     fn nolkrada_load(
         text: *const u8, text_length: usize, sheet: *mut u32, sheet_length: usize, answer: *mut u64, answer_length: usize,
     ) -> u64;
+    fn nolkrada_monitor_open(
+        sheet: *const u32, sheet_length: usize, count: u32, charge: u8, window: *mut u64, window_length: usize,
+    ) -> u64;
+    fn nolkrada_monitor_take(window: *mut u64, window_length: usize, task: u32, response: u64) -> u64;
+    fn nolkrada_monitor_show(
+        window: *const u64, window_length: usize, task: u32, answer: *mut u64, answer_length: usize,
+    ) -> u64;
+    fn nolkrada_monitor_show_all(
+        window: *const u64, window_length: usize, jobs: *mut u32, jobs_length: usize, late: *mut u32, late_length: usize,
+        largest: *mut u64, largest_length: usize,
+    ) -> u64;
 }
 
 /// Columns of releases, each with a length of its own.
@@ -154,6 +165,27 @@ pub fn load(text: &[u8], sheet: &mut [u32], answer: &mut [u64]) -> u64 {
     unsafe {
         nolkrada_load(
             text.as_ptr(), text.len(), sheet.as_mut_ptr(), sheet.len(), answer.as_mut_ptr(), answer.len(),
+        )
+    }
+}
+
+pub fn monitor_open(sheet: &[u32], count: u32, charge: u8, window: &mut [u64]) -> u64 {
+    unsafe { nolkrada_monitor_open(sheet.as_ptr(), sheet.len(), count, charge, window.as_mut_ptr(), window.len()) }
+}
+
+pub fn monitor_take(window: &mut [u64], task: u32, response: u64) -> u64 {
+    unsafe { nolkrada_monitor_take(window.as_mut_ptr(), window.len(), task, response) }
+}
+
+pub fn monitor_show(window: &[u64], task: u32, answer: &mut [u64]) -> u64 {
+    unsafe { nolkrada_monitor_show(window.as_ptr(), window.len(), task, answer.as_mut_ptr(), answer.len()) }
+}
+
+pub fn monitor_show_all(window: &[u64], jobs: &mut [u32], late: &mut [u32], largest: &mut [u64]) -> u64 {
+    unsafe {
+        nolkrada_monitor_show_all(
+            window.as_ptr(), window.len(), jobs.as_mut_ptr(), jobs.len(), late.as_mut_ptr(), late.len(), largest.as_mut_ptr(),
+            largest.len(),
         )
     }
 }

@@ -1,10 +1,12 @@
 //! An implementation of document 01 with document 02's text sheets, pickup, long ticks, charge for each switch,
-//! stops of a run, evaluations of a verdict, marks and windows in a frame, for comparison, written from their
-//! words alone. It shares no code and no method with the library: ready ticks and the trace check look at every pair of jobs, W(q) is
-//! found by walking over the ticks at which the demand steps, the choice tries every K in rising order, the ticking run is compared with
-//! one from event to event and the run that jumps with one that allots free ticks job by job, a file is taken apart in one pass, and a
-//! text is split into whole lines and fields. Of a frame every start and every tick is looked at: our ticks are counted one by one.
+//! stops of a run, last 256 jobs, evaluations of a verdict, marks and windows in a frame, for comparison,
+//! written from their words alone. It shares no code and no method with the library: ready ticks and the trace check look at every pair
+//! of jobs, W(q) is found by walking over the ticks at which the demand steps, the choice tries every K in rising order, the ticking run
+//! is compared with one from event to event and the run that jumps with one that allots free ticks job by job, a file is taken apart in
+//! one pass, and a text is split into whole lines and fields. Of a frame every start and every tick is looked at: our ticks are counted
+//! one by one. Every job since a window was opened is kept, and the last 256 are counted anew whenever they are shown.
 //! Only what R-8 counts is gone through as it is counted: the lists of t, and the walk over q of a choice. No answer is taken from them.
+//! And the slots of a lent window are written by their layout, beside the jobs, for windows that no call made.
 
 use std::collections::BTreeSet;
 use std::ops::RangeInclusive;
@@ -1107,4 +1109,129 @@ pub fn load(text: &[u8]) -> Result<Sheet, Refusal> {
 pub fn text_of(tasks: &[Task]) -> Vec<u8> {
     let lines = tasks.iter().map(|t| format!("{},{},{},{}\n", t.p, t.j, t.e, t.d));
     lines.collect::<String>().into_bytes()
+}
+
+// ---- The last 256 jobs -------------------------------------------------------------------------------------------------
+
+/// The jobs that count, and the slots of a lent window.
+pub const WINDOW_JOBS: usize = 256;
+pub const WINDOW_SLOTS: usize = 546;
+
+/// A finished job.
+#[derive(Clone, Copy, Debug, PartialEq, Eq)]
+pub struct Finished {
+    pub task: u32,
+    pub response: u64,
+}
+
+/// What a display shows of a task.
+#[derive(Clone, Copy, Debug, Default, PartialEq, Eq)]
+pub struct Shown {
+    pub jobs: u64,
+    pub late: u64,
+    pub largest: u64,
+}
+
+/// What a window stands for: the sheet on which it was opened, and every job accepted since, the first one first.
+#[derive(Clone, Debug)]
+pub struct Opened {
+    sheet: Sheet,
+    pub accepted: Vec<Finished>,
+}
+
+impl Opened {
+    pub fn on(sheet: &Sheet) -> Result<Opened, Refusal> {
+        check_sheet(sheet)?;
+        Ok(Opened { sheet: sheet.clone(), accepted: Vec::new() })
+    }
+    /// A job of a task that is not in the sheet is no job of the run.
+    pub fn take(&mut self, job: Finished) -> Result<(), Refusal> {
+        check_task(&self.sheet, job.task as usize)?;
+        self.accepted.push(job);
+        Ok(())
+    }
+    /// The responses of a task among the last 256 jobs, counted anew.
+    pub fn show(&self, task: u32) -> Result<Shown, Refusal> {
+        check_task(&self.sheet, task as usize)?;
+        let last = self.accepted.iter().rev().take(WINDOW_JOBS);
+        let responses: Vec<u64> = last.filter(|job| job.task == task).map(|job| job.response).collect();
+        let deadline = self.sheet.task(task as usize).d as u64;
+        Ok(Shown {
+            jobs: responses.len() as u64,
+            late: responses.iter().filter(|&&response| response > deadline).count() as u64,
+            largest: responses.iter().copied().max().unwrap_or(0),
+        })
+    }
+}
+
+/// Where the parts of a window begin. Slot 0 is the number of tasks and slot 1 the count of jobs; then come the deadlines of 32 tasks,
+/// the tasks of 256 jobs and their responses.
+const DEADLINES: usize = 2;
+const JOB_TASKS: usize = DEADLINES + MAX_TASKS;
+const RESPONSES: usize = JOB_TASKS + WINDOW_JOBS;
+
+/// The checks of a lent window: its slots, and its number of tasks, which is the answer.
+fn check_window(window: &[u64]) -> Result<u64, Refusal> {
+    check_slots(window.len(), WINDOW_SLOTS)?;
+    match window[0] {
+        0 => refuse(5, 0),
+        tasks @ 1..=32 => Ok(tasks),
+        _ => refuse(4, MAX_TASKS),
+    }
+}
+
+/// The same, and of a task.
+fn check_window_task(window: &[u64], task: u32) -> Result<(), Refusal> {
+    if (task as u64) < check_window(window)? { Ok(()) } else { refuse(14, task as usize) }
+}
+
+/// The slots after an opening: all but these keep what they held.
+pub fn open_window(sheet: &Sheet, window: &mut [u64]) -> Result<(), Refusal> {
+    check_sheet(sheet)?;
+    check_slots(window.len(), WINDOW_SLOTS)?;
+    (window[0], window[1]) = (sheet.count as u64, 0);
+    for i in 0..sheet.count {
+        window[DEADLINES + i] = sheet.task(i).d as u64;
+    }
+    Ok(())
+}
+
+/// The slots after a job. The count goes up to 511, and then on from 256.
+pub fn take_job(window: &mut [u64], job: Finished) -> Result<(), Refusal> {
+    check_window_task(window, job.task)?;
+    let (count, place) = (window[1], (window[1] % 256) as usize);
+    window[JOB_TASKS + place] = job.task as u64;
+    window[RESPONSES + place] = job.response;
+    window[1] = if count < 256 { count + 1 } else { 256 + count.wrapping_add(1) % 256 };
+    Ok(())
+}
+
+/// What the slots hold of a task.
+fn shown_in(window: &[u64], task: usize) -> Shown {
+    let mut shown = Shown::default();
+    for place in 0..std::cmp::min(window[1], 256) as usize {
+        if window[JOB_TASKS + place] == task as u64 {
+            let response = window[RESPONSES + place];
+            shown.jobs += 1;
+            shown.late += (response > window[DEADLINES + task]) as u64;
+            shown.largest = std::cmp::max(shown.largest, response);
+        }
+    }
+    shown
+}
+
+/// A show of one task: 13 for the answer comes last.
+pub fn show_task(window: &[u64], task: u32, answer_slots: usize) -> Result<Shown, Refusal> {
+    check_window_task(window, task)?;
+    check_slots(answer_slots, 3)?;
+    Ok(shown_in(window, task as usize))
+}
+
+/// A show of all tasks: 13 for each of the three columns comes last.
+pub fn show_tasks(window: &[u64], slots: [usize; 3]) -> Result<Vec<Shown>, Refusal> {
+    let tasks = check_window(window)? as usize;
+    for s in slots {
+        check_slots(s, tasks)?;
+    }
+    Ok((0..tasks).map(|task| shown_in(window, task)).collect())
 }

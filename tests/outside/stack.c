@@ -20,16 +20,17 @@ static uint64_t tick[SLOTS], ready[SLOTS], finish[SLOTS];
 static uint8_t file[NOLKRADA_READ_BYTES];
 static const char line[] = "1000000,1000000,1000000,1000000\n";
 static char text[NOLKRADA_MAX_TEXT + sizeof line - 1];
+static uint64_t window[NOLKRADA_WINDOW_SLOTS];
 static uint64_t answer[4], code;
 /* The parts of a call that a case changes: the charge, the frame, how many numbers it has, tasks, releases, slots, bytes, characters,
- * numbers of a sheet that is read or loaded and words there are, and which task is asked for. */
+ * numbers of a sheet that is read or loaded, slots of a window and words there are, and which task is asked for. */
 static uint8_t charge;
 static struct nolkrada_frame frame;
 static size_t frame_numbers;
 static uint32_t tasks, releases, which;
 /* The tick of the first release. */
 static uint64_t first;
-static size_t slots, bytes, characters, numbers_lent, words;
+static size_t slots, bytes, characters, numbers_lent, window_lent, words;
 
 static void nothing(void) { code = 0; }
 static void arrival_count(void) {
@@ -60,6 +61,10 @@ static void write_file(void) {
 static void load_text(void) {
     code = nolkrada_load((const uint8_t *)text, characters, sheet, numbers_lent, answer, words);
 }
+static void open_window(void) { code = nolkrada_monitor_open(sheet, NUMBERS, tasks, charge, window, window_lent); }
+static void take_job(void) { code = nolkrada_monitor_take(window, window_lent, which, UINT64_MAX); }
+static void show_task(void) { code = nolkrada_monitor_show(window, window_lent, which, answer, words); }
+static void show_tasks(void) { code = nolkrada_monitor_show_all(window, window_lent, kept, slots, worst, slots, ready, slots); }
 
 /* The releases, 100 ticks apart, and their file, with the charge. */
 static void list(void) {
@@ -69,7 +74,14 @@ static void list(void) {
     bytes = answer[0];
 }
 
-/* 32 high tasks, 1,024 releases and their file; the longest text, and one line more behind it. */
+/* So many jobs in a window of 32 tasks, in time and late. */
+static void jobs(uint32_t n) {
+    window_lent = NOLKRADA_WINDOW_SLOTS;
+    open_window();
+    for (uint32_t k = 0; k < n; k++) nolkrada_monitor_take(window, NOLKRADA_WINDOW_SLOTS, k % 7 * k % 32, 1000000 - n / 2 + k);
+}
+
+/* 32 high tasks, 1,024 releases and their file; the longest text, and one line more behind it; a window that has counted 300 jobs. */
 static void full(void) {
     for (uint32_t i = 0; i < NOLKRADA_MAX_TASKS; i++) {
         const uint32_t numbers[5] = {3000 + 100 * i, 1500, 60, 1000000, 0};
@@ -91,6 +103,7 @@ static void full(void) {
     numbers_lent = NUMBERS;
     words = 4;
     list();
+    jobs(300);
 }
 
 /* Full size, then each with one thing that a call refuses or answers in another way. */
@@ -222,12 +235,21 @@ static void line_zero(void) { text[0] = '0'; }
 static void line_range(void) { text[NOLKRADA_MAX_TEXT - 2] = '1'; }
 static void few_numbers(void) { numbers_lent = NUMBERS - 1; }
 static void no_words(void) { words = 0; }
+static void short_window(void) { window_lent = NOLKRADA_WINDOW_SLOTS - 1; }
+static void no_job(void) { jobs(0); }
+static void one_job(void) { jobs(1); }
+static void ring_full(void) { jobs(NOLKRADA_WINDOW_JOBS); }
+static void ring_again(void) { jobs(2 * NOLKRADA_WINDOW_JOBS); }
+/* Windows of zeros and of the largest numbers, which no call made. */
+static void zeros(void) { memset(window, 0, sizeof window); }
+static void ones(void) { memset(window, 0xff, sizeof window); }
 static void (*const cases[])(void) = {nothing, few_numbers, no_words, no_slots, many_tasks, many_releases, no_such_task, last_range,
                                       no_charge, most_charge, over_charge, second_charge, zero_charge, last_cost, last_kept, last_tick,
                                       tight, all_low, last_low, half_low, last_high, wrong_mark, low_and_more, low_task_cut, crowded,
                                       short_ticks, cut, one_more_byte, no_text, text_cut, one_more_line, line_form, line_zero,
                                       line_range, teeth, long_teeth, one_window, last_window, many_windows, long_frame, framed_low,
-                                      framed_high, one_number, framed_kept, framed_cost};
+                                      framed_high, one_number, framed_kept, framed_cost, short_window, no_job, one_job, ring_full,
+                                      ring_again, zeros, ones};
 
 static unsigned char room[1 << 16];
 static ucontext_t outside, inside;
@@ -279,5 +301,9 @@ int main(void) {
     wrong += over("nolkrada_read", read_file, READ_LIMIT);
     wrong += over("nolkrada_write", write_file, OTHER_LIMIT);
     wrong += over("nolkrada_load", load_text, READ_LIMIT);
+    wrong += over("nolkrada_monitor_open", open_window, OTHER_LIMIT);
+    wrong += over("nolkrada_monitor_take", take_job, OTHER_LIMIT);
+    wrong += over("nolkrada_monitor_show", show_task, OTHER_LIMIT);
+    wrong += over("nolkrada_monitor_show_all", show_tasks, OTHER_LIMIT);
     return wrong != 0;
 }

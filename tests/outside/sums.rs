@@ -1,7 +1,7 @@
 //! The reference implementation on the twelve sums and the two printed examples of document 01, 7 to 12 and the examples as document
 //! 02's R-2 has them, on R-2's own figures, on stops of R-5 and lists of t and evaluations of R-8 that were counted by hand, on records of
-//! written by hand, and on verdicts, choices and runs with a charge, choices with marks, and verdicts and runs with a
-//! frame that were worked out by hand.
+//! written by hand, on verdicts, choices and runs with a charge, choices with marks, and verdicts and runs with a frame
+//! that were worked out by hand, and on displays and slots of R-6 that were written by hand.
 
 use crate::reference::*;
 
@@ -511,6 +511,75 @@ fn lines_of_run(sheet: &Sheet, list: &[Release]) -> String {
     text
 }
 
+/// The last jobs of a run on the printed sheet, whose deadlines are 6, 8 and 10: what is shown, and slots.
+fn last_jobs() -> usize {
+    let shows = |opened: &Opened, window: &[u64], expected: [(u64, u64, u64); 3]| {
+        let all: Vec<Shown> = expected.iter().map(|&(jobs, late, largest)| Shown { jobs, late, largest }).collect();
+        assert_eq!((0..3).map(|task| opened.show(task)).collect::<Result<Vec<_>, _>>().as_ref(), Ok(&all));
+        assert_eq!(show_tasks(window, [3; 3]).as_ref(), Ok(&all));
+        for task in 0..3 {
+            assert_eq!(show_task(window, task, 3), Ok(all[task as usize]));
+        }
+    };
+    let mut opened = Opened::on(&printed_sheet()).unwrap();
+    let mut window = vec![77; WINDOW_SLOTS];
+    assert_eq!(open_window(&printed_sheet(), &mut window), Ok(()));
+    assert_eq!(window[..6], [3, 0, 6, 8, 10, 77]);
+    shows(&opened, &window, [(0, 0, 0); 3]);
+    let mut take = |opened: &mut Opened, task: u32, response: u64| {
+        let job = Finished { task, response };
+        let taken = opened.take(job);
+        assert_eq!(take_job(&mut window, job), taken);
+        (taken.err().map(|r| (r.number, r.place)), window.clone())
+    };
+    // a response of D is not late, one of D + 1 is; a task that is not in the sheet changes nothing
+    for (task, response) in [(0, 3), (2, 5), (0, 6), (0, 7), (1, 8)] {
+        assert_eq!(take(&mut opened, task, response).0, None);
+    }
+    let (refused, now) = take(&mut opened, 3, u64::MAX);
+    assert_eq!((refused, now[1]), (Some((14, 3)), 5));
+    assert_eq!((&now[34..40], &now[290..296]), (&[0, 2, 0, 0, 1, 77][..], &[3, 5, 6, 7, 8, 77][..]));
+    shows(&opened, &now, [(3, 1, 7), (1, 0, 8), (1, 0, 5)]);
+    let (_, now) = take(&mut opened, 2, 11);
+    shows(&opened, &now, [(3, 1, 7), (1, 0, 8), (2, 1, 11)]);
+    // so many jobs of task 0 more, slot 1, and what is shown: of 258 jobs the first two do not count any more, then one by one the two others
+    // of task 0, that of task 1 and that of task 2
+    let mut now = now;
+    for (more, count, expected) in [
+        (252, 258, [(2 + 252, 1, 7), (1, 0, 8), (1, 1, 11)]),
+        (1, 259, [(1 + 253, 1, 7), (1, 0, 8), (1, 1, 11)]),
+        (1, 260, [(254, 0, 1), (1, 0, 8), (1, 1, 11)]),
+        (1, 261, [(255, 0, 1), (0, 0, 0), (1, 1, 11)]),
+        (1, 262, [(256, 0, 1), (0, 0, 0), (0, 0, 0)]),
+        (249, 511, [(256, 0, 1), (0, 0, 0), (0, 0, 0)]),
+        (1, 256, [(256, 0, 1), (0, 0, 0), (0, 0, 0)]),
+        (1, 257, [(256, 0, 1), (0, 0, 0), (0, 0, 0)]),
+    ] {
+        for _ in 0..more {
+            now = take(&mut opened, 0, 1).1;
+        }
+        assert_eq!(now[..6], [3, count, 6, 8, 10, 77]);
+        shows(&opened, &now, expected);
+    }
+    // slots that no call made: the largest count has place 255 and goes on from 256; the task of place 0 is not in the sheet
+    let mut odd = vec![0; WINDOW_SLOTS];
+    (odd[0], odd[1], odd[2], odd[34], odd[290 + 255]) = (1, u64::MAX, 9, 1 << 32, 9);
+    assert_eq!(show_task(&odd, 0, 3), Ok(Shown { jobs: 255, late: 0, largest: 9 }));
+    assert_eq!(take_job(&mut odd, Finished { task: 0, response: 10 }), Ok(()));
+    assert_eq!((odd[1], odd[290 + 255]), (256, 10));
+    assert_eq!(show_task(&odd, 0, 3), Ok(Shown { jobs: 255, late: 1, largest: 10 }));
+    // what is refused, in this order
+    let refused = |answer: Result<Shown, Refusal>| answer.err().map(|r| (r.number, r.place));
+    assert_eq!(refused(show_task(&odd[..545], 1, 2)), Some((13, 546)));
+    assert_eq!(refused(show_task(&odd, 1, 2)), Some((14, 1)));
+    assert_eq!(refused(show_task(&odd, 0, 2)), Some((13, 3)));
+    odd[0] = 33;
+    assert_eq!(refused(show_task(&odd, 40, 2)), Some((4, 32)));
+    odd[0] = 0;
+    assert_eq!(refused(show_task(&odd, 40, 2)), Some((5, 0)));
+    1 + 5 + 1 + 1 + 8 + 3 + 5
+}
+
 /// Panics where the reference does not give a sum or a printed line; returns how many were looked at.
 pub fn check() -> usize {
     let s = printed_sheet();
@@ -582,6 +651,7 @@ pub fn check() -> usize {
     // two releases alone, at tick 0 and at the limit
     assert_eq!(stops_of(&[(0, 0, 1), (0, MAX_TICK, 1)]), 4);
     // twelve sums, two examples, these with D 11, three figures more, seven of stops, the records, those of a charge, evaluations, those of
-    // marks and those of frames
-    12 + 2 + 2 + 3 + 7 + records() + charge_records() + charges() + evaluations() + marks() + mark_records() + frames()
+    // marks, those of frames and those of the last jobs
+    let with_frames = records() + charge_records() + charges() + evaluations() + marks() + mark_records() + frames();
+    12 + 2 + 2 + 3 + 7 + with_frames + last_jobs()
 }

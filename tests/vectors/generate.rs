@@ -1,6 +1,6 @@
 //! Writes the stored vectors: for each program its standard input, and the output that it has to write. The answers come from
-//! tests/outside/reference.rs, an implementation of documents 01 and 02 that shares no code with the library; the worked cases of
-//! both documents are written out by hand besides.
+//! tests/outside/reference.rs, an implementation of documents 01 and 02 that shares no code with the library, those of the last 256 jobs
+//! from monitor.rs itself; the worked cases of both documents are written out by hand besides.
 //!
 //! Usage: generate FOLDER. Files: FOLDER/NAME/stdin and FOLDER/NAME/stdout.
 
@@ -8,6 +8,7 @@ mod analysis;
 mod case;
 mod files;
 mod lists;
+mod monitor;
 #[allow(dead_code)]
 #[path = "../outside/reference.rs"]
 mod reference;
@@ -34,4 +35,5 @@ fn main() {
     write(folder, "vectors_analysis", analysis::vectors());
     write(folder, "vectors_run", run::vectors());
     write(folder, "vectors_text", text::vectors());
+    write(folder, "vectors_monitor", monitor::vectors());
 }

@@ -11,6 +11,7 @@ use Rattle.model.specs.Series.{table}
 use Rattle.model.specs.Tasks.{Tasks}
 use Rattle.model.specs.Verdict.{horizon, late, fits}
 use Rattle.model.specs.Evaluations.{Judged}
+use Rattle.model.specs.LastJobs.{Shown}
 use Rattle.model.specs.Choice.{Scope, ordinary, high-only}
 use Rattle.model.specs.Refusal.{Refusal, Answer, refused, answered}
 use Rattle.taskset.specs.declared.Task.{Task}
@@ -105,3 +106,7 @@ verdictWords j =
 unfoldable pub traceWords : Option ℕ → List ℕ
 traceWords none = 0 ∷ 0 ∷ []
 traceWords (some p) = 1 ∷ p ∷ []
+
+-- what the display shows of a task as three words: jobs, late jobs and the largest response
+unfoldable pub shownWords : Shown → List ℕ
+shownWords x = x .jobs ∷ x .late ∷ x .largest ∷ []

@@ -261,7 +261,7 @@ pub kept-passes : (s : Tasks) (k : ℕ → ℕ) → ((i : ℕ) → i < s .count 
 kept-passes s k h = passes-kept s k (first-none (over s k) (s .count) 0 (λ i l g. le-ltb (s .jitter i) (k i) (h i (omega arith))))
 
 -- a test that passes does not hold
-not-refused : (b : Bool) (n p : ℕ) → none ≡ refuseIf b n p → b ≡ false
+pub not-refused : (b : Bool) (n p : ℕ) → none ≡ refuseIf b n p → b ≡ false
 unfolding refuseIf
 not-refused true n p h = let z : _≡_ {A = ℕ} 0 1 = cc in absurd (omega arith)
 not-refused false n p h = refl

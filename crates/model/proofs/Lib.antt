@@ -10,6 +10,7 @@ pub mod FramedLaws
 pub mod OrderLaws
 pub mod TableLaws
 pub mod SlotLaws
+pub mod LastJobLaws
 pub mod RefusalPlaces
 pub mod FifteenLaws
 pub mod StopLaws

@@ -32,12 +32,12 @@ unfolding checkChoice refuseAt
 no-unfit = refl
 
 -- a check that refuses decides
-first-refusal : (c : Option Refusal) (l : List (Option Refusal)) (r : Refusal) → some r ≡ c → some r ≡ firstOf (c ∷ l)
+pub first-refusal : (c : Option Refusal) (l : List (Option Refusal)) (r : Refusal) → some r ≡ c → some r ≡ firstOf (c ∷ l)
 unfolding firstOf
 first-refusal c l r h = rw (firstOf, ← h)
 
 -- a check that passes leaves the next to decide
-next-check : (c : Option Refusal) (l : List (Option Refusal)) → none ≡ c → firstOf l ≡ firstOf (c ∷ l)
+pub next-check : (c : Option Refusal) (l : List (Option Refusal)) → none ≡ c → firstOf l ≡ firstOf (c ∷ l)
 unfolding firstOf
 next-check c l h = rw (firstOf, ← h)
 
@@ -47,7 +47,7 @@ unfolding firstOf
 decides none l e = e
 decides (some r) l e = refl
 
-last-decides : (c : Option Refusal) → c ≡ firstOf (c ∷ [])
+pub last-decides : (c : Option Refusal) → c ≡ firstOf (c ∷ [])
 unfolding firstOf
 last-decides c = decides c [] refl
 
@@ -103,7 +103,7 @@ pub record Accepted (c : Inputs) : Type 0 where
   pub releases : none ≡ checkReleases (c .tasks) 0 0 (c .releases)
   pub unfit : none ≡ checkChoice (c .unfit)
 
-both-none : (c : Option Refusal) (l : List (Option Refusal)) → none ≡ firstOf (c ∷ l) → (none ≡ c) × (none ≡ firstOf l)
+pub both-none : (c : Option Refusal) (l : List (Option Refusal)) → none ≡ firstOf (c ∷ l) → (none ≡ c) × (none ≡ firstOf l)
 unfolding firstOf
 both-none none l e = (refl, e)
 both-none (some r) l e = let z : _≡_ {A = ℕ} 0 1 = cc in absurd (omega arith)

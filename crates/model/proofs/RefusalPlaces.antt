@@ -20,7 +20,7 @@ use Rattle.model.specs.Calls.{releasesOf, taskInputs, choiceInputs, unfi
 use Rattle.model.proofs.SearchLaws.{first-found}
 use Rattle.model.proofs.SeriesLaws.{and-right}
 use Rattle.model.proofs.TableLaws.{length-table}
-use Rattle.model.proofs.CheckLaws.{entry-number, valid-of, count-of}
+use Rattle.model.proofs.CheckLaws.{entry-number, valid-of, not-refused, count-of}
 use Rattle.model.proofs.OrderLaws.{answers, refuses}
 
 -- the largest number of a refusal: 15 in document 01; 16 is that of a text's line, 17 of a load over P or D, 18 of a frame
@@ -45,7 +45,7 @@ within-known B n p r a b c e =
     rw w at v
 
 -- a test, and a search, that refuse
-within-if : (B : ℕ) (b : Bool) (n p : ℕ) (r : Refusal) → 1 ≤ n → n ≤ largestNumber → p ≤ B → some r ≡ refuseIf b n p → Within B r
+pub within-if : (B : ℕ) (b : Bool) (n p : ℕ) (r : Refusal) → 1 ≤ n → n ≤ largestNumber → p ≤ B → some r ≡ refuseIf b n p → Within B r
 unfolding refuseIf
 within-if B true n p r h g l e = within-known B n p r h g l e
 within-if B false n p r h g l e = let z : _≡_ {A = ℕ} 0 1 = cc in absurd (omega arith)
@@ -81,11 +81,6 @@ unfolding firstOf
 by-last none r f e = let z : _≡_ {A = ℕ} 0 1 = cc in absurd (omega arith)
 by-last (some q) r f e = f e
 
-passes : (b : Bool) (n p : ℕ) → none ≡ refuseIf b n p → b ≡ false
-unfolding refuseIf
-passes true n p e = let z : _≡_ {A = ℕ} 0 1 = cc in absurd (omega arith)
-passes false n p e = refl
-
 -- a frame: place 17 or 16, or a window below the count, which is at most 16
 frame-within : (o : Option Frame) (r : Refusal) → some r ≡ checkFrame o → Within maxTasks r
 unfolding checkFrame checkWindows
@@ -97,7 +92,7 @@ frame-within (some f) r e =
     (λ n.
     by-last _ r
     (within-at maxTasks 18 _ r (omega arith) (omega arith)
-    (λ k g. omega (arith, first-found _ (f .count) 0 k g .high, few (passes _ 18 16 n))))))
+    (λ k g. omega (arith, first-found _ (f .count) 0 k g .high, few (not-refused _ 18 16 n))))))
     e
   where
     few : not (leb 1 (f .count) && leb (f .count) maxWindows) ≡ false → f .count ≤ maxWindows
@@ -113,7 +108,7 @@ tasks-within s r =
     (λ n.
     by-first _ _ r
     (within-entry s _ r
-    (λ i f. omega (arith, first-found _ (s .count) 0 i f .high, ltb-false maxTasks (s .count) (passes _ 4 maxTasks n))))
+    (λ i f. omega (arith, first-found _ (s .count) 0 i f .high, ltb-false maxTasks (s .count) (not-refused _ 4 maxTasks n))))
     (λ _. by-last _ r (frame-within (s .frame) r))))
 
 -- every lent slice needs at most B slots
@@ -231,7 +226,7 @@ answer-within B c a r l e = go (refusalOf c) refl
     go (some q) n = let w : refused q ≡ refused r = refuses c a q n ∙ e in let x : q ≡ r = cc in refusal-within B c l r (ap some (sym x) ∙ n)
 
 -- the calls on values: a place is at most 1,024, or the task number given
-no-number : {A : Type 0} {n : ℕ} → _≡_ {A = Option ℕ} none (some n) → A
+pub no-number : {A : Type 0} {n : ℕ} → _≡_ {A = Option ℕ} none (some n) → A
 no-number e = let z : _≡_ {A = ℕ} 0 1 = cc in absurd (omega arith)
 
 list-few : (n : ℕ) (task tick cost : List ℕ) → none ≡ checkCount (some n) → length (releasesOf n task tick cost) ≤ maxReleases

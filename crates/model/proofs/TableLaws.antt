@@ -1,12 +1,15 @@
 -- Laws of the list f 0, .., f (n - 1).
 use Prim.Native.Nat.{ℕ, zero, suc, _+_, _<_}
+use mathlib.Core.Bool.{Bool, true, false}
 use mathlib.Core.Path.{_≡_, refl, sym, ap, ap₂, _∙_}
 use mathlib.Core.Logic.{⊎-elim}
 use mathlib.Core.List.{[], _∷_, _++_, map, map-append}
 use native.Mathlib.Omega.{arith}
 use native.Mathlib.Nat.{eq-or-lt-of-le}
-use lib.ListN.{length, getD, drop, length-append, List·getD-append}
-use lib.Seq.{drop-cons, getD-at}
+use borrow.Author.Tests.{eqb-true, eqb-false}
+use lib.Dec.{eqb}
+use lib.ListN.{length, getD, drop, set, length-append, length-set, List·getD-append}
+use lib.Seq.{drop-cons, getD-at, ext-getD, getD-set-same, getD-set-other}
 use Rattle.model.specs.Series.{table}
 
 -- a table has its length and its entries
@@ -40,3 +43,16 @@ pub map-table : {A B : Type 0} (g : A → B) (f : ℕ → A) (n : ℕ) → map g
 unfolding table
 map-table g f zero = refl
 map-table g f (suc n) = map-append g (table f n) (f n ∷ []) ∙ ap (λ l. l ++ (g (f n) ∷ [])) (map-table g f n)
+
+-- tables of functions that agree but for one place
+pub table-set
+    : {A : Type 0} (f g : ℕ → A) (n p : ℕ) → p < n → ((i : ℕ) → i < n → (i ≡ p → ⊥) → g i ≡ f i) → table g n ≡ set (table f n) p (g p)
+table-set f g n p h same =
+    ext-getD (g p) (table g n) (set (table f n) p (g p)) (length-table g n ∙ sym (length-table f n) ∙ sym (length-set (table f n) p (g p)))
+    (λ i b. let l : i < n = omega (arith, length-table g n) in getD-table g (g p) n i l ∙ sym (at i l (eqb i p) refl))
+  where
+    at : (i : ℕ) → i < n → (b : Bool) → eqb i p ≡ b → getD (set (table f n) p (g p)) i (g p) ≡ g i
+    at i l true e = let q : i ≡ p = eqb-true i p e in rw q (getD-set-same (table f n) p (g p) (g p) (omega (arith, length-table f n)))
+    at i l false e =
+        let ne : i ≡ p → ⊥ = eqb-false i p e in
+        getD-set-other (table f n) p i (g p) (g p) ne ∙ getD-table f (g p) n i l ∙ sym (same i l ne)

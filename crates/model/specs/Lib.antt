@@ -21,6 +21,7 @@ pub mod Claims
 pub mod Refusal
 pub mod Checks
 pub mod Calls
+pub mod LastJobs
 pub mod OldLists
 pub mod Charge
 pub mod Marks

@@ -20,7 +20,9 @@ use Rattle.fileformat.proofs.RoundTrips.{decode-valid}
 use Rattle.fileformat.proofs.FilePlaces.{decode-within, write-limited}
 use Rattle.textformat.specs.TextSheet.{load}
 use Rattle.textformat.proofs.TextPlaces.{load-within}
-use Rattle.interface.specs.Interface.{sheetFrom, framedFrom, refusalCode, codeOf, codeIn, asWords, tooFew, afterSlots, orTooFew, withSlots, oneWord, verdictWords, traceWords}
+use Rattle.monitor.specs.Layout.{windowSlots}
+use Rattle.monitor.proofs.PlaceLaws.{open-limited, task-within, show-within, all-within}
+use Rattle.interface.specs.Interface.{sheetFrom, framedFrom, refusalCode, codeOf, codeIn, asWords, tooFew, afterSlots, orTooFew, withSlots, oneWord, verdictWords, traceWords, shownWords}
 use Rattle.nolkrada.specs.Files.{readLent, readWithin, readAnswer, writeAnswer}
 use Rattle.nolkrada.specs.Texts.{loadLent, loadWithin, loadAnswer}
 use Rattle.nolkrada.specs.Runs.{jumpAnswer, choiceAnswer}
@@ -157,4 +159,11 @@ codes-tell = record {
   write = λ sheet count charge n task tick cost out answer.
       slots-told 1 (length answer) _ (omega arith)
       (λ r e. within-more 14915 top r (omega arith) (answer-within 14915 _ _ r (write-limited (viewOf (sheetFrom sheet count charge)) n task tick cost (length out)) e));
+  monitor-open = λ sheet count charge window.
+      tells _ (λ r e. within-more maxReleases top r (omega arith)
+      (refusal-within maxReleases _ (open-limited (viewOf (sheetFrom sheet count charge)) window) r e));
+  monitor-take = λ window task h. tells _ (λ r. task-within top window task r (omega arith) (omega arith));
+  monitor-show = λ window task answer h.
+      words-told 3 (length answer) shownWords _ (omega arith) (λ r. show-within top window task r (omega arith) (omega arith));
+  monitor-show-all = λ window jobs late largest. tells _ (λ r e. within-more windowSlots top r (omega arith) (all-within window jobs late largest r e));
 }

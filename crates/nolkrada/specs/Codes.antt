@@ -10,7 +10,8 @@ use Rattle.model.specs.Refusal.{Refusal, Answer, refused, answered}
 use Rattle.model.specs.Checks.{refusalOf}
 use Rattle.model.specs.Calls.{arrivalCall, verdictCall, traceCall, readyInputs, runInputs}
 use Rattle.taskset.specs.TaskSet.{viewOf}
-use Rattle.interface.specs.Interface.{sheetFrom, framedFrom, codeOf, codeIn, asWords, withSlots, oneWord, verdictWords, traceWords}
+use Rattle.monitor.specs.MonitorCalls.{openInputs, checkTaskIn, showCall, allRefusal}
+use Rattle.interface.specs.Interface.{sheetFrom, framedFrom, codeOf, codeIn, asWords, withSlots, oneWord, verdictWords, traceWords, shownWords}
 use Rattle.nolkrada.specs.Files.{readAnswer, writeAnswer}
 use Rattle.nolkrada.specs.Texts.{loadAnswer}
 use Rattle.nolkrada.specs.Runs.{jumpAnswer, choiceAnswer}
@@ -57,3 +58,9 @@ pub record CodesTell : Type 0 where
   pub read : (file sheet task tick cost answer : List ℕ) → TellsOf (readAnswer file sheet task tick cost answer)
   pub load : (text sheet answer : List ℕ) → TellsOf (loadAnswer text sheet answer)
   pub write : (sheet : List ℕ) (count charge n : ℕ) (task tick cost out answer : List ℕ) → TellsOf (writeAnswer sheet count charge n task tick cost out answer)
+  pub monitor-open
+      : (sheet : List ℕ) (count charge : ℕ) (window : List ℕ) → Tells (refusalOf (openInputs (viewOf (sheetFrom sheet count charge)) window))
+  pub monitor-take : (window : List ℕ) (task : ℕ) → task < 4294967296 → Tells (checkTaskIn window task)
+  pub monitor-show
+      : (window : List ℕ) (task : ℕ) (answer : List ℕ) → task < 4294967296 → TellsOf (withSlots 3 (length answer) (asWords shownWords (showCall window task)))
+  pub monitor-show-all : (window jobs late largest : List ℕ) → Tells (allRefusal window jobs late largest)

@@ -20,7 +20,9 @@ ghost use Rattle.taskset.specs.TaskSet.{viewOf};
 ghost use Rattle.fileformat.specs.File.{decode};
 ghost use Rattle.fileformat.specs.FileCalls.{readCount};
 ghost use Rattle.reader.specs.Reader.{outcomeIn};
-ghost use Rattle.interface.specs.Interface.{sheetFrom, framedFrom, codeOf, codeIn, asWords, Ends, oneWord, scopeWord, verdictWords, traceWords};
+ghost use Rattle.monitor.specs.Layout.{tasksIn, deadlineIn, heldIn};
+ghost use Rattle.monitor.specs.MonitorCalls.{openInputs, openAfter, checkTaskIn, jobAfter, showCall, allRefusal, jobsColumn, lateColumn, largestColumn};
+ghost use Rattle.interface.specs.Interface.{sheetFrom, framedFrom, codeOf, codeIn, asWords, Ends, oneWord, scopeWord, verdictWords, traceWords, shownWords};
 ghost use Rattle.nolkrada.specs.Files.{readWithin, readAnswer, ReadEnds, writeAnswer, WriteEnds};
 ghost use Rattle.nolkrada.specs.Texts.{loadAnswer, LoadEnds};
 ghost use Rattle.nolkrada.specs.Runs.{jumpAnswer, choiceAnswer, ColumnsEnd};
@@ -37,6 +39,7 @@ use interface::refusal_code;
 use interface::sheet_from;
 use interface::slots_code;
 use jumps::JumpAnswer;
+use monitor::ShowAnswer;
 use reader::ReadOutcome;
 use taskset::Checked;
 use trace::TraceAnswer;
@@ -444,4 +447,75 @@ pub extern "C" fn nolkrada_write(
         WriteAnswer::Refused { number, place } => refusal_code(number, place),
         WriteAnswer::Written { bytes } => put_one(answer, bytes as u64),
     }
+}
+
+// Opens a window for the last 256 jobs on a sheet, in 546 lent slots.
+#[no_mangle]
+pub extern "C" fn nolkrada_monitor_open(
+    sheet: &[u32],
+    count: u32,
+    charge: u8,
+    window: &mut [u64],
+) -> u64
+    ensures code { λ r. ⌜ r ≡ codeOf (refusalOf (openInputs (viewOf (sheetFrom (now (sheet .entry)) count charge)) (now (window .entry)))) ⌝ }
+    ensures slots { λ _. ⌜ now (window .exit) ≡ openAfter (viewOf (sheetFrom (now (sheet .entry)) count charge)) (now (window .entry)) ⌝ }
+{
+    let s = sheet_from(sheet, count, charge);
+    let checked = monitor::open_window(s, window);
+    code_of(checked)
+}
+
+// Takes one finished job into a window: its task and its response.
+#[no_mangle]
+pub extern "C" fn nolkrada_monitor_take(window: &mut [u64], task: u32, response: u64) -> u64
+    ensures code { λ r. ⌜ r ≡ codeOf (checkTaskIn (now (window .entry)) task) ⌝ }
+    ensures slots { λ _. ⌜ now (window .exit) ≡ jobAfter (now (window .entry)) (record { task = task; response = response }) ⌝ }
+{
+    let checked = monitor::take_job(window, task as usize, response);
+    code_of(checked)
+}
+
+// Shows one task of a window: three words.
+#[no_mangle]
+pub extern "C" fn nolkrada_monitor_show(window: &[u64], task: u32, answer: &mut [u64]) -> u64
+    ensures { λ r. ⌜ Ends 3 (asWords shownWords (showCall (now (window .entry)) task)) (now (answer .entry)) r (now (answer .exit)) ⌝ }
+{
+    let got = monitor::show_task(window, task as usize);
+    match got {
+        ShowAnswer::Refused { number, place } => slots_code(number, place, 3, answer.len()),
+        ShowAnswer::Showing {
+            jobs,
+            late,
+            largest,
+        } => put_three(answer, jobs as u64, late as u64, largest),
+    }
+}
+
+// Shows all tasks of a window: a slot for each task in three columns.
+#[no_mangle]
+pub extern "C" fn nolkrada_monitor_show_all(
+    window: &[u64],
+    jobs: &mut [u32],
+    late: &mut [u32],
+    largest: &mut [u64],
+) -> u64
+    ensures code { λ r. ⌜ r ≡ codeOf (allRefusal (now (window .entry)) (now (jobs .entry)) (now (late .entry)) (now (largest .entry))) ⌝ }
+    ensures jobs_shown { λ _. ⌜
+        now (jobs .exit)
+        ≡ columnAfter (allRefusal (now (window .entry)) (now (jobs .entry)) (now (late .entry)) (now (largest .entry)))
+        (jobsColumn (tasksIn (now (window .entry))) (heldIn (now (window .entry)))) (now (jobs .entry))
+        ⌝ }
+    ensures late_shown { λ _. ⌜
+        now (late .exit)
+        ≡ columnAfter (allRefusal (now (window .entry)) (now (jobs .entry)) (now (late .entry)) (now (largest .entry)))
+        (lateColumn (tasksIn (now (window .entry))) (deadlineIn (now (window .entry))) (heldIn (now (window .entry)))) (now (late .entry))
+        ⌝ }
+    ensures largest_shown { λ _. ⌜
+        now (largest .exit)
+        ≡ columnAfter (allRefusal (now (window .entry)) (now (jobs .entry)) (now (late .entry)) (now (largest .entry)))
+        (largestColumn (tasksIn (now (window .entry))) (heldIn (now (window .entry)))) (now (largest .entry))
+        ⌝ }
+{
+    let checked = monitor::show_all(window, jobs, late, largest);
+    code_of(checked)
 }

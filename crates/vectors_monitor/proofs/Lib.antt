@@ -1,0 +1,2 @@
+-- Laws that the proofs of this crate's functions use.
+pub mod CallLaws

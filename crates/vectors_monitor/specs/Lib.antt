@@ -1,0 +1,2 @@
+-- The calls of a case.
+pub mod CaseCalls
