@@ -1,5 +1,5 @@
 -- After any calls from an opening a window shows what the definitions count: by what the slots stand for, call by call.
-use Prim.Native.Nat.{ℕ, suc, _+_, _-_, _%_, _≤_, _<_, min}
+use Prim.Native.Nat.{ℕ, suc, _+_, _-_, _≤_, _<_}
 use mathlib.Core.Path.{_≡_, refl, sym, ap, ap₂, subst, _∙_}
 use mathlib.Core.Bool.{Bool, true, false}
 use mathlib.Core.Logic.{_⊎_, inl, inr}
@@ -8,24 +8,22 @@ use mathlib.Core.List.{List, [], _∷_, _++_}
 use native.Mathlib.Omega.{arith}
 use borrow.Author.Tests.{eqb-true, eqb-false, le-leb, lt-leb}
 use lib.Dec.{leb, eqb}
-use lib.ListN.{length, getD, take, drop, set, length-append, length-drop, length-set, List·getD-append}
+use lib.ListN.{length, getD, drop, set, length-append, length-drop, List·getD-append}
 use lib.Seq.{drop-append-add, drop-drop, drop-set-lt}
-use Rattle.model.specs.Limits.{maxTasks, maxTime}
 use Rattle.model.specs.Series.{table}
 use Rattle.model.specs.Tasks.{Tasks}
 use Rattle.model.specs.Refusal.{Refusal, firstOf, answered}
 use Rattle.model.specs.Checks.{refuseIf, checkTasks, checkSlots, refusalOf}
-use Rattle.model.specs.Calls.{columnAfter}
 use Rattle.model.specs.LastJobs.{Completion, lastOf, Shown, shownOf, WindowCall, open-on, finished, Window, afterOpen, afterJob, afterCall, afterCalls, windowJobs, display}
 use Rattle.model.proofs.SeriesLaws.{le-or-lt}
-use Rattle.model.proofs.CheckLaws.{in-range-of, valid-of}
+use Rattle.model.proofs.CheckLaws.{valid-of}
 use Rattle.model.proofs.OrderLaws.{column-kept, column-written, last-decides, next-check}
 use Rattle.model.proofs.TableLaws.{length-table, getD-table, table-agree}
 use Rattle.model.proofs.LastJobLaws.{last-last}
 use Rattle.monitor.specs.Layout.{windowSlots, tasksIn, countIn, deadlineIn, jobIn, placeIn, usedIn, from, heldIn, counted, withJob, openedOn}
-use Rattle.monitor.specs.MonitorCalls.{openInputs, openAfter, checkWindow, checkTaskIn, jobAfter, showCall, columnsLent, allRefusal}
-use Rattle.monitor.specs.AfterAnyCalls.{slotsAfter, slotsAfterAll, WellFormed, OpeningForms, CallsKeepForm, displayed, Shows, HoldsAfter, AfterAnyCalls}
-use Rattle.monitor.proofs.WindowLaws.{Usable, window-fine, task-missing, task-there, task-of, show-refused, show-answered, job-refused, job-taken, open-fine, open-of}
+use Rattle.monitor.specs.MonitorCalls.{openInputs, openAfter, checkWindow, checkTaskIn, jobAfter, showCall, columnsLent}
+use Rattle.monitor.specs.AfterAnyCalls.{slotsAfter, slotsAfterAll, WellFormed, OpeningForms, CallsKeepForm, displayed, Shows, AfterAnyCalls}
+use Rattle.monitor.proofs.WindowLaws.{window-fine, task-missing, task-there, show-refused, show-answered, job-refused, job-taken, open-fine, open-of}
 use Rattle.monitor.proofs.RingLaws.{counted-low, used-before, length-with, count-with, slot-with, place-low, job-with, jobs-with, held-with}
 use Rattle.monitor.proofs.ColumnLaws.{all-columns}
 

@@ -7,14 +7,14 @@ use mathlib.Core.Option.{some, none}
 use mathlib.Core.List.{List, [], _∷_, _++_}
 use native.Mathlib.Omega.{arith}
 use native.Mathlib.Numerals.{add-one}
-use borrow.Author.Tests.{lt-ltb, le-ltb, ltb-true, ltb-false}
+use borrow.Author.Tests.{lt-ltb, le-ltb}
 use lib.Dec.{ltb}
 use lib.ListN.{length, getD, drop, set, length-append, length-drop, length-set, List·getD-append}
 use lib.Seq.{drop-cons, drop-at, set-at, append-snoc, set-append-left}
 use Rattle.model.specs.Series.{on, table}
 use Rattle.model.specs.Refusal.{Refusal, refuse}
 use Rattle.model.specs.Checks.{checkSlots}
-use Rattle.model.specs.LastJobs.{Completion, jobsOf, lateOf, largestOf, Shown, shownOf, windowJobs}
+use Rattle.model.specs.LastJobs.{jobsOf, lateOf, largestOf, shownOf, windowJobs}
 use Rattle.model.proofs.SeriesLaws.{le-or-lt}
 use Rattle.model.proofs.CheckLaws.{slots-short, slots-next, slots-none, slot-of}
 use Rattle.model.proofs.OrderLaws.{first-refusal, next-check, last-decides}
@@ -22,7 +22,6 @@ use Rattle.model.proofs.TableLaws.{length-table, getD-table, table-agree, table
 use Rattle.model.proofs.LastJobLaws.{jobs-le, late-le, jobs-own, late-own, largest-own, jobs-other, late-other, largest-other}
 use Rattle.monitor.specs.Layout.{windowSlots, tasksIn, deadlineIn, jobIn, placeIn, usedIn, heldIn}
 use Rattle.monitor.specs.MonitorCalls.{checkWindow, columnsLent, allRefusal, jobsColumn, lateColumn, largestColumn, slotWith, Countable}
-use Rattle.monitor.proofs.WindowLaws.{Usable, usable-of}
 use Rattle.monitor.proofs.TallyLaws.{shown-from}
 
 -- the first i slots of a column are 0

@@ -2,9 +2,8 @@
 use Prim.Native.Nat.{ℕ, _≤_}
 use mathlib.Core.Path.{_≡_, refl, _∙_}
 use mathlib.Core.Option.{Option, some, none}
-use mathlib.Core.List.{List, []}
+use mathlib.Core.List.{List}
 use native.Mathlib.Omega.{arith}
-use lib.ListN.{length}
 use Rattle.model.specs.Limits.{maxTasks, maxReleases}
 use Rattle.model.specs.Tasks.{Tasks}
 use Rattle.model.specs.Refusal.{Refusal, Answer, refused, answered}

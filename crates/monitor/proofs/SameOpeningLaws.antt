@@ -6,7 +6,7 @@ use mathlib.Core.List.{List, [], _∷_}
 use Rattle.model.specs.Series.{table}
 use Rattle.model.specs.Tasks.{Tasks}
 use Rattle.model.specs.Refusal.{firstOf}
-use Rattle.model.specs.Checks.{checkTask, checkSlots, checkKept, checkReleases, checkCount, checkChoice, refuseAt, refusalOf}
+use Rattle.model.specs.Checks.{checkTask, checkSlots, checkKept, checkReleases, checkCount, checkChoice, refusalOf}
 use Rattle.model.specs.Calls.{lends, columnAfter}
 use Rattle.model.specs.SameTasks.{SameTasks}
 use Rattle.model.proofs.TableLaws.{table-agree}

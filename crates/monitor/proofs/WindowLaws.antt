@@ -1,23 +1,23 @@
 -- Laws of the checks of a lent window.
 use Prim.Native.Nat.{ℕ, _≤_, _<_}
-use mathlib.Core.Path.{_≡_, refl, sym, _∙_}
+use mathlib.Core.Path.{_≡_, sym, _∙_}
 use mathlib.Core.Bool.{Bool, true, false}
-use mathlib.Core.Option.{Option, some, none}
-use mathlib.Core.List.{List, [], _∷_, _++_}
+use mathlib.Core.Option.{some, none}
+use mathlib.Core.List.{List, [], _∷_}
 use native.Mathlib.Omega.{arith}
 use borrow.Author.Tests.{eq-eqb, ne-eqb, lt-ltb, le-ltb, le-leb, lt-leb, eqb-false, ltb-false, leb-false}
 use lib.Dec.{leb, ltb, eqb}
-use lib.ListN.{length, drop}
+use lib.ListN.{length}
 use Rattle.model.specs.Limits.{maxTasks}
 use Rattle.model.specs.Tasks.{Tasks}
-use Rattle.model.specs.Refusal.{Refusal, refuse, firstOf, Answer, refused, answered}
+use Rattle.model.specs.Refusal.{Refusal, refuse, firstOf, refused, answered}
 use Rattle.model.specs.Checks.{refuseIf, checkTasks, checkSlots, refusalOf}
-use Rattle.model.specs.Calls.{lends, columnAfter}
+use Rattle.model.specs.Calls.{lends}
 use Rattle.model.specs.LastJobs.{Completion, shownOf}
 use Rattle.model.proofs.CheckLaws.{not-refused, slots-short, slots-next, slots-none, slot-of}
-use Rattle.model.proofs.OrderLaws.{first-refusal, next-check, last-decides, both-none, no-single, no-count, no-kept, no-releases, no-unfit, Accepted, accepted-of, accepts, refused-tasks, refused-slots}
+use Rattle.model.proofs.OrderLaws.{first-refusal, next-check, last-decides, both-none, no-single, no-count, no-kept, no-releases, no-unfit, accepted-of, accepts, refused-tasks, refused-slots}
 use Rattle.monitor.specs.Layout.{windowSlots, tasksIn, deadlineIn, heldIn, withJob}
-use Rattle.monitor.specs.MonitorCalls.{openInputs, checkWindow, checkTaskIn, jobAfter, showCall, allRefusal}
+use Rattle.monitor.specs.MonitorCalls.{openInputs, checkWindow, checkTaskIn, jobAfter, showCall}
 
 -- a test as a refusal
 if-holds : (b : Bool) (n p : ℕ) → b ≡ true → refuse n p ≡ refuseIf b n p

@@ -1,5 +1,5 @@
 -- What a lent window shows after any calls from an opening: the statement. proofs/AnyCallsLaws.antt proves it (`after-any-calls`).
-use Prim.Native.Nat.{ℕ, _+_, _≤_, _<_}
+use Prim.Native.Nat.{ℕ, _≤_, _<_}
 use mathlib.Core.Path.{_≡_}
 use mathlib.Core.Bool.{true, false}
 use mathlib.Core.Option.{none}
@@ -11,8 +11,7 @@ use Rattle.model.specs.Series.{table}
 use Rattle.model.specs.Tasks.{Tasks}
 use Rattle.model.specs.Refusal.{Answer, refused, answered}
 use Rattle.model.specs.Checks.{refuseIf, checkSlots, refusalOf}
-use Rattle.model.specs.Calls.{columnAfter}
-use Rattle.model.specs.LastJobs.{Completion, Shown, WindowCall, open-on, finished, Window, afterCalls, windowJobs, display}
+use Rattle.model.specs.LastJobs.{Completion, Shown, WindowCall, open-on, finished, Window, afterCalls, display}
 use Rattle.monitor.specs.Layout.{windowSlots, tasksIn, countIn, deadlineIn, jobIn, usedIn, heldIn}
 use Rattle.monitor.specs.MonitorCalls.{openInputs, openAfter, checkTaskIn, jobAfter, showCall, columnsLent, allRefusal, jobsColumn, lateColumn, largestColumn}
 

@@ -2,7 +2,7 @@
 -- Slot 0: the number of tasks. Slot 1: the count of jobs. From 2 on: the deadlines of the tasks. From 34 on: the tasks of 256 jobs. From 290 on: their responses.
 use Prim.Native.Nat.{ℕ, _+_, _%_, min}
 use mathlib.Core.Bool.{true, false}
-use mathlib.Core.List.{List, [], _∷_, _++_}
+use mathlib.Core.List.{List, _∷_, _++_}
 use lib.ListN.{getD, take, drop, set}
 use lib.Dec.{ltb}
 use Rattle.model.specs.Series.{table}

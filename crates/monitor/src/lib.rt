@@ -1,17 +1,17 @@
 // The last 256 jobs of a run (document 02, R-6): per task their number, how many were late, and the largest response.
 // The window is lent: 546 slots that only these calls change. Whatever the slots hold, a call answers by the definitions or refuses.
 ghost use mathlib.Core.Path.{_≡_};
-ghost use Prim.Native.Nat.{ℕ, _+_, _≤_, _<_, max, _%_};
+ghost use Prim.Native.Nat.{_+_, _≤_, _<_, max};
 ghost use mathlib.Core.List.{_++_};
-ghost use lib.Dec.{ltb, eqb};
-ghost use lib.ListN.{length, getD, drop};
+ghost use lib.Dec.{ltb};
+ghost use lib.ListN.{length, drop};
 ghost use Rattle.model.specs.Limits.{maxTasks};
 ghost use Rattle.model.specs.Series.{on, table};
 ghost use Rattle.model.specs.Checks.{checkSlots, refusalOf};
 ghost use Rattle.model.specs.Calls.{columnAfter};
 ghost use Rattle.model.specs.LastJobs.{shownOf, windowJobs};
 ghost use Rattle.taskset.specs.TaskSet.{viewOf, refusalIn};
-ghost use Rattle.monitor.specs.Layout.{windowSlots, tasksIn, countIn, deadlineIn, jobIn, usedIn, heldIn, counted, openedOn};
+ghost use Rattle.monitor.specs.Layout.{windowSlots, tasksIn, deadlineIn, jobIn, usedIn, heldIn, counted, openedOn};
 ghost use Rattle.monitor.specs.MonitorCalls.{
   openInputs,
   openAfter,

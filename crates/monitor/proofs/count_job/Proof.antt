@@ -4,7 +4,6 @@ use Prim.Native.Nat.{_+_}
 use mathlib.Core.Path.{ap, _∙_}
 use native.Mathlib.Omega.{arith}
 use lib.ListN.{getD, set}
-use Rattle.model.specs.Series.{on}
 use Rattle.monitor.proofs.ColumnLaws.{slot-own, slot-none}
 use Rattle.monitor.proofs.count_job.Statement.{statement}
 use Rattle.monitor.proofs.count_job.Tie as tie

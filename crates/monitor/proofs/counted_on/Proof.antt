@@ -1,6 +1,5 @@
 -- Below 256 the count grows, from there it goes round.
 use borrow.Author.Needs.{needs}
-use native.Mathlib.Omega.{arith}
 use borrow.Author.Tests.{lt-ltb, le-ltb}
 use Rattle.monitor.specs.Layout.{counted}
 use Rattle.monitor.proofs.counted_on.Statement.{statement}
