@@ -1,5 +1,7 @@
 // The last 256 jobs of a run (document 02, R-6): per task their number, how many were late, and the largest response.
 // The window is lent: 546 slots that only these calls change. Whatever the slots hold, a call answers by the definitions or refuses.
+// Slot 0 is the number of tasks, slot 1 the count of jobs; from slot 2 on stand the deadlines of 32 tasks, from 34 on the tasks of 256 jobs, a ring, and from 290 on
+// their responses.
 ghost use mathlib.Core.Path.{_≡_};
 ghost use Prim.Native.Nat.{_+_, _≤_, _<_, max};
 ghost use mathlib.Core.List.{_++_};
@@ -47,7 +49,7 @@ pub enum ShowAnswer {
     Refused { number: u32, place: usize },
 }
 
-// Writes the deadlines of a sheet to a window.
+// Writes a window without a job: the number of tasks of a sheet, and their deadlines.
 fn put_deadlines(s: TaskSet, window: &mut [u64])
     requires { ⌜ (s .count ≤ maxTasks) × (windowSlots ≤ length (now window)) ⌝ }
     ensures { λ _. ⌜ now (window .exit) ≡ openedOn (viewOf s) ++ drop (2 + s .count) (now (window .entry)) ⌝ }
