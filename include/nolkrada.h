@@ -14,7 +14,7 @@
  * makes nolkrada_run go on for days. Take nolkrada_jump for such lists. A run that jumps goes from one ready or finish moment to the
  * next: microseconds for a few releases, whatever their ticks, and below a millisecond for 1024. These figures are for calls without
  * a frame. docs/BENCHMARK.md has all of them; PLANNING A CHOICE says how to plan for a choice on a board. The time of a call on a
- * window does not grow with the jobs that it has taken: see LAST JOBS.
+ * window does not grow with the length of the run: see LAST JOBS.
  *
  * WHAT A CALL RETURNS
  *   0 where it answered. Otherwise a refusal, number * 2^32 + place; nolkrada_number and nolkrada_place take it apart.
@@ -76,8 +76,8 @@
  * LAST JOBS
  *   For a display of a run: per task the number of jobs among the last 256 (NOLKRADA_WINDOW_JOBS) that were taken, or among all while
  *   there are fewer, how many of them were late, and their largest response. The 256 jobs are those of all tasks together. Each number
- *   is what a fresh count of these jobs gives, however many were taken before: the largest response falls when the last job that had
- *   it is no longer among them.
+ *   is what a fresh count of these jobs gives, however many were taken before: a largest response does not outlast the last of these
+ *   jobs that had it.
  *   window, window_length: memory that the caller keeps from call to call, at least 546 uint64_t (NOLKRADA_WINDOW_SLOTS; 4368 bytes).
  *   It is no window of a frame. What its slots mean is left open: only these calls read it, and only nolkrada_monitor_open and
  *   nolkrada_monitor_take change it. It may be copied or stored as a whole, and the copy goes on from there. There may be any number of
@@ -88,7 +88,7 @@
  *   bits. A job of a task that is not in the sheet is refused with 14 and is not counted.
  *   Whatever numbers the slots hold, a call ends, touches no memory but what is lent, and answers or is refused. One on a window of
  *   zeros is refused with 5. Where other code wrote to a window, what it shows is about no run.
- *   Taking a job is the same few steps each time. A show, of one task or of all, goes over the 256 jobs once.
+ *   Taking a job is the same few steps each time. A show, of one task or of all, goes once over the jobs held, at most 256.
  *
  * PLANNING A CHOICE
  *   This is about calls without a frame. A verdict takes q = 0, 1, .. and finds each W(q) by a list of t. The first t is
@@ -120,8 +120,8 @@
  *    2  read: the file ends inside a record, or where a kind is due; offset of that kind
  *    3  read: task after a release; a second charge, or one after a task or a release; offset of the record
  *    4  over 32 tasks; 32 (read: offset; load: the line. A window that holds such a number: 32)
- *    5  no task: count 0; 0 (read: release or end before any task; offset. load: an empty text; 0. A window that was not opened and
- *       holds zeros: 0)
+ *    5  no task: count 0; 0 (read: release or end before any task; offset. load: an empty text; 0. A window that holds
+ *       no task, as one of zeros that was never opened: 0)
  *    6  P, J, E or D outside its range; the task (read: offset; also a charge of 0 in kind 5, and a last byte of kind 6 that is not 0.
  *       load: the line, however long a number is)
  *    7  release of a task that is not in the sheet; the release (read: offset)
@@ -331,12 +331,12 @@ uint64_t nolkrada_monitor_take(uint64_t *window, size_t window_length, uint32_t 
 
 /* Show one task. The window is not changed.
  * answer: 3 slots, written: the jobs of the task among the last 256, how many of them were late, and their largest response, 0 where
- * there is no job.                                                                                          Refuses 13 5 4 14. */
+ * there is no job.                                                                                          Refuses 13 5 4 14, 13 for answer. */
 uint64_t nolkrada_monitor_show(const uint64_t *window, size_t window_length, uint32_t task, uint64_t *answer, size_t answer_length);
 
 /* Show all tasks, each as nolkrada_monitor_show does. The window is not changed.
  * jobs, late, largest: a slot for each task of the sheet on which the window was opened, written; NOLKRADA_MAX_TASKS slots take any.
- *                                                                                                              Refuses 13 5 4. */
+ *                                                                                                              Refuses 13 5 4, 13 for the columns. */
 uint64_t nolkrada_monitor_show_all(const uint64_t *window, size_t window_length, uint32_t *jobs, size_t jobs_length, uint32_t *late,
                                    size_t late_length, uint64_t *largest, size_t largest_length);
 

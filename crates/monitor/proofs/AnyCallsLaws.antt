@@ -23,7 +23,7 @@ use Rattle.model.proofs.LastJobLaws.{last-last}
 use Rattle.monitor.specs.Layout.{windowSlots, tasksIn, countIn, deadlineIn, jobIn, placeIn, usedIn, from, heldIn, counted, withJob, openedOn}
 use Rattle.monitor.specs.MonitorCalls.{openInputs, openAfter, checkWindow, checkTaskIn, jobAfter, showCall, columnsLent}
 use Rattle.monitor.specs.AfterAnyCalls.{slotsAfter, slotsAfterAll, WellFormed, OpeningForms, CallsKeepForm, displayed, Shows, AfterAnyCalls}
-use Rattle.monitor.proofs.WindowLaws.{window-fine, task-missing, task-there, show-refused, show-answered, job-refused, job-taken, open-fine, open-of}
+use Rattle.monitor.proofs.WindowLaws.{window-fine, task-missing, task-there, show-refused, show-answered, job-refused, job-taken, open-sheet, open-fine, open-of}
 use Rattle.monitor.proofs.RingLaws.{counted-low, used-before, length-with, count-with, slot-with, place-low, job-with, jobs-with, held-with}
 use Rattle.monitor.proofs.ColumnLaws.{all-columns}
 
@@ -257,10 +257,18 @@ module _ (v : Window) (w : List ℕ) (t : Stands v w) where
   in-column f =
       ap (table (λ i. f (shownOf i (deadlineIn w i) (heldIn w)))) (t .tasks) ∙ table-agree _ _ (v .sheet .count) (λ i h. ap f (shown i h))
 
+  opens : (s : Tasks) → refusalOf (openInputs s w) ≡ checkTasks s
+  opens s = go (checkTasks s) refl
+    where
+      go : (o : Option Refusal) → o ≡ checkTasks s → refusalOf (openInputs s w) ≡ checkTasks s
+      go none e = sym (open-fine s w e (t .formed .long)) ∙ e
+      go (some r) e = sym (open-sheet s w r e) ∙ e
+
   shows : Shows v w
   shows =
       record {
         formed = t .formed;
+        open-code = opens;
         job-code = λ c. code (c .task);
         job-kept = λ c h. sym (job-refused w c _ (task-missing w (c .task) fine (omega (arith, t .tasks))));
         one = show-one;

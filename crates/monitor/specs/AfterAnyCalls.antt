@@ -10,7 +10,7 @@ use Rattle.model.specs.Limits.{maxTasks, maxTime}
 use Rattle.model.specs.Series.{table}
 use Rattle.model.specs.Tasks.{Tasks}
 use Rattle.model.specs.Refusal.{Answer, refused, answered}
-use Rattle.model.specs.Checks.{refuseIf, checkSlots, refusalOf}
+use Rattle.model.specs.Checks.{refuseIf, checkTasks, checkSlots, refusalOf}
 use Rattle.model.specs.LastJobs.{Completion, Shown, WindowCall, open-on, finished, Window, afterCalls, display}
 use Rattle.monitor.specs.Layout.{windowSlots, tasksIn, countIn, deadlineIn, jobIn, usedIn, heldIn}
 use Rattle.monitor.specs.MonitorCalls.{openInputs, openAfter, checkTaskIn, jobAfter, showCall, columnsLent, allRefusal, jobsColumn, lateColumn, largestColumn}
@@ -49,6 +49,8 @@ displayed v i = elim (leb (v .sheet .count) i) [ true ↦ refused (record { numb
 -- the slots show a window: the next call answers as the definitions say of that window
 pub record Shows (v : Window) (w : List ℕ) : Type 0 where
   pub formed : WellFormed w
+  -- a further opening: the checks of its sheet alone can refuse it
+  pub open-code : (t : Tasks) → refusalOf (openInputs t w) ≡ checkTasks t
   -- a finished job: 14 where its task is not in the sheet, and then every slot keeps what it held
   pub job-code : (c : Completion) → checkTaskIn w (c .task) ≡ refuseIf (leb (v .sheet .count) (c .task)) 14 (c .task)
   pub job-kept : (c : Completion) → v .sheet .count ≤ c .task → jobAfter w c ≡ w

@@ -17,7 +17,7 @@ use Rattle.monitor.specs.declared.ShowAnswer.{ShowAnswer}
 use Rattle.monitor.specs.declared.ShowAnswer.the-variants.{Showing, Refused}
 use Rattle.monitor.specs.declared.Tally.{Tally}
 
--- open: the sheet's checks (5, 4, then 6 and 17 by task), then 13 for the window
+-- open: the sheet's checks (5, 4, then 6 and 17 by task; the sheets of the calls have no frame), then 13 for the window
 abbrev pub openInputs : Tasks → List ℕ → Inputs
 openInputs s w = record {
   tasks = s;
@@ -55,7 +55,7 @@ abbrev pub columnsLent : ℕ → ℕ → ℕ → ℕ → List Lent
 columnsLent n jobs late largest =
     record { needed = n; slots = jobs } ∷ record { needed = n; slots = late } ∷ record { needed = n; slots = largest } ∷ []
 
--- show all tasks: 13 where one of the columns is too short for the tasks
+-- show all tasks: the window's checks, then 13 where one of the columns is too short for the tasks
 unfoldable pub allRefusal : List ℕ → List ℕ → List ℕ → List ℕ → Option Refusal
 allRefusal w jobs late largest =
     firstOf (checkWindow w ∷ checkSlots (columnsLent (tasksIn w) (length jobs) (length late) (length largest)) ∷ [])
