@@ -331,12 +331,12 @@ uint64_t nolkrada_monitor_take(uint64_t *window, size_t window_length, uint32_t 
 
 /* Show one task. The window is not changed.
  * answer: 3 slots, written: the jobs of the task among the last 256, how many of them were late, and their largest response, 0 where
- * there is no job.                                                                                          Refuses 13 5 4 14, 13 for answer. */
+ * there is no job.                                                                            Refuses 13 5 4 14, 13 for `answer`. */
 uint64_t nolkrada_monitor_show(const uint64_t *window, size_t window_length, uint32_t task, uint64_t *answer, size_t answer_length);
 
 /* Show all tasks, each as nolkrada_monitor_show does. The window is not changed.
  * jobs, late, largest: a slot for each task of the sheet on which the window was opened, written; NOLKRADA_MAX_TASKS slots take any.
- *                                                                                                              Refuses 13 5 4, 13 for the columns. */
+ *                                                                                           Refuses 13 5 4, 13 for the columns. */
 uint64_t nolkrada_monitor_show_all(const uint64_t *window, size_t window_length, uint32_t *jobs, size_t jobs_length, uint32_t *late,
                                    size_t late_length, uint64_t *largest, size_t largest_length);
 
