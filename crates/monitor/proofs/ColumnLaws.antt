@@ -1,7 +1,6 @@
 -- The columns of all tasks: cleared, then counted into job by job.
 use Prim.Native.Nat.{ℕ, suc, _+_, _≤_, _<_, max}
 use mathlib.Core.Path.{_≡_, refl, sym, ap, ap₂, _∙_}
-use mathlib.Core.Bool.{Bool, true, false}
 use mathlib.Core.Logic.{_⊎_, inl, inr}
 use mathlib.Core.Option.{some, none}
 use mathlib.Core.List.{List, [], _∷_, _++_}
@@ -14,15 +13,15 @@ use lib.Seq.{drop-cons, drop-at, set-at, append-snoc, set-append-left}
 use Rattle.model.specs.Series.{on, table}
 use Rattle.model.specs.Refusal.{Refusal, refuse}
 use Rattle.model.specs.Checks.{checkSlots}
-use Rattle.model.specs.LastJobs.{jobsOf, lateOf, largestOf, shownOf, windowJobs}
+use Rattle.model.specs.LastJobs.{jobsOf, lateOf, largestOf, windowJobs}
 use Rattle.model.proofs.SeriesLaws.{le-or-lt}
 use Rattle.model.proofs.CheckLaws.{slots-short, slots-next, slots-none, slot-of}
 use Rattle.model.proofs.OrderLaws.{first-refusal, next-check, last-decides}
 use Rattle.model.proofs.TableLaws.{length-table, getD-table, table-agree, table-set}
 use Rattle.model.proofs.LastJobLaws.{jobs-le, late-le, jobs-own, late-own, largest-own, jobs-other, late-other, largest-other}
-use Rattle.monitor.specs.Layout.{windowSlots, tasksIn, deadlineIn, jobIn, placeIn, usedIn, heldIn}
+use Rattle.monitor.specs.Layout.{windowSlots, tasksIn, deadlineIn, jobIn, usedIn, heldIn}
 use Rattle.monitor.specs.MonitorCalls.{checkWindow, columnsLent, allRefusal, jobsColumn, lateColumn, largestColumn, slotWith, Countable}
-use Rattle.monitor.proofs.TallyLaws.{shown-from}
+use Rattle.monitor.proofs.TallyLaws.{shown-held}
 
 -- the first i slots of a column are 0
 pub record Cleared (l₀ l : List ℕ) (i : ℕ) : Type 0 where
@@ -53,14 +52,6 @@ module _ (n i : ℕ) (f : ℕ → ℕ) (l : List ℕ) where
   pub slot-none : n ≤ i → l ≡ slotWith n i f l
   unfolding slotWith
   slot-none h = rw (slotWith, le-ltb i n h)
-
-  pub length-slot : length (slotWith n i f l) ≡ length l
-  unfolding slotWith
-  length-slot = go (ltb i n) refl
-    where
-      go : (b : Bool) → ltb i n ≡ b → length (slotWith n i f l) ≡ length l
-      go true e = rw (slotWith, e) (length-set l i (f (getD l i 0)))
-      go false e = rw (slotWith, e) refl
 
 -- a column of a function of the task, in which that of one task changes
 column-with
@@ -168,21 +159,15 @@ module _ (w : List ℕ) (n k : ℕ) (l₀ o l : List ℕ) (cleared : l₀ ≡ ta
   all-counted : (f g : ℕ → ℕ) → l ≡ table f n ++ drop n l₀ → ((i : ℕ) → f i ≡ g i) → l ≡ table g n ++ drop n o
   all-counted f g e same = e ∙ ap₂ _++_ (table-agree f g n (λ i b. same i)) (past-table (λ i. 0) n l₀ o cleared)
 
-  turned-back : (i D : ℕ) → usedIn w ≤ k → k ≤ usedIn w → shownOf i D (table (jobIn w) k) ≡ shownOf i D (heldIn w)
-  unfolding heldIn
-  turned-back i D h g =
-      let e : k ≡ usedIn w = omega arith in
-      ap (λ m. shownOf i D (table (jobIn w) m)) e ∙ sym (shown-from i D (placeIn w) (table (jobIn w) (usedIn w)))
-
   pub jobs-all : l ≡ jobsColumn n (table (jobIn w) k) ++ drop n l₀ → usedIn w ≤ k → k ≤ usedIn w → l ≡ jobsColumn n (heldIn w) ++ drop n o
-  jobs-all e h g = all-counted _ _ e (λ i. ap (λ t. t .jobs) (turned-back i 0 h g))
+  jobs-all e h g = all-counted _ _ e (λ i. ap (λ t. t .jobs) (shown-held w i 0 k h g))
 
   pub late-all
       : l ≡ lateColumn n (deadlineIn w) (table (jobIn w) k) ++ drop n l₀ → usedIn w ≤ k → k ≤ usedIn w → l ≡ lateColumn n (deadlineIn w) (heldIn w) ++ drop n o
-  late-all e h g = all-counted _ _ e (λ i. ap (λ t. t .late) (turned-back i (deadlineIn w i) h g))
+  late-all e h g = all-counted _ _ e (λ i. ap (λ t. t .late) (shown-held w i (deadlineIn w i) k h g))
 
   pub largest-all : l ≡ largestColumn n (table (jobIn w) k) ++ drop n l₀ → usedIn w ≤ k → k ≤ usedIn w → l ≡ largestColumn n (heldIn w) ++ drop n o
-  largest-all e h g = all-counted _ _ e (λ i. ap (λ t. t .largest) (turned-back i 0 h g))
+  largest-all e h g = all-counted _ _ e (λ i. ap (λ t. t .largest) (shown-held w i 0 k h g))
 
 -- the slots of the columns
 module _ (n jobs late largest : ℕ) where

@@ -69,13 +69,17 @@ module _ (w : List ℕ) (i D used : ℕ) where
   tallying-late k t f h = rw (f .is) (omega (arith, late-le i D (table (jobIn w) k), length-table (jobIn w) k, f .few))
 
 -- where a list is turned does not matter to a count
-pub shown-from : (i D p : ℕ) (l : List Completion) → shownOf i D (from p l) ≡ shownOf i D l
+shown-from : (i D p : ℕ) (l : List Completion) → shownOf i D (from p l) ≡ shownOf i D l
 unfolding from
 shown-from i D p l = shown-turned i D (drop p l) (take p l) ∙ ap (shownOf i D) (take-append-drop p l)
 
+-- a count of every place in use is one of the jobs held
+pub shown-held : (w : List ℕ) (i D k : ℕ) → usedIn w ≤ k → k ≤ usedIn w → shownOf i D (table (jobIn w) k) ≡ shownOf i D (heldIn w)
+unfolding heldIn
+shown-held w i D k h g =
+    let e : k ≡ usedIn w = omega arith in
+    ap (λ n. shownOf i D (table (jobIn w) n)) e ∙ sym (shown-from i D (placeIn w) (table (jobIn w) (usedIn w)))
+
 -- every place in use is counted
 pub tallying-all : (w : List ℕ) (i D k : ℕ) (t : Shown) → Tallying w i D (usedIn w) k t → usedIn w ≤ k → t ≡ shownOf i D (heldIn w)
-unfolding heldIn
-tallying-all w i D k t f h =
-    let e : k ≡ usedIn w = omega (arith, f .low) in
-    f .is ∙ ap (λ n. shownOf i D (table (jobIn w) n)) e ∙ sym (shown-from i D (placeIn w) (table (jobIn w) (usedIn w)))
+tallying-all w i D k t f h = f .is ∙ shown-held w i D k h (f .low)

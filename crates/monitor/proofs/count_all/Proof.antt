@@ -21,13 +21,16 @@ used-in-requires c κs = c .before .before .before .before .before .before .befo
 loop-holds : tie.Need-loop-holds Inv-loop μ-loop
 loop-holds c =
     let e = c .before .before .before .before .before .before .before .clear .ensures in
-    counting-none _ _ _ _ _ _ _ _ _ (c .before .before .before .before .before .before .before .before .before .before .before .before .before .before .before .pre .0) (omega (arith, c .used-in .ensures)) (cleared-self _ _ _ (e .0)) (cleared-self _ _ _ (e .1 .0)) (cleared-self _ _ _ (e .1 .1))
+    let p = c .before .before .before .before .before .before .before .before .before .before .before .before .before .before .before .pre in
+    counting-none _ _ _ _ _ _ _ _ _ (p .0) (omega (arith, c .used-in .ensures)) (cleared-self _ _ _ (e .0)) (cleared-self _ _ _ (e .1 .0))
+    (cleared-self _ _ _ (e .1 .1))
 
 count-job-requires : tie.Need-count-job-requires Inv-loop μ-loop
 count-job-requires c κs =
-    let p = c .before .before .before .before .before .before .before .before .before .before .before .before .before .before .before .before .before .before .before .before .pre in
-    let f = c .before .before .before .before .loop .inv in
-    let h = c .before .before .before .loop-test .taken in
+    let turn = c .before .before .before in
+    let p = turn .before .before .before .before .before .before .before .before .before .before .before .before .before .before .before .before .before .pre in
+    let f = turn .before .loop .inv in
+    let h = turn .loop-test .taken in
     (p .0, p .1, omega (arith, f .few, h), counting-jobs _ _ _ _ _ _ _ _ _ _ f h, counting-late _ _ _ _ _ _ _ _ _ _ f h, counting-largest _ _ _ _ _ _ _ _ _ _ f h)
 
 add-k : tie.Need-add-k Inv-loop μ-loop
@@ -39,7 +42,8 @@ loop-less c = omega arith
 loop-again : tie.Need-loop-again Inv-loop μ-loop
 loop-again c =
     let e = c .before .before .before .before .before .before .count-job .ensures in
-    counting-next _ _ _ _ _ _ _ _ _ _ _ _ _ (c .before .before .before .before .before .before .before .before .before .before .before .loop .inv) (c .before .before .before .before .before .before .before .before .before .before .loop-test .taken) (e .0) (e .1 .0) (e .1 .1)
+    let turn = c .before .before .before .before .before .before .before .before .before .before in
+    counting-next _ _ _ _ _ _ _ _ _ _ _ _ _ (turn .before .loop .inv) (turn .loop-test .taken) (e .0) (e .1 .0) (e .1 .1)
 
 counted-into : tie.Need-returns Inv-loop μ-loop
 counted-into c =
@@ -54,13 +58,16 @@ counted-into c =
     )
 
 same-length : tie.Need-same-length Inv-loop μ-loop
-same-length c = column-long _ _ _ _ (c .before .before .before .before .before .before .before .before .before .before .before .before .before .before .before .before .before .pre .2) (counted-into c .0)
+same-length c =
+    let p = c .before .before .before .before .before .before .before .before .before .before .before .before .before .before .before .before .before .pre in column-long _ _ _ _ (p .2) (counted-into c .0)
 
 same-length-2 : tie.Need-same-length-2 Inv-loop μ-loop
-same-length-2 c = column-long _ _ _ _ (c .before .before .before .before .before .before .before .before .before .before .before .before .before .before .before .before .before .pre .3) (counted-into c .1 .0)
+same-length-2 c =
+    let p = c .before .before .before .before .before .before .before .before .before .before .before .before .before .before .before .before .before .pre in column-long _ _ _ _ (p .3) (counted-into c .1 .0)
 
 same-length-3 : tie.Need-same-length-3 Inv-loop μ-loop
-same-length-3 c = column-long _ _ _ _ (c .before .before .before .before .before .before .before .before .before .before .before .before .before .before .before .before .before .pre .4) (counted-into c .1 .1)
+same-length-3 c =
+    let p = c .before .before .before .before .before .before .before .before .before .before .before .before .before .before .before .before .before .pre in column-long _ _ _ _ (p .4) (counted-into c .1 .1)
 
 returns : tie.Need-returns Inv-loop μ-loop
 returns c = counted-into c

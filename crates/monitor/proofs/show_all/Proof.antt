@@ -19,7 +19,8 @@ fine : (c : tie.After-enum-told) → none ≡ checkWindow (c .before .before .be
 fine c = sym (ap refusalIn (c .enum-told .given .1)) ∙ c .before .before .check-window .ensures
 
 room : (c : tie.After-enum-told3) → let a =
-    c .before .before .before .before .before .before .before .before .before .before .before .args in none ≡ checkSlots (columnsLent (tasksIn (a .window .now)) (length (a .jobs .now)) (length (a .late .now)) (length (a .largest .now)))
+    c .before .before .before .before .before .before .before .before .before .before .before .args in none ≡ checkSlots
+    (columnsLent (tasksIn (a .window .now)) (length (a .jobs .now)) (length (a .late .now)) (length (a .largest .now)))
 room c = sym (ap refusalIn (c .enum-told3 .given .1)) ∙ c .before .before .check-columns .ensures
 
 check-window-requires : tie.Need-check-window-requires
