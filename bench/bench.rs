@@ -1,8 +1,9 @@
 //! Times the archive against the same methods in plain Rust and against the reference implementation, and shows how the cost
 //! grows with tasks, releases and ticks. All three are optimised and called in turn. Each figure is the median of several
-//! repetitions, in processor time of the thread, so that other work on the machine counts little. The table of the last 256 jobs has no
-//! reference.
+//! repetitions, in processor time of the thread, so that other work on the machine counts little. The tables of the last 256 jobs and of
+//! boards have no reference.
 
+mod board;
 #[path = "../tests/outside/generator.rs"]
 #[allow(dead_code)]
 mod generator;
@@ -506,19 +507,21 @@ fn longest_verdicts(searches: &mut Searches) {
     }
 }
 
-/// Without an argument all tables; with `full` the first, that of frames and that of the last 256 jobs alone, with `frames` or `monitor` one of
-/// these two alone. Then the evaluations of the verdicts and choices timed without a frame.
+/// Without an argument all tables; with `full` the first, that of frames, that of the last 256 jobs and that of boards alone, with `frames`,
+/// `monitor` or `board` one of these three alone. Then the evaluations of the verdicts and choices timed without a frame.
 fn main() {
     let searches = &mut Searches::default();
     let which = std::env::args().nth(1);
     match which.as_deref() {
         Some("frames") => return with_frames(),
         Some("monitor") => return monitor::table(),
+        Some("board") => return board::table(),
         _ => (),
     }
     full_size(searches);
     with_frames();
     monitor::table();
+    board::table();
     if which.as_deref() != Some("full") {
         growth(searches);
         longest_verdicts(searches);

@@ -2,7 +2,8 @@
 //! is made anew for the high tasks alone where it does not succeed, a shaper of two numbers for each task, a run tick by tick with one
 //! queue for each task, a run from one start or finish to the next, a reader in two passes, a writer in one, a loader that looks once at
 //! each byte. With a frame the search goes on from where our ticks reach the demand just found, at the starts where a gap begins, and a job's
-//! end is reckoned by counting windows. The last 256 jobs are a ring in lent slots, which is looked through when it is shown.
+//! end is reckoned by counting windows. The last 256 jobs are a ring in lent slots, which is looked through when it is shown. An ask puts a
+//! task in and makes the choice; a commit asks once, at the first task in which the sheets differ, and makes a run that jumps.
 //! Each makes the checks of its call. Used as the measure of the archive's speed.
 
 use crate::reference::{Frame, Refusal, Task, HORIZON, MAX_FRAME, MAX_RELEASES, MAX_SHORT_TICK, MAX_TASKS, MAX_TICK, MAX_TIME, MAX_WINDOWS};
@@ -106,7 +107,13 @@ fn check_columns(n: usize, list: Columns) -> Checked {
 }
 
 fn check_list(tasks: &[Task], n: usize, list: Columns) -> Checked {
-    let mut before = 0;
+    check_list_from(tasks, 0, n, list)
+}
+
+/// The same with a least tick.
+#[inline(always)]
+fn check_list_from(tasks: &[Task], least: u64, n: usize, list: Columns) -> Checked {
+    let mut before = least;
     for p in 0..n {
         if let Some(number) = check_release(tasks, before, list.task[p], list.tick[p], list.cost[p]) {
             return refuse(number, p);
@@ -893,5 +900,115 @@ pub fn show_all(window: &[u64], jobs: &mut [u32], late: &mut [u32], largest: &mu
             largest[i] = largest[i].max(r);
         }
     }
+    Ok(())
+}
+
+// ---- Ask and commit ----------------------------------------------------------------------------------------------------
+
+/// A sheet and its choice: an offer, or what is in force.
+#[derive(Clone, Copy)]
+pub struct Plan {
+    pub tasks: [Task; 32],
+    pub count: usize,
+    pub charge: u8,
+    pub kept: [u32; 32],
+    pub worst: [u32; 32],
+    pub high_only: bool,
+}
+
+impl Plan {
+    pub fn sheet(&self) -> &[Task] {
+        &self.tasks[..self.count]
+    }
+}
+
+#[derive(Clone)]
+pub struct Board {
+    pub plan: Plan,
+    pub frame: Option<Frame>,
+    pub last: u64,
+}
+
+fn plan_of(tasks: [Task; 32], count: usize, charge: u8, frame: Option<&Frame>) -> Result<Plan, Refusal> {
+    let mut plan = Plan { tasks, count, charge, kept: [0; 32], worst: [0; 32], high_only: false };
+    plan.high_only = choice(&tasks[..count], charge, frame, &mut plan.kept, &mut plan.worst)?.0;
+    Ok(plan)
+}
+
+pub fn open_board(tasks: &[Task], charge: u8, frame: Option<&Frame>) -> Result<Board, Refusal> {
+    check_sheet(tasks, charge)?;
+    let mut all = [Task::high(0, 0, 0, 0); 32];
+    all[..tasks.len()].copy_from_slice(tasks);
+    Ok(Board { plan: plan_of(all, tasks.len(), charge, frame)?, frame: frame.cloned(), last: 0 })
+}
+
+pub fn ask(tasks: &[Task], charge: u8, frame: Option<&Frame>, task: Task, place: usize) -> Result<Plan, Refusal> {
+    check_sheet(tasks, charge)?;
+    check_frame(frame)?;
+    let count = tasks.len();
+    if place > count {
+        return refuse(14, place);
+    }
+    if count == MAX_TASKS {
+        return refuse(4, MAX_TASKS);
+    }
+    let mut all = [Task::high(0, 0, 0, 0); 32];
+    all[..place].copy_from_slice(&tasks[..place]);
+    all[place] = task;
+    all[place + 1..=count].copy_from_slice(&tasks[place..]);
+    plan_of(all, count + 1, charge, frame)
+}
+
+fn same_frame(a: Option<&Frame>, b: Option<&Frame>) -> bool {
+    match (a, b) {
+        (None, None) => true,
+        (Some(a), Some(b)) => a.ticks == b.ticks && a.count == b.count && a.windows[..a.count] == b.windows[..b.count],
+        _ => false,
+    }
+}
+
+/// Whether some ask gives the offer: the one for the first task in which the sheets differ.
+fn is_offer(tasks: &[Task], charge: u8, frame: Option<&Frame>, offer: &Plan) -> bool {
+    if tasks.len() >= MAX_TASKS {
+        return false;
+    }
+    let place = (0..tasks.len()).find(|&i| tasks[i] != offer.tasks[i]).unwrap_or(tasks.len());
+    ask(tasks, charge, frame, offer.tasks[place], place).is_ok_and(|given| {
+        let n = given.count;
+        given.sheet() == offer.sheet()
+            && given.charge == offer.charge
+            && given.kept[..n] == offer.kept[..n]
+            && given.worst[..n] == offer.worst[..n]
+            && given.high_only == offer.high_only
+    })
+}
+
+/// A commit of an offer that was asked of a sheet with its frame.
+pub fn commit(
+    board: &mut Board, offer: &Plan, tasks: &[Task], charge: u8, frame: Option<&Frame>, n: usize, list: Columns, at: u64,
+) -> Checked {
+    let held = &board.plan;
+    check_sheet(held.sheet(), held.charge)?;
+    check_frame(board.frame.as_ref())?;
+    if n > MAX_RELEASES {
+        return refuse(10, MAX_RELEASES);
+    }
+    check_columns(n, list)?;
+    check_kept(held.sheet(), &held.kept)?;
+    check_list_from(held.sheet(), board.last, n, list)?;
+    let same = held.sheet() == tasks && held.charge == charge && same_frame(board.frame.as_ref(), frame);
+    if !same || !is_offer(tasks, charge, frame, offer) {
+        return refuse(19, 0);
+    }
+    if at < board.last {
+        return refuse(20, 0);
+    }
+    let (mut ready, mut finish) = ([0u64; MAX_RELEASES], [0u64; MAX_RELEASES]);
+    jump(held.sheet(), held.charge, board.frame.as_ref(), &held.kept, n, list, &mut ready, &mut finish)?;
+    if finish[..n].iter().any(|&f| f > at) {
+        return refuse(20, 0);
+    }
+    board.plan = *offer;
+    board.last = at;
     Ok(())
 }

@@ -3,8 +3,8 @@
  *
  * ./install puts this header and libnolkrada.a in place: cc main.c -lnolkrada (x86-64 Linux). Without installing, `rt staticlib
  * nolkrada` writes target/staticlib/libnolkrada.a. Of the C library the archive calls memcpy and memset alone; it allocates nothing
- * and has no writable data, so any number of threads may call it. A read or a load takes below 4096 bytes of stack, any other call
- * below 8192; what memcpy and memset take is counted, what the dynamic linker takes when it looks them up is not.
+ * and has no writable data, so any number of threads may call it. A read or a load takes below 4096 bytes of stack, a commit below
+ * 40960, any other call below 12288; what memcpy and memset take is counted, what the dynamic linker takes when it looks them up is not.
  *
  * Every call ends, but not always soon. A verdict or a choice takes microseconds on most sheets; where the tasks load the
  * processor whole or a little more, it may walk over millions of q: with 31 tasks (62,0,1,1000000) above (2,1,1,1000000), kept at
@@ -13,22 +13,25 @@
  * goes tick by tick: some 0.4 s for each 1000000000 ticks up to the last finish, so that one release near the last tick allowed
  * makes nolkrada_run go on for days. Take nolkrada_jump for such lists. A run that jumps goes from one ready or finish moment to the
  * next: microseconds for a few releases, whatever their ticks, and below a millisecond for 1024. These figures are for calls without
- * a frame. docs/BENCHMARK.md has all of them; PLANNING A CHOICE says how to plan for a choice on a board. The time of a call on a
- * window does not grow with the length of the run: see LAST JOBS.
+ * a frame. docs/BENCHMARK.md has all of them; PLANNING A CHOICE says how to plan for a choice on a board. An opening of a board and an
+ * ask take the time of one choice, a commit that of one choice and of one run that jumps, or less. The time of a call on a window does
+ * not grow with the length of the run: see LAST JOBS.
  *
  * WHAT A CALL RETURNS
  *   0 where it answered. Otherwise a refusal, number * 2^32 + place; nolkrada_number and nolkrada_place take it apart.
  *   A refusal leaves every slot of every lent array as it was. An answer fills the first slots of an array, and the slots
- *   past it keep what they held. A window is changed inside its first NOLKRADA_WINDOW_SLOTS slots alone.
+ *   past it keep what they held. A window is changed inside its first NOLKRADA_WINDOW_SLOTS slots alone, a board inside its first
+ *   NOLKRADA_BOARD_NUMBERS.
  *
  * SHEET
  *   sheet, sheet_length: the numbers of the tasks, P, J, E, D and the mark of task 0, then of task 1, and so on; task 0 has the
  *   highest priority. sheet_length is the number of uint32_t, normally 5 * count. Numbers past the end count as 0, and nothing past
  *   task 31 is read. count: how many tasks the sheet has, 1 to 32.
  *   P (period) and D (deadline) are 1 to 1000000, J (jitter) is 0 to 1000000, E (cost) is 1 to the smaller of P and D.
- *   mark: 0 is high, any other number is low. nolkrada_choice does not judge low tasks where not all tasks fit, and nolkrada_write
- *   writes them as kind 6. Every other call that takes a sheet ignores the marks. nolkrada_read and nolkrada_load write a mark as 0 or
- *   1.
+ *   mark: 0 is high, any other number is low. nolkrada_choice and the calls on a board, which make a choice, do not judge low tasks
+ *   where not all tasks fit, and nolkrada_write writes them as kind 6. A commit compares the marks too. Every other call that takes a
+ *   sheet ignores them. Where a call writes a mark it is 0 or 1.
+ *   struct nolkrada_task has the numbers of one task: pass &tasks[0].period and 5 * count.
  *   charge: the ticks S, 0 to 255, that each job takes besides its cost, for the switch to it; 0 for none. E + S is at most the
  *   smaller of P and D of each task. Verdicts and choices use E + S in place of E, and in a run each job takes its cost plus S.
  *   A charge over 255 is not refused: charge is a uint8_t, and C cuts a larger number to its low byte, 256 to 0. A caller whose
@@ -45,7 +48,8 @@
  *   Ours are the ticks from first up to first + length, not including the latter, of each window; the frame repeats from tick 0. In
  *   all other ticks nothing runs. Without a frame every tick is ours; a frame with one window over all its ticks gives the verdicts,
  *   choices and runs of no frame.
- *   nolkrada_verdict, nolkrada_choice, nolkrada_run and nolkrada_jump take a frame. No other call depends on it, and files have none.
+ *   nolkrada_verdict, nolkrada_choice, nolkrada_run, nolkrada_jump, nolkrada_board_open, nolkrada_board_ask and nolkrada_board_commit
+ *   take a frame. No other call depends on it, and files have none.
  *
  * KEPT JITTERS
  *   kept, kept_length: one K for each task of the sheet, 0 <= K <= J; a call looks at all of them.
@@ -90,6 +94,39 @@
  *   zeros is refused with 5. Where other code wrote to a window, what it shows is about no run.
  *   Taking a job is the same few steps each time. A show, of one task or of all, goes once over the jobs held, at most 256.
  *
+ * BOARD
+ *   For a task that is added to a board that runs: ask first, then commit. An ask takes the sheet in force with its frame, a new task and
+ *   its place, and gives the new sheet and its choice as one record, the offer: the kept jitters can be looked at before anything is
+ *   changed. A commit puts an offer in force.
+ *   board, board_length: memory that the caller keeps from call to call, at least 264 uint32_t (NOLKRADA_BOARD_NUMBERS; 1056 bytes). It
+ *   holds the sheet in force, its charge and its choice, the frame, and the tick of the last commit, as struct nolkrada_board: pass
+ *   &board.plan.tasks[0].period and NOLKRADA_BOARD_NUMBERS. nolkrada_board_open writes it, with no commit yet, and then only commits
+ *   change it. It may be copied or stored as a whole, and the copy goes on from there. While one thread is in a commit, no other thread
+ *   may be in a call on that board.
+ *   offer, offer_length: 227 uint32_t (NOLKRADA_OFFER_NUMBERS), as struct nolkrada_offer: pass &offer.tasks[0].period and
+ *   NOLKRADA_OFFER_NUMBERS. The sheet that a board holds is `&board.plan.tasks[0].period, NOLKRADA_SHEET_NUMBERS, board.plan.count,
+ *   (uint8_t)board.plan.charge`, its frame `&board.frame.ticks, board.framed ? NOLKRADA_FRAME_NUMBERS : 0`. An ask may take them from
+ *   there. A commit writes the board, so the sheet and the frame asked of must stand elsewhere: copy the board, ask of the copy, and
+ *   commit with the copy.
+ *   What a call writes: entries of tasks, kept jitters and worst values past the count are 0, and so are windows past the count of the
+ *   frame; marks, `which` and `framed` are 0 or 1; without a frame all numbers of it are 0. What a call reads: numbers past the end of a
+ *   row count as 0, a mark, `which` or `framed` other than 0 counts as 1, of a charge the low byte counts, and entries past a count do
+ *   not matter.
+ *   A commit takes the board, the offer, the sheet and the frame that the offer was asked of, all releases since the last commit and a
+ *   tick, `at`. The offer is refused with 19 where the board holds another sheet or frame than the one asked of, as after another commit,
+ *   or where no ask on it gives this offer, whatever the task and its place: sheet, kept jitters, worst values and `which` are compared.
+ *   The tick is refused with 20 where it is before that of the last commit, or where a job of those releases is finished after it, in
+ *   the run with the sheet, the frame and the kept jitters in force. Otherwise the new sheet and its choice are in force from `at` on. A
+ *   finish at `at` and releases at the tick of the last commit are allowed. The tick has no limit of its own; but releases have one, so
+ *   after a commit over NOLKRADA_MAX_TICK a board takes none.
+ *   A commit starts a new run with no earlier jobs. Ticks go on counting from the same tick 0, and the frame repeats from tick 0. At the
+ *   tick of a commit no job of the run before is unfinished, and no job of the new run runs in that tick or before it: it is released
+ *   at that tick or later and runs from the tick after its ready tick on. The shapers start anew: a job of the new run is not held back
+ *   for jobs of the run before. So shares, limits and lateness are claimed from one commit to the next, with the sheet and the choice
+ *   that are in force there, for the releases since the commit: what is legal is judged among them alone.
+ *   Whatever numbers a board holds, a call ends, touches no memory but what is lent, and answers or is refused. A commit on a board of
+ *   zeros, as one that was never opened, is refused with 5.
+ *
  * PLANNING A CHOICE
  *   This is about calls without a frame. A verdict takes q = 0, 1, .. and finds each W(q) by a list of t. The first t is
  *   (q + 1) * (E + S) plus one E + S of each task above. The next is the demand in the t before it: (q + 1) * (E + S) + (the sum over
@@ -119,32 +156,38 @@
  *    1  read: kind byte not 1 to 6; offset of the kind byte
  *    2  read: the file ends inside a record, or where a kind is due; offset of that kind
  *    3  read: task after a release; a second charge, or one after a task or a release; offset of the record
- *    4  over 32 tasks; 32 (read: offset; load: the line. A window that holds such a number: 32)
- *    5  no task: count 0; 0 (read: release or end before any task; offset. load: an empty text; 0. A window that holds
+ *    4  over 32 tasks; 32 (read: offset; load: the line. A window or a board that holds such a number: 32. ask: 32 tasks are held; 32)
+ *    5  no task: count 0; 0 (read: release or end before any task; offset. load: an empty text; 0. A window or a board that holds
  *       no task, as one of zeros that was never opened: 0)
  *    6  P, J, E or D outside its range; the task (read: offset; also a charge of 0 in kind 5, and a last byte of kind 6 that is not 0.
- *       load: the line, however long a number is)
+ *       load: the line, however long a number is. ask: of the new task, its place)
  *    7  release of a task that is not in the sheet; the release (read: offset)
  *    8  tick below the one before, or over 1000000000000000; the release (read: offset; also a tick over 1000000000 in kind 2, and
- *       one up to 1000000000 in kind 4)
+ *       one up to 1000000000 in kind 4. commit: also a tick of the first release that is below that of the last commit)
  *    9  cost 0 or over the task's E; the release (read: offset)
  *   10  over 1024 releases; 1024 (read: offset)
  *   11  read: a byte follows the end record; its offset
  *   12  some kept jitter is over J; the first such task
- *   13  an array is too short; the slots that it needs (a window: 546)
- *   14  there is no such task; the number given (a window: in the sheet on which it was opened)
- *   15  choice: no K fits; the first such task, of the high ones alone (see nolkrada_choice)
+ *   13  an array is too short; the slots that it needs (a window: 546; an offer that is written: 227; a board: 264)
+ *   14  there is no such task; the number given (a window: in the sheet on which it was opened; ask: a place over the count)
+ *   15  choice, and of a board open and ask: no K fits; the first such task, of the high ones alone (see nolkrada_choice)
  *   16  load: a line that is not P,J,E,D and a line feed; the line
- *   17  E + S is over P or over D; the task (read: offset of the task's record)
+ *   17  E + S is over P or over D; the task (read: offset of the task's record; ask: of the new task, its place)
  *   18  frame: ticks not 1 to 10000; 17. Then count not 1 to 16; 16. Then the first window that is empty, ends over the ticks or does
  *       not start after the end of the one before; the window. first + length is taken as a number, without wrapping
+ *   19  commit: the board holds another sheet or frame than the one asked of, or no ask on it gives this offer; 0
+ *   20  commit: `at` is below the tick of the last commit, or a finish is over it; 0
  * A line is its number in the text, from 0.
  * A call checks, in this order: the sheet (5, 4, then 6 and 17 of task 0, 6 and 17 of task 1, and so on), 18, 14, 10, 13 (arrays
  * by task, then by release, then bytes, then `answer`), 12, the releases in order (7, 8, 9), 15. A read checks the whole file, record
  * by record and the lower number first, and then 13 (`sheet`, then task, tick and cost, then `answer`). A load checks the whole text,
  * line by line: 16, then 4, then 6 on a line, 5 where there is none; and then 13 (`sheet`, then `answer`). nolkrada_monitor_open checks
  * the sheet and then 13. The other calls on a window check the window (13, then 5, then 4), then 14, then 13 (`answer`; jobs, then late,
- * then largest).
+ * then largest). nolkrada_board_open checks the sheet, 18, 13 (`board`), 15. nolkrada_board_ask checks the sheet held, 18, 14, then the
+ * new sheet (4, then 6 and 17 of the new task), 13 (`offer`), 15. nolkrada_board_commit checks the sheet and the frame that the board
+ * holds (5, 4, 6 and 17, 18), 10, 13 (task, tick, cost, then `board`), 12 of the kept jitters that it holds, the releases in order (7, 8,
+ * 9), 19, 20; of a board that calls alone have changed 5, 4, 6, 17, 18 and 12 do not come up. The offer and what it was asked of meet no
+ * check but 19.
  */
 #ifndef NOLKRADA_H
 #define NOLKRADA_H
@@ -158,12 +201,14 @@ extern "C" {
 
 /* The version of this interface. The archive has no symbol for it: take header and archive of one build. */
 #define NOLKRADA_VERSION_MAJOR 0
-#define NOLKRADA_VERSION_MINOR 10
+#define NOLKRADA_VERSION_MINOR 11
 #define NOLKRADA_VERSION_PATCH 0
-#define NOLKRADA_VERSION "0.10.0"
+#define NOLKRADA_VERSION "0.11.0"
 
-/* Tasks of a sheet, numbers of a sheet that is read or loaded (P, J, E, D and mark of 32 tasks), releases of a list. */
+/* Tasks of a sheet, numbers of a task (P, J, E, D and mark) and of a sheet that is read or loaded (those of 32 tasks), releases of a
+ * list. */
 #define NOLKRADA_MAX_TASKS 32
+#define NOLKRADA_TASK_NUMBERS 5
 #define NOLKRADA_SHEET_NUMBERS 160
 #define NOLKRADA_MAX_RELEASES 1024
 /* The largest charge. */
@@ -195,6 +240,9 @@ extern "C" {
 /* The jobs that a window counts, and its slots, uint64_t each. */
 #define NOLKRADA_WINDOW_JOBS 256
 #define NOLKRADA_WINDOW_SLOTS 546
+/* The numbers of an offer and of a board. */
+#define NOLKRADA_OFFER_NUMBERS 227
+#define NOLKRADA_BOARD_NUMBERS 264
 
 /* The numbers of the refusals. NOLKRADA_REFUSED_TASK_AFTER_RELEASE is also that of a charge that is not the first record. */
 enum {
@@ -215,7 +263,18 @@ enum {
     NOLKRADA_REFUSED_UNFIT = 15,
     NOLKRADA_REFUSED_LINE = 16,
     NOLKRADA_REFUSED_CHARGE = 17,
-    NOLKRADA_REFUSED_FRAME = 18
+    NOLKRADA_REFUSED_FRAME = 18,
+    NOLKRADA_REFUSED_STALE = 19,
+    NOLKRADA_REFUSED_TOO_SOON = 20
+};
+
+/* A task as the calls take it, for callers that fill a struct: see SHEET. */
+struct nolkrada_task {
+    uint32_t period;
+    uint32_t jitter;
+    uint32_t cost;
+    uint32_t deadline;
+    uint32_t mark;
 };
 
 /* A frame as the calls take it, for callers that fill a struct: see FRAME. */
@@ -227,6 +286,31 @@ struct nolkrada_frame {
         uint32_t length;
     } windows[NOLKRADA_MAX_WINDOWS];
 };
+
+/* An offer: a sheet, its charge and its choice. which is NOLKRADA_ORDINARY or NOLKRADA_HIGH_ONLY. */
+struct nolkrada_offer {
+    struct nolkrada_task tasks[NOLKRADA_MAX_TASKS];
+    uint32_t count;
+    uint32_t charge;
+    uint32_t which;
+    uint32_t kept[NOLKRADA_MAX_TASKS];
+    uint32_t worst[NOLKRADA_MAX_TASKS];
+};
+
+/* A board: the sheet and the choice in force, whether there is a frame, the frame, and the low and the high 32 bits of the tick of the
+ * last commit, 0 where there is none yet: see BOARD. */
+struct nolkrada_board {
+    struct nolkrada_offer plan;
+    uint32_t framed;
+    struct nolkrada_frame frame;
+    uint32_t last_low;
+    uint32_t last_high;
+};
+
+/* The tick of the last commit of a board, 0 where there is none yet. */
+static inline uint64_t nolkrada_board_last(const struct nolkrada_board *board) {
+    return (uint64_t)board->last_high << 32 | board->last_low;
+}
 
 /* The number and the place of a refusal. */
 static inline uint32_t nolkrada_number(uint64_t code) { return (uint32_t)(code >> 32); }
@@ -339,6 +423,30 @@ uint64_t nolkrada_monitor_show(const uint64_t *window, size_t window_length, uin
  *                                                                                           Refuses 13 5 4, 13 for the columns. */
 uint64_t nolkrada_monitor_show_all(const uint64_t *window, size_t window_length, uint32_t *jobs, size_t jobs_length, uint32_t *late,
                                    size_t late_length, uint64_t *largest, size_t largest_length);
+
+/* Open a board with a sheet, its frame and its choice, which is the one that nolkrada_choice makes. No commit was made: the last tick
+ * is 0. What the board held does not matter.
+ * board: NOLKRADA_BOARD_NUMBERS slots, all written.                                                Refuses 5 4 6 17 18 13 15. */
+uint64_t nolkrada_board_open(const uint32_t *sheet, size_t sheet_length, uint32_t count, uint8_t charge, const uint32_t *frame,
+                             size_t frame_length, uint32_t *board, size_t board_length);
+
+/* Ask for a new task: what the sheet becomes with it and what its choice is then. Nothing but the offer is written.
+ * sheet, frame: those held. task: P, J, E, D and mark of the new task, numbers past the end count as 0. place: its priority place, 0 for
+ * above all tasks, `count` for below them; the tasks from there on come one lower. The new sheet has the charge and the frame of the one
+ * held.
+ * offer: NOLKRADA_OFFER_NUMBERS slots, all written.                            Refuses 5 4 6 17 18, 14, 4 6 17 of the new sheet, 13 15. */
+uint64_t nolkrada_board_ask(const uint32_t *sheet, size_t sheet_length, uint32_t count, uint8_t charge, const uint32_t *frame,
+                            size_t frame_length, const uint32_t *task, size_t task_length, uint32_t place, uint32_t *offer,
+                            size_t offer_length);
+
+/* Commit an offer at a tick. sheet, count, charge, frame: what the offer was asked of. n, task, tick, cost: the releases since the last
+ * commit, with numbers of the tasks of the sheet in force, and ticks that count from the same tick 0 as ever.
+ * board: NOLKRADA_BOARD_NUMBERS slots, all written: sheet and choice of the offer, the frame that was held, and `at` as the tick of the
+ * last commit.                                                       Refuses 5 4 6 17 18 10 13 12 7 8 9 19 20: see REFUSALS and BOARD. */
+uint64_t nolkrada_board_commit(uint32_t *board, size_t board_length, const uint32_t *offer, size_t offer_length, const uint32_t *sheet,
+                               size_t sheet_length, uint32_t count, uint8_t charge, const uint32_t *frame, size_t frame_length,
+                               uint32_t n, const uint32_t *task, size_t task_length, const uint64_t *tick, size_t tick_length,
+                               const uint32_t *cost, size_t cost_length, uint64_t at);
 
 #ifdef __cplusplus
 }

@@ -1,7 +1,9 @@
 //! Compares the archive with the reference implementation: every answer, every lent slot, refusals with their place; and the run
-//! that jumps with the ticking run of the archive, where the ticks are not too many. The calls on a window are in monitor.rs.
+//! that jumps with the ticking run of the archive, where the ticks are not too many. The calls on a window are in monitor.rs, those on a
+//! board in board.rs.
 //! One argument may give another seed. The last line says how many calls were compared and how many differed.
 
+mod board;
 mod generator;
 mod library;
 mod monitor;
@@ -185,7 +187,7 @@ impl Case {
 #[derive(Default)]
 struct Tally {
     calls: [u64; NAMES.len()],
-    refusals: [u64; 19],
+    refusals: [u64; 21],
     /// How many of the calls were answered with a charge, and the charges; how many with a low task; and how many with a frame.
     charged: [u64; NAMES.len()],
     charges: BTreeSet<u8>,
@@ -226,12 +228,17 @@ struct Tally {
     displays: [u64; DISPLAYS.len()],
     most_jobs: usize,
     window_refusals: BTreeSet<(usize, u32, bool)>,
+    /// Of the commits: how many had each of board::COMMITS. How often each change of a commit that is accepted was made alone. And the
+    /// refusals of the calls on a board, by call, number and whether it is that the board is too short.
+    commits: [u64; board::COMMITS.len()],
+    forged: BTreeMap<&'static str, u64>,
+    board_refusals: BTreeSet<(usize, u32, bool)>,
     differences: u64,
 }
 
-const NAMES: [&str; 14] = [
+const NAMES: [&str; 17] = [
     "arrival count", "verdict", "choice", "trace check", "ready ticks", "run", "read", "write", "load", "jumping run", "monitor open",
-    "monitor take", "monitor show", "show all",
+    "monitor take", "monitor show", "show all", "board open", "board ask", "board commit",
 ];
 
 /// What the lists of t of a verdict may have: one member at q = 0, a last t over H after others, a first t over H; and more than one list.
@@ -263,7 +270,7 @@ const DISPLAYS: [&str; 11] = [
 /// of a show; 13, 5, 4 and 13 for the columns of a show of all.
 const WINDOW_REFUSALS: usize = 5 + 4 + 5 + 4;
 
-/// How often each end of a choice has to come up, and each of TRIED and of DISPLAYS.
+/// How often each end of a choice has to come up, and each of TRIED, of DISPLAYS and of board::COMMITS.
 const OFTEN: u64 = 2_000;
 const SOME: u64 = 100;
 
@@ -2929,11 +2936,25 @@ fn main() {
     timed("last jobs: the same, reopened", || monitor::long_runs(r, tally, &[3_000, 8_000], true));
     timed("last jobs: openings", || monitor::openings(r, tally, 40_000));
     timed("last jobs: slots that no call made", || monitor::any_slots(r, tally, 20_000));
+    timed("reference: what some ask gives", || board::check_reference(r, 10_000));
+    timed("boards: by hand", || board::by_hand(r, tally));
+    timed("boards: openings and asks, what decides", || board::ask_pairs(r, tally, 200, &[0, 0, 12]));
+    timed("boards: commits, every two changes", || board::pairs(r, tally, 300, &[0, 0, 12, 30]));
+    timed("boards: every number another", || board::every_number(r, tally, 80, &[0, 12]));
+    timed("boards: rows of every length", || board::rows(r, tally, 100, &[0, 12]));
+    timed("boards: asks and commits", || board::lives(r, tally, 4_000, &[1, 2, 3, 5], 40, &[0, 0, 0, 5, 12, 40]));
+    timed("boards: the same with long frames", || board::lives(r, tally, 40, &[1, 3], 30, &[1_000, MAX_FRAME]));
+    timed("boards: the same with many tasks", || board::lives(r, tally, 300, &[12, 24, 29], 30, &[0, 0, 12]));
+    timed("boards: up to 32 tasks", || board::full_sheets(r, tally, 300, &[0, 0, 12]));
+    timed("boards: equal tasks", || board::neighbours(r, tally, 600, &[0, 0, 12]));
+    timed("boards: ticks at the edges", || board::edge_ticks(r, tally, 30, &[0, 0, 12]));
+    timed("boards: up to 1,024 releases", || board::long_lists(r, tally, 120, &[200, 1023, 1024, 1024, 1025], &[0, 0, 12]));
+    timed("boards: numbers that no call made", || board::any_boards(r, tally, 20_000, &[0, 0, 12]));
     for (call, name) in NAMES.iter().enumerate() {
         let (charged, marked, framed) = (tally.charged[call], tally.marked[call], tally.framed[call]);
         println!("{:<14} {:8} calls, {} answered with a charge, {} with a low task, {} with a frame", name, tally.calls[call], charged, marked, framed);
     }
-    let each: Vec<String> = (1..19).map(|n| format!("{}: {}", n, tally.refusals[n])).collect();
+    let each: Vec<String> = (1..21).map(|n| format!("{}: {}", n, tally.refusals[n])).collect();
     println!("refusals by number  {}", each.join("  "));
     let [horizon, late, fits] = tally.verdicts;
     println!("verdicts  horizon {}  late {}  fits {}; too close {}; passed over {}", horizon, late, fits, tally.too_close, tally.passed_over);
@@ -2952,26 +2973,31 @@ fn main() {
     println!("largest ready tick {}, finish {}; too many ticks to be ticked through {}", tally.last_ready, tally.last_finish, tally.not_ticked);
     let displays: Vec<String> = DISPLAYS.iter().zip(tally.displays).map(|(name, n)| format!("{name} {n}")).collect();
     println!("tasks shown  {}; most jobs of a window {}", displays.join("  "), tally.most_jobs);
+    let commits: Vec<String> = board::COMMITS.iter().zip(tally.commits).map(|(name, n)| format!("{name} {n}")).collect();
+    println!("commits  {}", commits.join("  "));
+    println!("commits changed  {}", tally.forged.iter().map(|(name, n)| format!("{name} {n}")).collect::<Vec<String>>().join("  "));
     println!("outside comparison: {} calls, {} differences", tally.calls.iter().sum::<u64>(), tally.differences);
     let stops = tally.most_stops == 2 * MAX_RELEASES as u64 && tally.shared_stops > 0;
     let ticks = (tally.last_ready, tally.last_finish) == (1_000_001_023_000_000, 1_010_240_000_000_001);
     // a read, a load and the calls on a window have no frame, the other calls on values ignore it or take it
-    let frames = (0..NAMES.len()).all(|call| (tally.framed[call] > 0) != matches!(call, 6 | 8 | 10..))
+    let frames = (0..NAMES.len()).all(|call| (tally.framed[call] > 0) != matches!(call, 6 | 8 | 10..=13))
         && tally.frame_places.len() == 18
         && !tally.framed_verdicts.contains(&0)
         && !tally.unlike_none.contains(&0);
     // a load has no charge and no low task; of the calls on a window only an opening has a sheet
-    let charges = tally.charges.len() == 255 && (0..NAMES.len()).all(|call| (tally.charged[call] > 0) != matches!(call, 8 | 11..));
-    let marks = tally.wrong_marks.len() == 255 && (0..NAMES.len()).all(|call| (tally.marked[call] > 0) != matches!(call, 8 | 11..));
+    let charges = tally.charges.len() == 255 && (0..NAMES.len()).all(|call| (tally.charged[call] > 0) != matches!(call, 8 | 11..=13));
+    let marks = tally.wrong_marks.len() == 255 && (0..NAMES.len()).all(|call| (tally.marked[call] > 0) != matches!(call, 8 | 11..=13));
     let ends = tally.ends.iter().all(|&n| n >= OFTEN);
     let sets = tally.tried.iter().all(|&n| n >= SOME);
     let lists = !tally.lists.contains(&0) && tally.most_evaluations > 1_000_000 && tally.added_up > 0;
-    let numbers = !(1..19).any(|n| tally.refusals[n] == 0) && !tally.verdicts.contains(&0);
+    let numbers = !(1..21).any(|n| tally.refusals[n] == 0) && !tally.verdicts.contains(&0);
     let windows = tally.displays.iter().all(|&n| n >= SOME) && tally.most_jobs >= 15_000 && tally.window_refusals.len() == WINDOW_REFUSALS;
-    let missing = !(numbers && lists && stops && ticks && charges && marks && ends && sets && frames && windows);
+    let boards = tally.commits.iter().all(|&n| n >= SOME) && board::forged_often(tally, 20) && tally.board_refusals.len() == board::REFUSALS;
+    let missing = !(numbers && lists && stops && ticks && charges && marks && ends && sets && frames && windows && boards);
     if missing {
         println!("some refusal, verdict, kind of list, number of evaluations or stops, largest tick, charge, mark, frame or choice never came up");
-        println!("or, of the choices with low tasks, of the sheets all of whose sets of kept jitters were tried or of the displays, not often enough");
+        println!("or, of the choices with low tasks, of the sheets all of whose sets of kept jitters were tried, of the displays or of the commits,");
+        println!("not often enough");
     }
     std::process::exit(if tally.differences == 0 && !missing { 0 } else { 1 });
 }

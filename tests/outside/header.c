@@ -1,7 +1,7 @@
 /*
  * The constants of include/nolkrada.h: the limits of documents 01 and 02, the sizes of files and texts, the largest charge, the
  * largest finish and the most stops of a run, each refusal by its name, verdicts with their evaluations, choices with marks, frames,
- * and windows of the last jobs, got from the archive.
+ * windows of the last jobs, and boards, got from the archive.
  */
 #include <stddef.h>
 #include <stdio.h>
@@ -13,8 +13,16 @@
 
 SAME(NOLKRADA_MAX_TASKS, 32);
 SAME(NOLKRADA_MAX_RELEASES, 1024);
-/* P, J, E, D and the mark of each task. */
-SAME(NOLKRADA_SHEET_NUMBERS, 5 * NOLKRADA_MAX_TASKS);
+/* P, J, E, D and the mark of each task, and the struct of the same layout. */
+SAME(NOLKRADA_TASK_NUMBERS, 5);
+SAME(NOLKRADA_SHEET_NUMBERS, NOLKRADA_TASK_NUMBERS * NOLKRADA_MAX_TASKS);
+SAME(sizeof(struct nolkrada_task), NOLKRADA_TASK_NUMBERS * sizeof(uint32_t));
+SAME(_Alignof(struct nolkrada_task), _Alignof(uint32_t));
+SAME(offsetof(struct nolkrada_task, period), 0);
+SAME(offsetof(struct nolkrada_task, jitter), 4);
+SAME(offsetof(struct nolkrada_task, cost), 8);
+SAME(offsetof(struct nolkrada_task, deadline), 12);
+SAME(offsetof(struct nolkrada_task, mark), 16);
 /* A ready tick plus 1 and a finish of each release. */
 SAME(NOLKRADA_MAX_STOPS, 2 * NOLKRADA_MAX_RELEASES);
 /* Both have 64 bits; one of kind 2 has four bytes in a file. */
@@ -35,6 +43,29 @@ SAME(offsetof(struct nolkrada_frame, count), 4);
 SAME(offsetof(struct nolkrada_frame, windows), 8);
 SAME(offsetof(struct nolkrada_frame, windows[1].first), 16);
 SAME(offsetof(struct nolkrada_frame, windows[NOLKRADA_MAX_WINDOWS - 1].length), 4 * (NOLKRADA_FRAME_NUMBERS - 1));
+/* Tasks, count, charge, which choice, kept jitters and worst values: the row of an offer, and the struct of the same layout. */
+SAME(NOLKRADA_OFFER_NUMBERS, NOLKRADA_SHEET_NUMBERS + 3 + 2 * NOLKRADA_MAX_TASKS);
+SAME(sizeof(struct nolkrada_offer), NOLKRADA_OFFER_NUMBERS * sizeof(uint32_t));
+SAME(_Alignof(struct nolkrada_offer), _Alignof(uint32_t));
+SAME(offsetof(struct nolkrada_offer, tasks), 0);
+SAME(offsetof(struct nolkrada_offer, tasks[1].period), 4 * 5);
+SAME(offsetof(struct nolkrada_offer, count), 4 * 160);
+SAME(offsetof(struct nolkrada_offer, charge), 4 * 161);
+SAME(offsetof(struct nolkrada_offer, which), 4 * 162);
+SAME(offsetof(struct nolkrada_offer, kept), 4 * 163);
+SAME(offsetof(struct nolkrada_offer, worst), 4 * 195);
+/* The same, whether there is a frame, the frame, and two halves of a tick: the row of a board, and its struct. */
+SAME(NOLKRADA_BOARD_NUMBERS, NOLKRADA_OFFER_NUMBERS + 1 + NOLKRADA_FRAME_NUMBERS + 2);
+SAME(NOLKRADA_BOARD_NUMBERS * sizeof(uint32_t), 1056);
+SAME(sizeof(struct nolkrada_board), NOLKRADA_BOARD_NUMBERS * sizeof(uint32_t));
+SAME(_Alignof(struct nolkrada_board), _Alignof(uint32_t));
+SAME(offsetof(struct nolkrada_board, plan), 0);
+SAME(offsetof(struct nolkrada_board, framed), 4 * 227);
+SAME(offsetof(struct nolkrada_board, frame), 4 * 228);
+SAME(offsetof(struct nolkrada_board, frame.count), 4 * 229);
+SAME(offsetof(struct nolkrada_board, frame.windows), 4 * 230);
+SAME(offsetof(struct nolkrada_board, last_low), 4 * 262);
+SAME(offsetof(struct nolkrada_board, last_high), 4 * 263);
 /* A charge has one byte. */
 SAME(NOLKRADA_MAX_CHARGE, UINT8_MAX);
 /* Low tasks, of kind 6, have the longest records. */
@@ -549,21 +580,203 @@ static void last_jobs(void) {
     if (window[NOLKRADA_WINDOW_SLOTS] != BEHIND) wrong = 1;
 }
 
+/* One board, with one number more behind it, which no call may change. */
+static struct {
+    struct nolkrada_board now;
+    uint32_t behind;
+} held;
+#define BOARD &held.now.plan.tasks[0].period, NOLKRADA_BOARD_NUMBERS
+#define OFFER(offer) &(offer).tasks[0].period, NOLKRADA_OFFER_NUMBERS
+/* The sheet and the frame of a board. */
+#define ASKED_OF(board)                                                                                                                 \
+    &(board).plan.tasks[0].period, NOLKRADA_SHEET_NUMBERS, (board).plan.count, (uint8_t)(board).plan.charge, &(board).frame.ticks,     \
+        (board).framed ? NOLKRADA_FRAME_NUMBERS : 0
+
+/* The releases of a commit. */
+static uint32_t since;
+
+static uint64_t commit_with(const struct nolkrada_offer *offer, const struct nolkrada_board *asked, uint64_t at) {
+    return nolkrada_board_commit(BOARD, OFFER(*offer), ASKED_OF(*asked), since, task, NOLKRADA_MAX_RELEASES, tick, NOLKRADA_MAX_RELEASES,
+                                 cost, NOLKRADA_MAX_RELEASES, at);
+}
+
+/* A commit that is refused leaves the board and the offer as they were. */
+static void expect_refused(const char *name, const struct nolkrada_offer *offer, const struct nolkrada_board *asked, uint64_t at,
+                           uint32_t number, uint32_t place) {
+    const struct nolkrada_board before = held.now;
+    const struct nolkrada_offer given = *offer;
+    expect(name, commit_with(offer, asked, at), number, place);
+    if (memcmp(&before, &held.now, sizeof before) == 0 && memcmp(&given, offer, sizeof given) == 0 && held.behind == 77) return;
+    printf("%s: something is changed\n", name);
+    wrong = 1;
+}
+
+/* A board on tasks 0 and 2 of the printed sheet with a deadline of 11, to which task 1 is added. With kept jitters 2 and 0 jobs of both at
+ * tick 0 are finished at 3 and 5. */
+static void boards(void) {
+    static const struct nolkrada_task two[2] = {{6, 5, 2, 6, 0}, {10, 0, 2, 11, 0}}, middle = {8, 7, 2, 8, 0}, foot = {100, 0, 1, 100, 9};
+    static const struct nolkrada_task none, unfit_task = {8, 7, 2, 2, 0}, large = {6, 0, 3, 6, 0};
+    static const struct nolkrada_frame nine = {10, 2, {{0, 4}, {5, 5}}};
+    static const uint32_t kept[3] = {2, 4, 0}, worst[3] = {6, 8, 11};
+    struct nolkrada_board asked, other, stored;
+    struct nolkrada_offer offer, forged, filled;
+    memset(&held, 0xff, sizeof held);
+    held.behind = 77;
+    for (size_t n = 0; n < NOLKRADA_BOARD_NUMBERS; n += NOLKRADA_BOARD_NUMBERS - 1)
+        expect("short board", nolkrada_board_open(&two[0].period, 10, 2, 0, NO_FRAME, &held.now.plan.tasks[0].period, n),
+               NOLKRADA_REFUSED_SHORT_ARRAY, NOLKRADA_BOARD_NUMBERS);
+    expect("unfit", nolkrada_board_open(&unfit_task.period, 5, 1, 0, NO_FRAME, BOARD), NOLKRADA_REFUSED_UNFIT, 0);
+    expect("no task", nolkrada_board_open(&two[0].period, 10, 0, 0, NO_FRAME, BOARD), NOLKRADA_REFUSED_NO_TASK, 0);
+    if (held.now.plan.count != UINT32_MAX || nolkrada_board_last(&held.now) != UINT64_MAX) wrong = 1;
+    expect("open", nolkrada_board_open(&two[0].period, 10, 2, 0, NO_FRAME, BOARD), 0, 0);
+    if (held.now.plan.count != 2 || held.now.plan.kept[0] != 2 || held.now.plan.kept[1] != 0 || held.now.plan.worst[0] != 6) wrong = 1;
+    if (memcmp(held.now.plan.tasks, two, sizeof two) != 0 || held.now.plan.which != NOLKRADA_ORDINARY || held.now.framed != 0) wrong = 1;
+    if (memcmp(&held.now.plan.tasks[2], &none, sizeof none) != 0 || held.now.plan.kept[2] != 0 || held.now.frame.ticks != 0) wrong = 1;
+    if (nolkrada_board_last(&held.now) != 0 || held.behind != 77) wrong = 1;
+
+    /* Asks: nothing but the offer is written, and that not where it is refused. */
+    stored = asked = held.now;
+    memset(&offer, 0xff, sizeof offer);
+    expect("place", nolkrada_board_ask(ASKED_OF(asked), &none.period, 5, 3, &offer.tasks[0].period, 0), NOLKRADA_REFUSED_NO_SUCH_TASK, 3);
+    expect("range of the new task", nolkrada_board_ask(ASKED_OF(asked), &middle.period, 3, 2, &offer.tasks[0].period, 0),
+           NOLKRADA_REFUSED_RANGE, 2);
+    expect("charge over the new task",
+           nolkrada_board_ask(&two[0].period, 10, 2, 4, NO_FRAME, &large.period, 5, 0, &offer.tasks[0].period, 0), NOLKRADA_REFUSED_CHARGE, 0);
+    expect("short offer", nolkrada_board_ask(ASKED_OF(asked), &unfit_task.period, 5, 0, &offer.tasks[0].period, NOLKRADA_OFFER_NUMBERS - 1),
+           NOLKRADA_REFUSED_SHORT_ARRAY, NOLKRADA_OFFER_NUMBERS);
+    expect("unfit with the new task", nolkrada_board_ask(ASKED_OF(asked), &unfit_task.period, 5, 1, OFFER(offer)), NOLKRADA_REFUSED_UNFIT, 1);
+    for (uint32_t i = 0; i < NOLKRADA_MAX_TASKS; i++) memcpy(sheet + 5 * i, &foot, sizeof foot);
+    expect("32 tasks", nolkrada_board_ask(sheet, 160, 32, 0, NO_FRAME, &foot.period, 5, 32, OFFER(offer)), NOLKRADA_REFUSED_TOO_MANY_TASKS, 32);
+    if (offer.count != UINT32_MAX || offer.worst[31] != UINT32_MAX) wrong = 1;
+    expect("ask", nolkrada_board_ask(ASKED_OF(held.now), &middle.period, 5, 1, OFFER(offer)), 0, 0);
+    if (offer.count != 3 || offer.charge != 0 || offer.which != NOLKRADA_ORDINARY || memcmp(&offer.tasks[1], &middle, sizeof middle) != 0) wrong = 1;
+    if (memcmp(offer.kept, kept, sizeof kept) != 0 || memcmp(offer.worst, worst, sizeof worst) != 0 || offer.kept[3] != 0) wrong = 1;
+    if (memcmp(&stored, &held.now, sizeof stored) != 0) wrong = 1;
+
+    /* Commits that are refused: the releases, then 19, then 20. */
+    since = 2;
+    for (uint32_t p = 0; p < since; p++) task[p] = p, tick[p] = 0, cost[p] = 2;
+    expect_refused("a finish over the tick", &offer, &asked, 4, NOLKRADA_REFUSED_TOO_SOON, 0);
+    forged = offer;
+    forged.kept[1]++;
+    expect_refused("a kept jitter that is raised", &forged, &asked, 4, NOLKRADA_REFUSED_STALE, 0);
+    forged = offer;
+    forged.worst[2]--;
+    expect_refused("a worst value", &forged, &asked, 5, NOLKRADA_REFUSED_STALE, 0);
+    forged = offer;
+    forged.which = NOLKRADA_HIGH_ONLY;
+    expect_refused("which choice", &forged, &asked, 5, NOLKRADA_REFUSED_STALE, 0);
+    other = asked;
+    other.framed = 1;
+    other.frame = nine;
+    expect_refused("another frame", &offer, &other, 5, NOLKRADA_REFUSED_STALE, 0);
+    other = asked;
+    other.plan.charge = 1;
+    expect_refused("another charge", &offer, &other, 5, NOLKRADA_REFUSED_STALE, 0);
+    task[1] = 2;
+    expect_refused("a task that is not in force yet", &offer, &asked, 5, NOLKRADA_REFUSED_RELEASE_TASK, 1);
+    task[1] = 1, cost[1] = 3;
+    expect_refused("a cost", &forged, &asked, 0, NOLKRADA_REFUSED_RELEASE_COST, 1);
+    cost[1] = 2, since = 1025;
+    expect_refused("too many releases", &offer, &asked, 5, NOLKRADA_REFUSED_TOO_MANY_RELEASES, 1024);
+    since = 2;
+    expect("short column", nolkrada_board_commit(BOARD, OFFER(offer), ASKED_OF(asked), 2, task, 2, tick, 1, cost, 2, 5),
+           NOLKRADA_REFUSED_SHORT_ARRAY, 2);
+    expect("short board, commit",
+           nolkrada_board_commit(&held.now.plan.tasks[0].period, NOLKRADA_BOARD_NUMBERS - 1, OFFER(offer), ASKED_OF(asked), 2, task, 2, tick, 2,
+                                 cost, 2, 5),
+           NOLKRADA_REFUSED_SHORT_ARRAY, NOLKRADA_BOARD_NUMBERS);
+    if (memcmp(&stored, &held.now, sizeof stored) != 0) wrong = 1;
+
+    /* At the last finish, with other numbers past the counts, which are not written, and a row that ends after its last worst value. */
+    filled = offer;
+    memset(&filled.tasks[3], 0xff, 29 * sizeof filled.tasks[3]);
+    memset(&filled.kept[3], 0xff, 29 * sizeof filled.kept[3]);
+    filled.charge = 256;
+    expect("commit",
+           nolkrada_board_commit(BOARD, &filled.tasks[0].period, 195 + 3, ASKED_OF(asked), 2, task, 2, tick, 2, cost, 2, 5), 0, 0);
+    if (memcmp(&held.now.plan, &offer, sizeof offer) != 0 || held.now.framed != 0 || nolkrada_board_last(&held.now) != 5) wrong = 1;
+
+    /* The offer is stale now. Releases are at 5 or later, and the tick too. */
+    expect_refused("the same offer again", &offer, &asked, 5, NOLKRADA_REFUSED_RELEASE_TICK, 0);
+    tick[0] = tick[1] = 5;
+    expect_refused("a stale offer", &offer, &asked, 100, NOLKRADA_REFUSED_STALE, 0);
+    asked = held.now;
+    expect_refused("an offer that was asked of another sheet", &offer, &asked, 0, NOLKRADA_REFUSED_STALE, 0);
+    expect("ask again", nolkrada_board_ask(ASKED_OF(asked), &foot.period, 5, 3, OFFER(offer)), 0, 0);
+    if (offer.tasks[3].mark != 1 || offer.count != 4) wrong = 1;
+    expect_refused("a finish over the tick again", &offer, &asked, 9, NOLKRADA_REFUSED_TOO_SOON, 0);
+    since = 0;
+    expect_refused("before the last commit", &offer, &asked, 4, NOLKRADA_REFUSED_TOO_SOON, 0);
+    since = 2;
+    expect("second commit", commit_with(&offer, &asked, UINT64_C(1) << 40), 0, 0);
+    if (nolkrada_board_last(&held.now) != UINT64_C(1) << 40 || held.now.last_low != 0 || held.now.last_high != 256) wrong = 1;
+    expect_refused("a release before the last commit", &offer, &asked, UINT64_MAX, NOLKRADA_REFUSED_RELEASE_TICK, 0);
+    since = 0, asked = held.now;
+    expect("third ask", nolkrada_board_ask(ASKED_OF(asked), &foot.period, 5, 4, OFFER(offer)), 0, 0);
+    expect_refused("a tick of 39 bits", &offer, &asked, UINT64_C(1) << 39, NOLKRADA_REFUSED_TOO_SOON, 0);
+    expect("third commit, at the tick of the last", commit_with(&offer, &asked, UINT64_C(1) << 40), 0, 0);
+    asked = held.now;
+    expect("fourth ask", nolkrada_board_ask(ASKED_OF(asked), &foot.period, 5, 3, OFFER(offer)), 0, 0);
+    expect("fourth commit, at the largest tick", commit_with(&offer, &asked, UINT64_MAX), 0, 0);
+    since = 1, tick[0] = NOLKRADA_MAX_TICK;
+    expect_refused("no release any more", &offer, &asked, UINT64_MAX, NOLKRADA_REFUSED_RELEASE_TICK, 0);
+
+    /* With a frame, which stays: one job that is ready at 3 is finished at 7. */
+    expect("open with a frame", nolkrada_board_open(&two[0].period, 5, 1, 0, WITH(nine), BOARD), 0, 0);
+    if (held.now.framed != 1 || memcmp(&held.now.frame, &nine, sizeof nine) != 0 || held.now.plan.kept[0] != 3) wrong = 1;
+    asked = held.now;
+    expect("ask with a frame", nolkrada_board_ask(ASKED_OF(asked), &foot.period, 5, 1, OFFER(offer)), 0, 0);
+    since = 1, task[0] = 0, tick[0] = 3, cost[0] = 2;
+    other = asked;
+    other.framed = 0;
+    expect_refused("without its frame", &offer, &other, 7, NOLKRADA_REFUSED_STALE, 0);
+    expect_refused("a finish over the tick with a frame", &offer, &asked, 6, NOLKRADA_REFUSED_TOO_SOON, 0);
+    expect("commit with a frame", commit_with(&offer, &asked, 7), 0, 0);
+    if (held.now.framed != 1 || memcmp(&held.now.frame, &nine, sizeof nine) != 0 || held.now.plan.count != 2) wrong = 1;
+
+    /* Boards that no call made. */
+    held.now.plan.kept[1] = 1;
+    expect_refused("a kept jitter over J", &offer, &asked, 7, NOLKRADA_REFUSED_KEPT, 1);
+    memset(&held.now, 0xff, sizeof held.now);
+    expect_refused("a board of ones", &offer, &asked, 7, NOLKRADA_REFUSED_TOO_MANY_TASKS, 32);
+    memset(&held.now, 0, sizeof held.now);
+    expect_refused("a board of zeros", &offer, &asked, 7, NOLKRADA_REFUSED_NO_TASK, 0);
+    if (held.behind != 77) wrong = 1;
+}
+
 /* The calling convention leaves open what stands above the byte of a charge in its register: the archive looks at the byte alone. */
 typedef uint64_t (*whole_register)(const uint32_t *, size_t, uint32_t, uint32_t, const uint32_t *, size_t, uint32_t,
                                    const uint32_t *, size_t, uint64_t *, size_t);
 typedef uint64_t (*whole_register_open)(const uint32_t *, size_t, uint32_t, uint32_t, uint64_t *, size_t);
+typedef uint64_t (*whole_register_board)(const uint32_t *, size_t, uint32_t, uint32_t, const uint32_t *, size_t, uint32_t *, size_t);
+typedef uint64_t (*whole_register_ask)(const uint32_t *, size_t, uint32_t, uint32_t, const uint32_t *, size_t, const uint32_t *, size_t,
+                                       uint32_t, uint32_t *, size_t);
+typedef uint64_t (*whole_slot_commit)(uint32_t *, size_t, const uint32_t *, size_t, const uint32_t *, size_t, uint32_t, uint32_t,
+                                      const uint32_t *, size_t, uint32_t, const uint32_t *, size_t, const uint64_t *, size_t,
+                                      const uint32_t *, size_t, uint64_t);
 
 static void upper_bits(void) {
     static const uint32_t none[3] = {0, 0, 0};
     uint64_t other[4];
     whole_register verdict = (whole_register)(void (*)(void))nolkrada_verdict;
     whole_register_open open = (whole_register_open)(void (*)(void))nolkrada_monitor_open;
+    whole_register_board open_board = (whole_register_board)(void (*)(void))nolkrada_board_open;
+    whole_register_ask ask = (whole_register_ask)(void (*)(void))nolkrada_board_ask;
+    whole_slot_commit commit = (whole_slot_commit)(void (*)(void))nolkrada_board_commit;
+    static const struct nolkrada_task first = {60, 0, 2, 60, 0}, second = {80, 0, 2, 70, 0};
     for (uint32_t c = 0; c < 6; c++) {
         uint64_t code = nolkrada_verdict(printed, PRINTED, 3, (uint8_t)c, NO_FRAME, 1, none, 3, answer, 4);
         if (verdict(printed, PRINTED, 3, UINT32_C(0xabcdef00) + c, NO_FRAME, 1, none, 3, other, 4) != code) wrong = 1;
         if (code == 0 && memcmp(answer, other, sizeof other) != 0) wrong = 1;
         if (open(printed, PRINTED, 3, UINT32_C(0xabcdef00) + c, WINDOW) != nolkrada_monitor_open(printed, PRINTED, 3, (uint8_t)c, WINDOW)) wrong = 1;
+        struct nolkrada_offer offer;
+        expect("open, upper bits", open_board(&first.period, 5, 1, UINT32_C(0xabcdef00) + c, NO_FRAME, BOARD), 0, 0);
+        expect("ask, upper bits", ask(&first.period, 5, 1, UINT32_C(0xabcdef00) + c, NO_FRAME, &second.period, 5, 1, OFFER(offer)), 0, 0);
+        if (held.now.plan.charge != c || offer.charge != c) wrong = 1;
+        expect("commit, upper bits",
+               commit(BOARD, OFFER(offer), &first.period, 5, 1, UINT32_C(0xabcdef00) + c, NO_FRAME, 0, task, 0, tick, 0, cost, 0, 9), 0, 0);
+        if (memcmp(&held.now.plan, &offer, sizeof offer) != 0) wrong = 1;
     }
 }
 
@@ -582,7 +795,8 @@ int main(void) {
     jumps();
     frames();
     last_jobs();
+    boards();
     puts(wrong ? "header: something is not as it says"
-               : "header: limits, sizes, refusals, verdicts, evaluations, marks, charge, pickup, frames, largest finish, stops and last jobs as it says");
+               : "header: limits, sizes, refusals, verdicts, evaluations, marks, charge, pickup, frames, largest finish, stops, last jobs and boards as it says");
     return wrong;
 }

@@ -57,6 +57,19 @@ extern "C" {
         window: *const u64, window_length: usize, jobs: *mut u32, jobs_length: usize, late: *mut u32, late_length: usize,
         largest: *mut u64, largest_length: usize,
     ) -> u64;
+    fn nolkrada_board_open(
+        sheet: *const u32, sheet_length: usize, count: u32, charge: u8, frame: *const u32, frame_length: usize, board: *mut u32,
+        board_length: usize,
+    ) -> u64;
+    fn nolkrada_board_ask(
+        sheet: *const u32, sheet_length: usize, count: u32, charge: u8, frame: *const u32, frame_length: usize, task: *const u32,
+        task_length: usize, place: u32, offer: *mut u32, offer_length: usize,
+    ) -> u64;
+    fn nolkrada_board_commit(
+        board: *mut u32, board_length: usize, offer: *const u32, offer_length: usize, sheet: *const u32, sheet_length: usize,
+        count: u32, charge: u8, frame: *const u32, frame_length: usize, n: u32, task: *const u32, task_length: usize,
+        tick: *const u64, tick_length: usize, cost: *const u32, cost_length: usize, at: u64,
+    ) -> u64;
 }
 
 /// Columns of releases, each with a length of its own.
@@ -186,6 +199,35 @@ pub fn monitor_show_all(window: &[u64], jobs: &mut [u32], late: &mut [u32], larg
         nolkrada_monitor_show_all(
             window.as_ptr(), window.len(), jobs.as_mut_ptr(), jobs.len(), late.as_mut_ptr(), late.len(), largest.as_mut_ptr(),
             largest.len(),
+        )
+    }
+}
+
+pub fn board_open(sheet: &[u32], count: u32, charge: u8, frame: &[u32], board: &mut [u32]) -> u64 {
+    unsafe {
+        nolkrada_board_open(
+            sheet.as_ptr(), sheet.len(), count, charge, frame.as_ptr(), frame.len(), board.as_mut_ptr(), board.len(),
+        )
+    }
+}
+
+pub fn board_ask(sheet: &[u32], count: u32, charge: u8, frame: &[u32], task: &[u32], place: u32, offer: &mut [u32]) -> u64 {
+    unsafe {
+        nolkrada_board_ask(
+            sheet.as_ptr(), sheet.len(), count, charge, frame.as_ptr(), frame.len(), task.as_ptr(), task.len(), place,
+            offer.as_mut_ptr(), offer.len(),
+        )
+    }
+}
+
+pub fn board_commit(
+    board: &mut [u32], offer: &[u32], sheet: &[u32], count: u32, charge: u8, frame: &[u32], n: u32, list: Columns, at: u64,
+) -> u64 {
+    unsafe {
+        nolkrada_board_commit(
+            board.as_mut_ptr(), board.len(), offer.as_ptr(), offer.len(), sheet.as_ptr(), sheet.len(), count, charge,
+            frame.as_ptr(), frame.len(), n, list.task.as_ptr(), list.task.len(), list.tick.as_ptr(), list.tick.len(),
+            list.cost.as_ptr(), list.cost.len(), at,
         )
     }
 }

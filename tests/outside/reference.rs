@@ -1,10 +1,11 @@
 //! An implementation of document 01 with document 02's text sheets, pickup, long ticks, charge for each switch,
-//! stops of a run, last 256 jobs, evaluations of a verdict, marks and windows in a frame, for comparison,
-//! written from their words alone. It shares no code and no method with the library: ready ticks and the trace check look at every pair
-//! of jobs, W(q) is found by walking over the ticks at which the demand steps, the choice tries every K in rising order, the ticking run
-//! is compared with one from event to event and the run that jumps with one that allots free ticks job by job, a file is taken apart in
-//! one pass, and a text is split into whole lines and fields. Of a frame every start and every tick is looked at: our ticks are counted
-//! one by one. Every job since a window was opened is kept, and the last 256 are counted anew whenever they are shown.
+//! stops of a run, last 256 jobs, evaluations of a verdict, marks, windows in a frame and asks and commits
+//! for comparison, written from their words alone. It shares no code and no method with the library: ready ticks and the trace
+//! check look at every pair of jobs, W(q) is found by walking over the ticks at which the demand steps, the choice tries every K in rising
+//! order, the ticking run is compared with one from event to event and the run that jumps with one that allots free ticks job by job, a
+//! file is taken apart in one pass, and a text is split into whole lines and fields. Of a frame every start and every tick is looked at:
+//! our ticks are counted one by one. Every job since a window was opened is kept, and the last 256 are counted anew whenever they are
+//! shown. Whether some ask gives an offer is decided by asking at every place.
 //! Only what R-8 counts is gone through as it is counted: the lists of t, and the walk over q of a choice. No answer is taken from them.
 //! And the slots of a lent window are written by their layout, beside the jobs, for windows that no call made.
 
@@ -1234,4 +1235,196 @@ pub fn show_tasks(window: &[u64], slots: [usize; 3]) -> Result<Vec<Shown>, Refus
         check_slots(s, tasks)?;
     }
     Ok((0..tasks).map(|task| shown_in(window, task)).collect())
+}
+
+// ---- Ask first, then commit --------------------------------------------------------------------------------------------
+
+/// The numbers of a row of an offer and of a board.
+pub const OFFER_NUMBERS: usize = 227;
+pub const BOARD_NUMBERS: usize = 264;
+
+/// What an ask gives, or what is in force: a sheet and its choice. The sheet has the frame that stands beside it.
+#[derive(Clone, Debug, PartialEq, Eq)]
+pub struct Offer {
+    pub sheet: Sheet,
+    pub chosen: Chosen,
+}
+
+/// A board: what is in force, and the tick of the last commit, 0 where there is none yet.
+#[derive(Clone, Debug, PartialEq, Eq)]
+pub struct Board {
+    pub plan: Offer,
+    pub last: u64,
+}
+
+fn same_frame(a: &Option<Frame>, b: &Option<Frame>) -> bool {
+    match (a, b) {
+        (None, None) => true,
+        (Some(a), Some(b)) => {
+            (a.ticks, a.count) == (b.ticks, b.count) && (0..a.count.min(MAX_WINDOWS)).all(|k| a.window(k) == b.window(k))
+        }
+        _ => false,
+    }
+}
+
+/// Whether two sheets are the same, with their frames. Entries and windows past the counts do not matter.
+pub fn same_sheet(a: &Sheet, b: &Sheet) -> bool {
+    (a.count, a.charge) == (b.count, b.charge)
+        && (0..a.count.min(MAX_TASKS)).all(|i| a.task(i) == b.task(i))
+        && same_frame(&a.frame, &b.frame)
+}
+
+impl Sheet {
+    /// The same sheet with one more task at this place: those from there on are one lower.
+    pub fn with_task(&self, place: usize, task: Task) -> Sheet {
+        let mut tasks: Vec<Task> = (0..self.count).map(|i| self.task(i)).collect();
+        tasks.insert(place, task);
+        Sheet { count: tasks.len(), tasks, ..self.clone() }
+    }
+}
+
+/// The number at a place of a row, 0 past its end.
+fn number_at(row: &[u32], place: usize) -> u32 {
+    row.get(place).copied().unwrap_or(0)
+}
+
+/// The offer that a row stands for, on a sheet with this frame. Entries past the count are left out.
+pub fn offer_in(row: &[u32], frame: Option<Frame>) -> Offer {
+    let at = |place: usize| number_at(row, place);
+    let count = at(160) as usize;
+    let tasks: Vec<Task> = (0..count.min(MAX_TASKS))
+        .map(|i| Task { p: at(5 * i), j: at(5 * i + 1), e: at(5 * i + 2), d: at(5 * i + 3), low: at(5 * i + 4) != 0 })
+        .collect();
+    let column = |first: usize| (0..tasks.len()).map(|i| at(first + i)).collect();
+    let chosen = Chosen { kept: column(163), worst: column(195), high_only: at(162) != 0 };
+    Offer { sheet: Sheet { count, tasks, charge: (at(161) % 256) as u8, frame }, chosen }
+}
+
+/// The board that a row stands for. Windows past the count are left out.
+pub fn board_in(row: &[u32]) -> Board {
+    let at = |place: usize| number_at(row, place);
+    let count = at(229) as usize;
+    let windows = (0..count.min(MAX_WINDOWS)).map(|k| (at(230 + 2 * k), at(231 + 2 * k))).collect();
+    let frame = if at(227) == 0 { None } else { Some(Frame { ticks: at(228), count, windows }) };
+    Board { plan: offer_in(row, frame), last: at(262) as u64 + ((at(263) as u64) << 32) }
+}
+
+/// The row of an offer: all that is past the count is 0.
+pub fn row_of_offer(offer: &Offer) -> Vec<u32> {
+    let mut row = vec![0; OFFER_NUMBERS];
+    for (i, t) in offer.sheet.tasks.iter().take(offer.sheet.count).enumerate() {
+        row[5 * i..5 * i + 5].copy_from_slice(&[t.p, t.j, t.e, t.d, t.low as u32]);
+        (row[163 + i], row[195 + i]) = (offer.chosen.kept[i], offer.chosen.worst[i]);
+    }
+    row[160..163].copy_from_slice(&[offer.sheet.count as u32, offer.sheet.charge as u32, offer.chosen.high_only as u32]);
+    row
+}
+
+/// The row of a board: what is past the count of the windows is 0, and all of a frame where there is none.
+pub fn row_of_board(board: &Board) -> Vec<u32> {
+    let mut row = row_of_offer(&board.plan);
+    row.resize(BOARD_NUMBERS, 0);
+    if let Some(frame) = &board.plan.sheet.frame {
+        row[227..230].copy_from_slice(&[1, frame.ticks, frame.count as u32]);
+        for (k, &(first, length)) in frame.windows.iter().take(frame.count).enumerate() {
+            row[230 + 2 * k..232 + 2 * k].copy_from_slice(&[first, length]);
+        }
+    }
+    (row[262], row[263]) = (board.last as u32, (board.last >> 32) as u32);
+    row
+}
+
+/// A choice that is made where its checks are passed.
+fn plan_of(
+    sheet: &Sheet,
+    checks: Result<(), Refusal>,
+    budget: &mut Budget,
+) -> Result<Result<Offer, Refusal>, Exhausted> {
+    if let Err(r) = checks {
+        return Ok(Err(r));
+    }
+    Ok(choice(sheet, MAX_TASKS, MAX_TASKS, budget)?.map(|chosen| Offer { sheet: sheet.clone(), chosen }))
+}
+
+/// The opening of a board in so many slots: 13 comes before 15.
+pub fn open_board(sheet: &Sheet, slots: usize, budget: &mut Budget) -> Result<Result<Board, Refusal>, Exhausted> {
+    let checks = check_framed(sheet).and_then(|_| check_slots(slots, BOARD_NUMBERS));
+    Ok(plan_of(sheet, checks, budget)?.map(|plan| Board { plan, last: 0 }))
+}
+
+/// An ask on a sheet, with so many slots for the offer: the sheet held, the place, then the new sheet as the choice does.
+pub fn ask(sheet: &Sheet, task: Task, place: usize, slots: usize, budget: &mut Budget) -> Result<Result<Offer, Refusal>, Exhausted> {
+    let held = check_framed(sheet).and_then(|_| if place > sheet.count { refuse(14, place) } else { Ok(()) });
+    if let Err(r) = held {
+        return Ok(Err(r));
+    }
+    let new = sheet.with_task(place, task);
+    let checks = check_framed(&new).and_then(|_| check_slots(slots, OFFER_NUMBERS));
+    plan_of(&new, checks, budget)
+}
+
+/// Whether some ask on a sheet gives an offer: it is asked at every place for the task that the offer has there. Where that would be
+/// another sheet than the offer's, nothing is asked.
+pub fn some_ask_gives(sheet: &Sheet, offer: &Offer, budget: &mut Budget) -> Result<bool, Exhausted> {
+    for place in 0..=sheet.count {
+        let task = offer.sheet.task(place);
+        if same_sheet(&sheet.with_task(place, task), &offer.sheet) {
+            if let Ok(given) = ask(sheet, task, place, OFFER_NUMBERS, budget)? {
+                if given.chosen == offer.chosen {
+                    return Ok(true);
+                }
+            }
+        }
+    }
+    Ok(false)
+}
+
+/// The checks of a commit on a row before 19 and 20, and the list where nothing is refused.
+pub fn check_commit(row: &[u32], n: usize, columns: &Columns) -> Result<Vec<Release>, Refusal> {
+    let Board { plan: Offer { sheet, chosen }, last } = board_in(row);
+    check_framed(&sheet)?;
+    check_count(n)?;
+    columns.check_slots(n)?;
+    check_slots(row.len(), BOARD_NUMBERS)?;
+    check_kept(&sheet, &chosen.kept)?;
+    let list = columns.list(n);
+    for p in 0..n {
+        let before = if p == 0 { last } else { list[p - 1].tick };
+        if let Some(number) = release_fault(&sheet, Some(before), 0..=MAX_TICK, list[p]) {
+            return refuse(number, p);
+        }
+    }
+    Ok(list)
+}
+
+/// The last finish of a list in the run with what is in force, 0 without a release.
+pub fn last_finish(plan: &Offer, list: &[Release]) -> u64 {
+    let ready = ready_ticks(&plan.sheet, &plan.chosen.kept, list);
+    finish_by_job(&plan.sheet.frame, plan.sheet.charge, list, &ready).into_iter().max().unwrap_or(0) as u64
+}
+
+/// A commit at a tick of an offer that was asked of this sheet, both as they are given. The board after it, or the refusal.
+pub fn commit(
+    row: &[u32],
+    offer: &[u32],
+    asked: &Sheet,
+    n: usize,
+    columns: &Columns,
+    at: u64,
+    budget: &mut Budget,
+) -> Result<Result<Board, Refusal>, Exhausted> {
+    let list = match check_commit(row, n, columns) {
+        Ok(list) => list,
+        Err(r) => return Ok(Err(r)),
+    };
+    let held = board_in(row);
+    let offer = offer_in(offer, asked.frame.clone());
+    if !same_sheet(&held.plan.sheet, asked) || !some_ask_gives(asked, &offer, budget)? {
+        return Ok(refuse(19, 0));
+    }
+    if at < held.last || last_finish(&held.plan, &list) > at {
+        return Ok(refuse(20, 0));
+    }
+    let sheet = offer.sheet.framed(held.plan.sheet.frame);
+    Ok(Ok(Board { plan: Offer { sheet, chosen: offer.chosen }, last: at }))
 }

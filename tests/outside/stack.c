@@ -10,7 +10,8 @@
 
 /* What the header says: a call takes less. */
 #define READ_LIMIT 4096
-#define OTHER_LIMIT 8192
+#define COMMIT_LIMIT 40960
+#define OTHER_LIMIT 12288
 
 #define SLOTS NOLKRADA_MAX_RELEASES
 #define NUMBERS NOLKRADA_SHEET_NUMBERS
@@ -21,16 +22,21 @@ static uint8_t file[NOLKRADA_READ_BYTES];
 static const char line[] = "1000000,1000000,1000000,1000000\n";
 static char text[NOLKRADA_MAX_TEXT + sizeof line - 1];
 static uint64_t window[NOLKRADA_WINDOW_SLOTS];
+static struct nolkrada_board board;
+static struct nolkrada_offer offer;
 static uint64_t answer[4], code;
 /* The parts of a call that a case changes: the charge, the frame, how many numbers it has, tasks, releases, slots, bytes, characters,
- * numbers of a sheet that is read or loaded, slots of a window and words there are, and which task is asked for. */
+ * numbers of a sheet that is read or loaded, slots of a window, numbers of a board and of an offer and words there are, and which task is
+ * asked for. */
 static uint8_t charge;
 static struct nolkrada_frame frame;
 static size_t frame_numbers;
 static uint32_t tasks, releases, which;
 /* The tick of the first release. */
 static uint64_t first;
-static size_t slots, bytes, characters, numbers_lent, window_lent, words;
+static size_t slots, bytes, characters, numbers_lent, window_lent, board_lent, offer_lent, words;
+/* The tick of a commit. */
+static uint64_t at;
 
 static void nothing(void) { code = 0; }
 static void arrival_count(void) {
@@ -66,6 +72,20 @@ static void take_job(void) { code = nolkrada_monitor_take(window, window_lent, w
 static void show_task(void) { code = nolkrada_monitor_show(window, window_lent, which, answer, words); }
 static void show_tasks(void) { code = nolkrada_monitor_show_all(window, window_lent, kept, slots, worst, slots, ready, slots); }
 
+/* An opening with all tasks; an ask for the last one on the others, in any place; and the commit of its offer. */
+#define LAST_TASK (NUMBERS - 5)
+static void open_board(void) {
+    code = nolkrada_board_open(sheet, NUMBERS, tasks, charge, &frame.ticks, frame_numbers, &board.plan.tasks[0].period, board_lent);
+}
+static void ask_task(void) {
+    code = nolkrada_board_ask(sheet, LAST_TASK, tasks - 1, charge, &frame.ticks, frame_numbers, sheet + LAST_TASK, 5, which, &offer.tasks[0].period,
+                              offer_lent);
+}
+static void commit_offer(void) {
+    code = nolkrada_board_commit(&board.plan.tasks[0].period, board_lent, &offer.tasks[0].period, offer_lent, sheet, LAST_TASK, tasks - 1, charge,
+                                 &frame.ticks, frame_numbers, releases, task, slots, tick, slots, cost, slots, at);
+}
+
 /* The releases, 100 ticks apart, and their file, with the charge. */
 static void list(void) {
     for (uint32_t n = 0; n < NOLKRADA_MAX_RELEASES; n++) tick[n] = first + 100 * n;
@@ -80,6 +100,9 @@ static void jobs(uint32_t n) {
     open_window();
     for (uint32_t k = 0; k < n; k++) nolkrada_monitor_take(window, NOLKRADA_WINDOW_SLOTS, k % 7 * k % 32, 1000000 - n / 2 + k);
 }
+
+/* What a case changes of a board or an offer that is made. */
+static void (*late_change)(void);
 
 /* 32 high tasks, 1,024 releases and their file; the longest text, and one line more behind it; a window that has counted 300 jobs. */
 static void full(void) {
@@ -104,6 +127,25 @@ static void full(void) {
     words = 4;
     list();
     jobs(300);
+    board_lent = NOLKRADA_BOARD_NUMBERS;
+    offer_lent = NOLKRADA_OFFER_NUMBERS;
+    at = UINT64_MAX;
+    late_change = nothing;
+}
+
+/* The board and the offer of a commit, as far as the case allows them, with releases of its 31 tasks; then what the case changes of them. */
+static void board_and_offer(void) {
+    const size_t board_kept = board_lent, offer_kept = offer_lent;
+    board_lent = NOLKRADA_BOARD_NUMBERS;
+    offer_lent = NOLKRADA_OFFER_NUMBERS;
+    tasks--;
+    open_board();
+    tasks++;
+    ask_task();
+    board_lent = board_kept;
+    offer_lent = offer_kept;
+    for (uint32_t n = 0; n < NOLKRADA_MAX_RELEASES; n++) task[n] = n % (NOLKRADA_MAX_TASKS - 1);
+    late_change();
 }
 
 /* Full size, then each with one thing that a call refuses or answers in another way. */
@@ -243,13 +285,45 @@ static void ring_again(void) { jobs(2 * NOLKRADA_WINDOW_JOBS); }
 /* Windows of zeros and of the largest numbers, which no call made. */
 static void zeros(void) { memset(window, 0, sizeof window); }
 static void ones(void) { memset(window, 0xff, sizeof window); }
+/* A board and an offer that are too short; a commit at tick 0; a task asked for at the top and in the middle; an offer with a kept jitter
+ * that is raised, and one of another count; a board of zeros, one of ones, with a kept jitter over J, with a last commit after all releases
+ * and with another deadline; and the same with a frame. */
+static void short_board(void) { board_lent = NOLKRADA_BOARD_NUMBERS - 1; }
+static void short_offer(void) { offer_lent = NOLKRADA_OFFER_NUMBERS - 1; }
+static void too_soon(void) { at = 0; }
+static void at_top(void) { which = 0; }
+static void in_middle(void) { which = 15; }
+static void raise_kept(void) { offer.kept[NOLKRADA_MAX_TASKS - 1]++; }
+static void raised_kept(void) { late_change = raise_kept; }
+static void count_more(void) { offer.count++; }
+static void another_count(void) { late_change = count_more; }
+static void clear_board(void) { memset(&board, 0, sizeof board); }
+static void board_of_zeros(void) { late_change = clear_board; }
+static void fill_board(void) { memset(&board, 0xff, sizeof board); }
+static void board_of_ones(void) { late_change = fill_board; }
+static void raise_held(void) { board.plan.kept[NOLKRADA_MAX_TASKS - 2] = UINT32_MAX; }
+static void held_kept(void) { late_change = raise_held; }
+static void set_last(void) { board.last_high = UINT32_MAX; }
+static void last_commit(void) { late_change = set_last; }
+static void change_deadline(void) { board.plan.tasks[NOLKRADA_MAX_TASKS - 2].deadline--; }
+static void another_deadline(void) { late_change = change_deadline; }
+static void framed_soon(void) {
+    teeth();
+    too_soon();
+}
+static void framed_raised(void) {
+    long_teeth();
+    raised_kept();
+}
 static void (*const cases[])(void) = {nothing, few_numbers, no_words, no_slots, many_tasks, many_releases, no_such_task, last_range,
                                       no_charge, most_charge, over_charge, second_charge, zero_charge, last_cost, last_kept, last_tick,
                                       tight, all_low, last_low, half_low, last_high, wrong_mark, low_and_more, low_task_cut, crowded,
                                       short_ticks, cut, one_more_byte, no_text, text_cut, one_more_line, line_form, line_zero,
                                       line_range, teeth, long_teeth, one_window, last_window, many_windows, long_frame, framed_low,
                                       framed_high, one_number, framed_kept, framed_cost, short_window, no_job, one_job, ring_full,
-                                      ring_again, zeros, ones};
+                                      ring_again, zeros, ones, short_board, short_offer, too_soon, at_top, in_middle, raised_kept,
+                                      another_count, board_of_zeros, board_of_ones, held_kept, last_commit, another_deadline, framed_soon,
+                                      framed_raised};
 
 static unsigned char room[1 << 16];
 static ucontext_t outside, inside;
@@ -277,6 +351,7 @@ static size_t most(void (*call)(void)) {
             first = call == run ? 0 : NOLKRADA_MAX_TICK - 100 * (SLOTS - 1);
             full();
             cases[c]();
+            if (call == commit_offer) board_and_offer();
             const size_t n = changed(call, (unsigned char)pattern);
             if (n > top) top = n;
         }
@@ -305,5 +380,8 @@ int main(void) {
     wrong += over("nolkrada_monitor_take", take_job, OTHER_LIMIT);
     wrong += over("nolkrada_monitor_show", show_task, OTHER_LIMIT);
     wrong += over("nolkrada_monitor_show_all", show_tasks, OTHER_LIMIT);
+    wrong += over("nolkrada_board_open", open_board, OTHER_LIMIT);
+    wrong += over("nolkrada_board_ask", ask_task, OTHER_LIMIT);
+    wrong += over("nolkrada_board_commit", commit_offer, COMMIT_LIMIT);
     return wrong != 0;
 }

@@ -1,7 +1,7 @@
 //! The reference implementation on the twelve sums and the two printed examples of document 01, 7 to 12 and the examples as document
 //! 02's R-2 has them, on R-2's own figures, on stops of R-5 and lists of t and evaluations of R-8 that were counted by hand, on records of
 //! written by hand, on verdicts, choices and runs with a charge, choices with marks, and verdicts and runs with a frame
-//! that were worked out by hand, and on displays and slots of R-6 that were written by hand.
+//! that were worked out by hand, on displays and slots of R-6 that were written by hand, and on asks and commits of R-11 that were.
 
 use crate::reference::*;
 
@@ -580,6 +580,111 @@ fn last_jobs() -> usize {
     1 + 5 + 1 + 1 + 8 + 3 + 5
 }
 
+/// Boards by hand: a sheet, and for each commit the new task, its place, the releases since the last commit, the tick, and what is refused,
+/// if anything.
+pub fn boards() -> Vec<(Sheet, Vec<(Task, usize, Vec<Release>, u64, Option<Refusal>)>)> {
+    let refused = |number: u32, place: u64| Some(Refusal { number, place });
+    let (middle, foot) = (task(8, 7, 2, 8), task(10, 0, 2, 11));
+    let top = Sheet::of(&[task(6, 5, 2, 6)]);
+    // ten ticks, of which the first four and the last five are ours
+    let lent = Frame::of(10, &[(0, 4), (5, 5)]);
+    vec![
+        // the printed sheet with D 11, task by task. Alone task 0 keeps 2: two releases at 0 are ready at 0 and 4 and finished at 3 and 7
+        (
+            top.clone(),
+            vec![
+                (foot, 1, list_of(&[(0, 0, 2), (0, 0, 2)]), 6, refused(20, 0)),
+                (foot, 1, list_of(&[(0, 0, 2), (0, 0, 2)]), 7, None),
+                // in force from 7 on, with no earlier jobs: the release at 7 is ready at 7 and finished at 10; that of task 1 at 12
+                (middle, 1, list_of(&[(0, 6, 2)]), 100, refused(8, 0)),
+                (middle, 1, list_of(&[(0, 7, 2), (1, 7, 2)]), 11, refused(20, 0)),
+                (middle, 1, list_of(&[(0, 7, 2), (1, 7, 2)]), 12, None),
+                // three tasks: of no release any tick from 12 on
+                (task(100, 0, 1, 100), 3, vec![], 11, refused(20, 0)),
+                (task(100, 0, 1, 100), 3, vec![], 12, None),
+            ],
+        ),
+        // with a frame: a job that is ready at 3 runs in 5 and 6; the frame repeats from tick 0 after a commit at 7 too, so that one that
+        // is ready at 13 runs in 15 and 16
+        (
+            top.framed(Some(lent)),
+            vec![
+                (task(100, 0, 1, 100), 1, list_of(&[(0, 3, 2)]), 6, refused(20, 0)),
+                (task(100, 0, 1, 100), 1, list_of(&[(0, 3, 2)]), 7, None),
+                (task(100, 0, 1, 100), 0, list_of(&[(0, 13, 2)]), 16, refused(20, 0)),
+                (task(100, 0, 1, 100), 0, list_of(&[(0, 13, 2)]), 17, None),
+            ],
+        ),
+    ]
+}
+
+/// These boards, the rows of one of them and of an offer, and what is refused with 19.
+fn asks_and_commits() -> usize {
+    let budget = || Budget::of(100_000_000);
+    let mut looked_at = 0;
+    for (sheet, steps) in boards() {
+        let mut row = row_of_board(&open_board(&sheet, BOARD_NUMBERS, &mut budget()).ok().unwrap().unwrap());
+        for (new, place, list, at, refused) in steps {
+            let held = board_in(&row).plan.sheet;
+            let offer = row_of_offer(&ask(&held, new, place, OFFER_NUMBERS, &mut budget()).ok().unwrap().unwrap());
+            let (tasks, ticks): (Vec<u32>, Vec<u64>) = (list.iter().map(|x| x.task).collect(), list.iter().map(|x| x.tick).collect());
+            let costs: Vec<u32> = list.iter().map(|x| x.cost).collect();
+            let columns = Columns { task: &tasks, tick: &ticks, cost: &costs };
+            let given = commit(&row, &offer, &held, list.len(), &columns, at, &mut budget()).ok().unwrap();
+            assert_eq!(given.as_ref().err().copied(), refused);
+            row = given.map_or(row, |board| row_of_board(&board));
+            looked_at += 1;
+        }
+    }
+    // the rows, number by number: tasks, count, charge, which; kept jitters, worst values; frame; ticks
+    let two = Sheet::of(&[task(6, 5, 2, 6), task(8, 7, 2, 8).marked(true)]).charged(1).framed(Some(Frame::of(10, &[(0, 10)])));
+    let chosen = Chosen { kept: vec![3, 7], worst: vec![6, 0], high_only: true };
+    let board = Board { plan: Offer { sheet: two.clone(), chosen }, last: (5 << 32) + 9 };
+    let row = row_of_board(&board);
+    let numbers = [(0, 6), (1, 5), (2, 2), (3, 6), (5, 8), (6, 7), (7, 2), (8, 8), (9, 1), (160, 2), (161, 1), (162, 1), (163, 3), (164, 7), (195, 6)];
+    let rest = [(227, 1), (228, 10), (229, 1), (231, 10), (262, 9), (263, 5)];
+    for (place, &number) in row.iter().enumerate() {
+        let stated = numbers.iter().chain(&rest).find(|(k, _)| *k == place).map_or(0, |&(_, n)| n);
+        assert_eq!((place, number), (place, stated));
+    }
+    assert_eq!((row.len(), board_in(&row), row_of_offer(&board.plan)), (264, board.clone(), row[..227].to_vec()));
+    // other numbers that stand for the same
+    let mut other = row.clone();
+    for (place, number) in [(4, 0), (9, 256), (10, 77), (161, 257), (162, 9), (165, 4), (226, 4), (227, 1 << 31), (232, 5), (261, 5)] {
+        other[place] = number;
+    }
+    assert_eq!(board_in(&other), board);
+    // without a frame nothing of one is written; numbers past the end are 0
+    let bare = Board { plan: Offer { sheet: two.framed(None), ..board.plan.clone() }, last: 0 };
+    assert_eq!(row_of_board(&bare)[227..], [0; 37]);
+    assert_eq!(board_in(&row[..164]).plan.chosen, Chosen { kept: vec![3, 0], worst: vec![0, 0], high_only: true });
+    // an offer of the folder's sheet: what an ask gives, and nothing else
+    let folder = folder_sheet();
+    let held = Sheet::of(&[folder.tasks[0], folder.tasks[2]]);
+    let offer = ask(&held, folder.tasks[1], 1, 227, &mut budget()).ok().unwrap().unwrap();
+    assert_eq!(offer, Offer { sheet: folder.clone(), chosen: Chosen { kept: vec![2, 4, 0], worst: vec![6, 8, 11], high_only: false } });
+    let gives = |sheet: &Sheet, offer: &Offer| some_ask_gives(sheet, offer, &mut budget()).ok().unwrap();
+    assert!(gives(&held, &offer));
+    // also that of task 0 on the other two, and of task 2 on those above it
+    assert!(gives(&Sheet::of(&folder.tasks[1..]), &offer) && gives(&Sheet::of(&folder.tasks[..2]), &offer));
+    assert!(!gives(&folder, &offer) && !gives(&Sheet::of(&[folder.tasks[1], folder.tasks[0]]), &offer));
+    let mut raised = offer.clone();
+    raised.chosen.kept[1] = 5;
+    assert!(!gives(&held, &raised));
+    // what an ask refuses, in this order
+    let no = |sheet: &Sheet, new: Task, place: usize, slots: usize| ask(sheet, new, place, slots, &mut budget()).ok().unwrap().err();
+    let refused = |number: u32, place: u64| Some(Refusal { number, place });
+    assert_eq!(no(&Sheet::of(&[]), task(0, 0, 0, 0), 5, 0), refused(5, 0));
+    assert_eq!(no(&held, task(0, 0, 0, 0), 3, 0), refused(14, 3));
+    assert_eq!(no(&held, task(0, 0, 0, 0), 2, 0), refused(6, 2));
+    assert_eq!(no(&held.charged(4), task(6, 0, 3, 6), 0, 0), refused(17, 0));
+    assert_eq!(no(&held, task(8, 7, 2, 2), 0, 226), refused(13, 227));
+    assert_eq!(no(&held, task(8, 7, 2, 2), 0, 227), refused(15, 0));
+    assert_eq!(no(&Sheet::of(&[task(100, 0, 1, 100); 32]), task(0, 0, 0, 0), 32, 0), refused(4, 32));
+    assert_eq!(no(&Sheet::of(&[task(100, 0, 1, 100); 32]), task(0, 0, 0, 0), 33, 0), refused(14, 33));
+    looked_at + 2 + 1 + 2 + 6 + 8
+}
+
 /// Panics where the reference does not give a sum or a printed line; returns how many were looked at.
 pub fn check() -> usize {
     let s = printed_sheet();
@@ -651,7 +756,7 @@ pub fn check() -> usize {
     // two releases alone, at tick 0 and at the limit
     assert_eq!(stops_of(&[(0, 0, 1), (0, MAX_TICK, 1)]), 4);
     // twelve sums, two examples, these with D 11, three figures more, seven of stops, the records, those of a charge, evaluations, those of
-    // marks, those of frames and those of the last jobs
+    // marks, those of frames, those of the last jobs and those of asks and commits
     let with_frames = records() + charge_records() + charges() + evaluations() + marks() + mark_records() + frames();
-    12 + 2 + 2 + 3 + 7 + with_frames + last_jobs()
+    12 + 2 + 2 + 3 + 7 + with_frames + last_jobs() + asks_and_commits()
 }

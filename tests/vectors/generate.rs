@@ -5,6 +5,7 @@
 //! Usage: generate FOLDER. Files: FOLDER/NAME/stdin and FOLDER/NAME/stdout.
 
 mod analysis;
+mod board;
 mod case;
 mod files;
 mod lists;
@@ -36,4 +37,5 @@ fn main() {
     write(folder, "vectors_run", run::vectors());
     write(folder, "vectors_text", text::vectors());
     write(folder, "vectors_monitor", monitor::vectors());
+    write(folder, "vectors_board", board::vectors());
 }

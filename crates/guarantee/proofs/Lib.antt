@@ -13,4 +13,5 @@ pub mod ExactResponse
 pub mod IdleLaws
 pub mod RunBounds
 pub mod PickupLaws
+pub mod BetweenCommits
 pub mod WholeFrame

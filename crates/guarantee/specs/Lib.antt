@@ -8,3 +8,4 @@ pub mod RunBounds
 pub mod ChoiceSafe
 pub mod NoneSmaller
 pub mod AnsweredCalls
+pub mod BetweenCommits

@@ -1,58 +1,40 @@
 -- Laws of codes, lent words and sheets passed as numbers.
-use Prim.Native.Nat.{ℕ, suc, _+_, _-_, _≤_, _<_, min}
-use mathlib.Core.Path.{_≡_, refl, sym, ap, ap₂, _∙_}
-use mathlib.Core.Bool.{true, false}
+use Prim.Native.Nat.{ℕ, _+_, _-_, _≤_, _<_, min}
+use mathlib.Core.Path.{_≡_, refl, sym, ap}
+use mathlib.Core.Bool.{Bool, true, false, _||_}
 use mathlib.Core.Option.{some}
 use mathlib.Core.List.{List, [], _∷_, _++_}
 use native.Mathlib.Omega.{arith}
-use native.Mathlib.Numerals.{add-one}
 use borrow.Author.Tests.{lt-ltb, le-ltb, le-leb, lt-leb, eq-eqb, ne-eqb}
-use lib.Dec.{eqb}
-use lib.ListN.{length, take, drop, set, replicate, length-set, take-append-drop}
-use lib.Seq.{take-suc-set, drop-set-lt, drop-drop}
-use Rattle.model.specs.Series.{table}
+use lib.Dec.{leb, eqb}
+use lib.ListN.{length, drop, set, replicate}
 use Rattle.model.specs.Refusal.{Refusal, Answer, refused, answered}
 use Rattle.taskset.specs.declared.Task.{Task}
 use Rattle.taskset.specs.declared.TaskSet.{TaskSet}
 use Rattle.taskset.specs.TaskSet.{noTask}
+use Rattle.taskset.proofs.FilledLaws.{Filled, filled-none, filled-next, filled-all}
 use Rattle.interface.specs.Interface.{taskAt, sheetFrom, refusalCode, codeOf, codeIn, wordsAfter, asWords, afterSlots, tooFew, orTooFew, withSlots, Ends}
 
--- of 32 entries the first i are those of the numbers, the others 0
+-- of 32 entries the first i, of those used, are those of the numbers, the others 0
 pub record Entries (l : List ℕ) (used : ℕ) (tasks : List Task) (i : ℕ) : Type 0 where
-  pub long : length tasks ≡ 32
   pub few : used ≤ 32
   pub within : i ≤ used
-  pub front : take i tasks ≡ table (taskAt l) i
-  pub padded : drop i tasks ≡ replicate (32 - i) noTask
+  pub filled : Filled (taskAt l) tasks i
 
 pub entries-none : (l : List ℕ) (used : ℕ) (tasks : List Task) → used ≤ 32 → tasks ≡ replicate 32 noTask → Entries l used tasks 0
-unfolding table
-entries-none l used tasks h e = record { long = ap length e; few = h; within = omega arith; front = refl; padded = e }
+entries-none l used tasks h e = record { few = h; within = omega arith; filled = filled-none (taskAt l) tasks e }
 
 pub entries-next
     : (l : List ℕ) (used : ℕ) (tasks : List Task) (i : ℕ) (t : Task) → Entries l used tasks i → i < used → t ≡ taskAt l i → Entries l used (set tasks i t) (i + 1)
-unfolding table
 entries-next l used tasks i t f h e =
-    let k : 32 - i ≡ suc (32 - (i + 1)) = omega arith in
-    record {
-      long = simp length-set (f .long);
-      few = f .few;
-      within = omega arith;
-      front = rw (add-one, take-suc-set tasks i t (omega (arith, f .long)), f .front, e);
-      padded =
-          drop-set-lt (i + 1) tasks i t (omega arith) ∙ sym (drop-drop 1 i tasks)
-          ∙ ap (drop 1) (f .padded ∙ ap (λ n. replicate n noTask) k);
-    }
+    record { few = f .few; within = omega arith; filled = filled-next (taskAt l) tasks i t (f .filled) (omega (arith, f .few)) e }
 
 pub entries-sheet
     : (l : List ℕ) (n c used : ℕ) (tasks : List Task) (i : ℕ) → Entries l used tasks i → used ≡ min n 32 → used ≤ i
     → _≡_ {A = TaskSet} (record { tasks = tasks; count = n; charge = c }) (sheetFrom l n c)
 entries-sheet l n c used tasks i f u h =
-    let e : i ≡ min n 32 = omega (arith, f .within) in
-    let k : 32 - i ≡ 32 - n = omega arith in
     ap (λ (ts : List Task). record { tasks = ts; count = n; charge = c })
-    (sym (take-append-drop i tasks)
-    ∙ ap₂ _++_ (f .front ∙ ap (table (taskAt l)) e) (f .padded ∙ ap (λ m. replicate m noTask) k))
+    (filled-all (taskAt l) tasks i (min n 32) (32 - n) (f .filled) (omega (arith, f .within)) (omega (arith, f .within)))
 
 -- where the slots are enough, the call without them answers
 pub with-enough : {A : Type 0} (n slots : ℕ) (a : Answer A) → n ≤ slots → withSlots n slots a ≡ a
@@ -67,7 +49,7 @@ with-few n slots x h = rw (withSlots, lt-ltb slots n h)
 -- which numbers come after the slices
 pub after-none : (n : ℕ) → n < 7 → false ≡ afterSlots n
 unfolding afterSlots
-after-none n h = rw (afterSlots, ne-eqb n 12 (λ e. omega arith), lt-leb 7 n h, ne-eqb n 15 (λ e. omega arith))
+after-none n h = rw (afterSlots, ne-eqb n 12 (λ e. omega arith), lt-leb 7 n h, ne-eqb n 15 (λ e. omega arith), lt-leb 19 n (omega arith))
 
 pub after-release : (n : ℕ) → 7 ≤ n → n ≤ 9 → true ≡ afterSlots n
 unfolding afterSlots
@@ -77,9 +59,18 @@ pub after-kept : (n : ℕ) → n ≡ 12 → true ≡ afterSlots n
 unfolding afterSlots
 after-kept n h = rw (afterSlots, eq-eqb n 12 h)
 
-pub after-choice : (n : ℕ) → 9 < n → (n ≡ 12 → ⊥) → eqb n 15 ≡ afterSlots n
+or-none : (b : Bool) → (b || false) ≡ b
+or-none true = refl
+or-none false = refl
+
+pub after-choice : (n : ℕ) → 9 < n → (n ≡ 12 → ⊥) → n < 19 → eqb n 15 ≡ afterSlots n
 unfolding afterSlots
-after-choice n h g = rw (afterSlots, ne-eqb n 12 g, le-leb 7 n (omega arith), lt-leb n 9 h)
+after-choice n h g l = rw (afterSlots, ne-eqb n 12 g, le-leb 7 n (omega arith), lt-leb n 9 h, lt-leb 19 n l) (sym (or-none (eqb n 15)))
+
+pub after-commit : (n : ℕ) → 19 ≤ n → leb n 20 ≡ afterSlots n
+unfolding afterSlots
+after-commit n h =
+    rw (afterSlots, ne-eqb n 12 (λ e. omega arith), le-leb 7 n (omega arith), lt-leb n 9 (omega arith), ne-eqb n 15 (λ e. omega arith), le-leb 19 n h)
 
 -- the refusal of a call, by what is known of the slots and of its number
 pub kept-enough : (n slots : ℕ) (r : Refusal) → n ≤ slots → orTooFew n slots r ≡ r

@@ -66,9 +66,9 @@ asWords f (refused r) = refused r
 abbrev pub tooFew : ℕ → Refusal
 tooFew n = record { number = 13; place = n }
 
--- the numbers that a call on values checks after its lent slices: 12, those of the releases (7, 8, 9), and 15
+-- the numbers that a call on values checks after its lent slices: 12, those of the releases (7, 8, 9), 15, and those of a commit (19, 20)
 unfoldable pub afterSlots : ℕ → Bool
-afterSlots n = eqb n 12 || (leb 7 n && leb n 9) || eqb n 15
+afterSlots n = eqb n 12 || (leb 7 n && leb n 9) || eqb n 15 || (leb 19 n && leb n 20)
 
 -- one more slice is lent to a call, the last of its slices, and n slots of it are needed. Where the call without it is refused:
 -- 13 if the slots are too few and come before that refusal

@@ -16,7 +16,7 @@ use taskset::Task;
 use taskset::TaskSet;
 
 // The entry of task i in a sheet passed as numbers.
-fn task_at(sheet: &[u32], i: usize) -> Task
+pub fn task_at(sheet: &[u32], i: usize) -> Task
     requires { ⌜ i < 32 ⌝ }
     ensures { λ r. ⌜ r ≡ taskAt (now (sheet .entry)) i ⌝ }
 {
@@ -100,7 +100,10 @@ fn after_slots(number: u32) -> bool
     if number == 12 {
         return true;
     }
-    number == 15
+    if number < 19 {
+        return number == 15;
+    }
+    number <= 20
 }
 
 // The code of a refused call that also needs so many slots for its answer.

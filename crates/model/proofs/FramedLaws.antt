@@ -56,13 +56,13 @@ module _ (o : Option Frame) (s : Tasks) where
       go none e = refl
       go (some r) e = let w : none ≡ some r = h ∙ sym (bare-refuses r (sym e)) in let z : _≡_ {A = ℕ} 0 1 = cc in absurd (omega arith)
 
-  releases-alike : (before p : ℕ) (l : List Release) → checkReleases (withFrame none s) before p l ≡ checkReleases (withFrame o s) before p l
+  pub releases-alike : (before p : ℕ) (l : List Release) → checkReleases (withFrame none s) before p l ≡ checkReleases (withFrame o s) before p l
   unfolding checkReleases releaseFault
   releases-alike before p [] = refl
   releases-alike before p (r ∷ l) = λ x.
       elim (releaseFault (withFrame none s) before maxTick r) [ none ↦ releases-alike (r .tick) (suc p) l x | some n ↦ some (record { number = n; place = p }) ]
 
-  kept-alike : (k : Option (ℕ → ℕ)) → checkKept (withFrame none s) k ≡ checkKept (withFrame o s) k
+  pub kept-alike : (k : Option (ℕ → ℕ)) → checkKept (withFrame none s) k ≡ checkKept (withFrame o s) k
   unfolding checkKept
   kept-alike none = refl
   kept-alike (some k) = refl

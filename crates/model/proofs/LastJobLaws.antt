@@ -107,8 +107,3 @@ last-last n l m = go (le-or-lt (length l) n)
         sym (last-end n (take d l) (lastOf n l ++ m) (long h))
         ∙ ap (lastOf n) (sym (append-assoc (take d l) (lastOf n l) m))
         ∙ ap (λ k. lastOf n (k ++ m)) parted
-
--- no more than n
-pub last-few : {A : Type 0} (n : ℕ) (l : List A) → length (lastOf n l) ≤ n
-unfolding lastOf
-last-few n l = omega (arith, length-drop (length l - n) l)

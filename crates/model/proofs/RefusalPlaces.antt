@@ -23,9 +23,9 @@ use Rattle.model.proofs.TableLaws.{length-table}
 use Rattle.model.proofs.CheckLaws.{entry-number, valid-of, not-refused, count-of}
 use Rattle.model.proofs.OrderLaws.{answers, refuses}
 
--- the largest number of a refusal: 15 in document 01; 16 is that of a text's line, 17 of a load over P or D, 18 of a frame
+-- the largest number of a refusal: 15 in document 01; 16 is that of a text's line, 17 of a load over P or D, 18 of a frame, 19 and 20 of a commit
 abbrev pub largestNumber : ℕ
-largestNumber = 18
+largestNumber = 20
 
 -- a refusal with one of these numbers and a place of at most B
 pub record Within (B : ℕ) (r : Refusal) : Type 0 where
@@ -127,7 +127,7 @@ slots-within B l r (needs {c = c} {l = m} h n) e = go (ltb (c .slots) (c .needed
     go false g i = i (rw (checkSlots, g) at e)
 
 -- 12
-kept-within : (s : Tasks) (k : Option (ℕ → ℕ)) (r : Refusal) → s .count ≤ maxTasks → some r ≡ checkKept s k → Within maxTasks r
+pub kept-within : (s : Tasks) (k : Option (ℕ → ℕ)) (r : Refusal) → s .count ≤ maxTasks → some r ≡ checkKept s k → Within maxTasks r
 unfolding checkKept
 kept-within s none r l e = let z : _≡_ {A = ℕ} 0 1 = cc in absurd (omega arith)
 kept-within s (some k) r l e = within-at maxTasks 12 _ r (omega arith) (omega arith) (λ i f. omega (arith, first-found _ (s .count) 0 i f .high)) e
@@ -151,7 +151,7 @@ fault-number s low high r n e = known (leb (s .count) (r .task)) refl
     known : (a : Bool) → leb (s .count) (r .task) ≡ a → (7 ≤ n) × (n ≤ 9)
     known a h = cost a (ltb (r .tick) low || ltb high (r .tick)) (eqb (r .cost) 0 || ltb (s .cost (r .task)) (r .cost)) h refl refl
 
-releases-within : (B : ℕ) (s : Tasks) (before p : ℕ) (l : List Release) (r : Refusal) → p + length l ≤ B → some r ≡ checkReleases s before p l → Within B r
+pub releases-within : (B : ℕ) (s : Tasks) (before p : ℕ) (l : List Release) (r : Refusal) → p + length l ≤ B → some r ≡ checkReleases s before p l → Within B r
 unfolding checkReleases
 releases-within B s before p [] r h e = let z : _≡_ {A = ℕ} 0 1 = cc in absurd (omega arith)
 releases-within B s before p (q ∷ l) r h e = go (releaseFault s before maxTick q) refl (releases-within B s (q .tick) (suc p) l r (omega arith))

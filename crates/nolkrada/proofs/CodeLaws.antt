@@ -22,7 +22,10 @@ use Rattle.textformat.specs.TextSheet.{load}
 use Rattle.textformat.proofs.TextPlaces.{load-within}
 use Rattle.monitor.specs.Layout.{windowSlots}
 use Rattle.monitor.proofs.PlaceLaws.{open-limited, task-within, show-within, all-within}
-use Rattle.interface.specs.Interface.{sheetFrom, framedFrom, refusalCode, codeOf, codeIn, asWords, tooFew, afterSlots, orTooFew, withSlots, oneWord, verdictWords, traceWords, shownWords}
+use Rattle.admission.proofs.PlaceLaws.{open-within, ask-within, commit-within}
+use Rattle.plan.specs.PlanView.{taskEntry}
+use Rattle.rows.specs.Rows.{offerNumbers, boardNumbers, planRow, boardRow}
+use Rattle.interface.specs.Interface.{taskAt, sheetFrom, framedFrom, refusalCode, codeOf, codeIn, asWords, tooFew, afterSlots, orTooFew, withSlots, oneWord, verdictWords, traceWords, shownWords}
 use Rattle.nolkrada.specs.Files.{readLent, readWithin, readAnswer, writeAnswer}
 use Rattle.nolkrada.specs.Texts.{loadLent, loadWithin, loadAnswer}
 use Rattle.nolkrada.specs.Runs.{jumpAnswer, choiceAnswer}
@@ -73,11 +76,11 @@ unfolding asWords
 words-refused f (answered x) r e = let z : _≡_ {A = ℕ} 0 1 = cc in absurd (omega arith)
 words-refused f (refused q) r e = ap refused (cc)
 
--- one more lent slice, of at most 4 slots
-few-within : (n : ℕ) → n ≤ 4 → Within top (tooFew n)
+-- one more lent slice, of at most 1,024 slots
+few-within : (n : ℕ) → n ≤ maxReleases → Within top (tooFew n)
 few-within n h = record { number-low = omega arith; number-high = omega arith; place-high = omega arith }
 
-more-within : (n slots : ℕ) (r : Refusal) → n ≤ 4 → Within top r → Within top (orTooFew n slots r)
+more-within : (n slots : ℕ) (r : Refusal) → n ≤ maxReleases → Within top r → Within top (orTooFew n slots r)
 unfolding orTooFew
 more-within n slots r h w = go (ltb slots n && afterSlots (r .number)) refl
   where
@@ -85,7 +88,7 @@ more-within n slots r h w = go (ltb slots n && afterSlots (r .number)) refl
     go true e = rw (orTooFew, e) (few-within n h)
     go false e = rw (orTooFew, e) w
 
-slots-told : {A : Type 0} (n slots : ℕ) (a : Answer A) → n ≤ 4 → ((r : Refusal) → a ≡ refused r → Within top r) → TellsOf (withSlots n slots a)
+slots-told : {A : Type 0} (n slots : ℕ) (a : Answer A) → n ≤ maxReleases → ((r : Refusal) → a ≡ refused r → Within top r) → TellsOf (withSlots n slots a)
 unfolding withSlots codeIn refusalFrom
 slots-told n slots (answered x) h f = go (ltb slots n) refl
   where
@@ -95,7 +98,7 @@ slots-told n slots (answered x) h f = go (ltb slots n) refl
 slots-told n slots (refused q) h f = told-code (orTooFew n slots q) (more-within n slots q h (f q refl))
 
 words-told
-    : {A : Type 0} (n slots : ℕ) (f : A → List ℕ) (a : Answer A) → n ≤ 4 → ((r : Refusal) → a ≡ refused r → Within top r) → TellsOf (withSlots n slots (asWords f a))
+    : {A : Type 0} (n slots : ℕ) (f : A → List ℕ) (a : Answer A) → n ≤ maxReleases → ((r : Refusal) → a ≡ refused r → Within top r) → TellsOf (withSlots n slots (asWords f a))
 words-told n slots f a h g = slots-told n slots (asWords f a) h (λ r e. g r (words-refused f a r e))
 
 -- what is answered once the lent slices are checked: a refusal is that of the slices
@@ -166,4 +169,12 @@ codes-tell = record {
   monitor-show = λ window task answer h.
       words-told 3 (length answer) shownWords _ (omega arith) (λ r. show-within top window task r (omega arith) (omega arith));
   monitor-show-all = λ window jobs late largest. tells _ (λ r e. within-more windowSlots top r (omega arith) (all-within window jobs late largest r e));
+  board-open = λ sheet count charge frame board.
+      words-told boardNumbers (length board) boardRow _ (omega arith)
+      (λ r e. within-more maxReleases top r (omega arith) (open-within (framedFrom sheet count charge frame) r e));
+  board-ask = λ sheet count charge frame task place offer h.
+      words-told offerNumbers (length offer) planRow _ (omega arith)
+      (λ r. ask-within top (framedFrom sheet count charge frame) (taskEntry (taskAt task 0)) place r (omega arith) (omega arith));
+  board-commit = λ board offer sheet count charge frame n task tick cost at.
+      words-told boardNumbers (length board) boardRow _ (omega arith) (λ r e. within-more maxReleases top r (omega arith) (commit-within _ _ r e));
 }

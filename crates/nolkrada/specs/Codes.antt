@@ -11,7 +11,13 @@ use Rattle.model.specs.Checks.{refusalOf}
 use Rattle.model.specs.Calls.{arrivalCall, verdictCall, traceCall, readyInputs, runInputs}
 use Rattle.taskset.specs.TaskSet.{viewOf}
 use Rattle.monitor.specs.MonitorCalls.{openInputs, checkTaskIn, showCall, allRefusal}
-use Rattle.interface.specs.Interface.{sheetFrom, framedFrom, codeOf, codeIn, asWords, withSlots, oneWord, verdictWords, traceWords, shownWords}
+use Rattle.frame.specs.FrameView.{frameFrom}
+use Rattle.admission.specs.Offers.{askCall}
+use Rattle.admission.specs.Boards.{openCall, commitCall}
+use Rattle.plan.specs.PlanView.{taskEntry, boardView}
+use Rattle.board.specs.BoardCalls.{commitOf}
+use Rattle.rows.specs.Rows.{offerNumbers, boardNumbers, planFrom, boardFrom, planRow, boardRow}
+use Rattle.interface.specs.Interface.{taskAt, sheetFrom, framedFrom, codeOf, codeIn, asWords, withSlots, oneWord, verdictWords, traceWords, shownWords}
 use Rattle.nolkrada.specs.Files.{readAnswer, writeAnswer}
 use Rattle.nolkrada.specs.Texts.{loadAnswer}
 use Rattle.nolkrada.specs.Runs.{jumpAnswer, choiceAnswer}
@@ -64,3 +70,16 @@ pub record CodesTell : Type 0 where
   pub monitor-show
       : (window : List ℕ) (task : ℕ) (answer : List ℕ) → task < 4294967296 → TellsOf (withSlots 3 (length answer) (asWords shownWords (showCall window task)))
   pub monitor-show-all : (window jobs late largest : List ℕ) → Tells (allRefusal window jobs late largest)
+  pub board-open
+      : (sheet : List ℕ) (count charge : ℕ) (frame board : List ℕ)
+      → TellsOf (withSlots boardNumbers (length board) (asWords boardRow (openCall (framedFrom sheet count charge frame))))
+  pub board-ask
+      : (sheet : List ℕ) (count charge : ℕ) (frame task : List ℕ) (place : ℕ) (offer : List ℕ)
+      → place < 4294967296
+      → TellsOf (withSlots offerNumbers (length offer) (asWords planRow (askCall (framedFrom sheet count charge frame) (taskEntry (taskAt task 0)) place)))
+  pub board-commit
+      : (board offer sheet : List ℕ) (count charge : ℕ) (frame : List ℕ) (n : ℕ) (task tick cost : List ℕ) (at : ℕ)
+      → TellsOf
+      (withSlots boardNumbers (length board)
+      (asWords boardRow
+      (commitCall (boardView (boardFrom board)) (commitOf (planFrom offer) (sheetFrom sheet count charge) (frameFrom frame) n task tick cost at))))

@@ -22,7 +22,13 @@ ghost use Rattle.fileformat.specs.FileCalls.{readCount};
 ghost use Rattle.reader.specs.Reader.{outcomeIn};
 ghost use Rattle.monitor.specs.Layout.{tasksIn, deadlineIn, heldIn};
 ghost use Rattle.monitor.specs.MonitorCalls.{openInputs, openAfter, checkTaskIn, jobAfter, showCall, allRefusal, jobsColumn, lateColumn, largestColumn};
-ghost use Rattle.interface.specs.Interface.{sheetFrom, framedFrom, codeOf, codeIn, asWords, Ends, oneWord, scopeWord, verdictWords, traceWords, shownWords};
+ghost use Rattle.frame.specs.FrameView.{frameFrom};
+ghost use Rattle.admission.specs.Offers.{askCall};
+ghost use Rattle.admission.specs.Boards.{openCall, commitCall};
+ghost use Rattle.plan.specs.PlanView.{taskEntry, boardView};
+ghost use Rattle.board.specs.BoardCalls.{commitOf};
+ghost use Rattle.rows.specs.Rows.{offerNumbers, boardNumbers, planFrom, boardFrom, planRow, boardRow};
+ghost use Rattle.interface.specs.Interface.{taskAt, sheetFrom, framedFrom, codeOf, codeIn, asWords, Ends, oneWord, scopeWord, verdictWords, traceWords, shownWords};
 ghost use Rattle.nolkrada.specs.Files.{readWithin, readAnswer, ReadEnds, writeAnswer, WriteEnds};
 ghost use Rattle.nolkrada.specs.Texts.{loadAnswer, LoadEnds};
 ghost use Rattle.nolkrada.specs.Runs.{jumpAnswer, choiceAnswer, ColumnsEnd};
@@ -38,6 +44,7 @@ use interface::put_two;
 use interface::refusal_code;
 use interface::sheet_from;
 use interface::slots_code;
+use interface::task_at;
 use jumps::JumpAnswer;
 use monitor::ShowAnswer;
 use reader::ReadOutcome;
@@ -518,4 +525,74 @@ pub extern "C" fn nolkrada_monitor_show_all(
 {
     let checked = monitor::show_all(window, jobs, late, largest);
     code_of(checked)
+}
+
+// Opens a board with a sheet, its frame and the choice made of them, in a row of 264 numbers.
+#[no_mangle]
+pub extern "C" fn nolkrada_board_open(
+    sheet: &[u32],
+    count: u32,
+    charge: u8,
+    frame: &[u32],
+    board: &mut [u32],
+) -> u64
+    ensures { λ r. ⌜
+        Ends boardNumbers (asWords boardRow (openCall (framedFrom (now (sheet .entry)) count charge (now (frame .entry))))) (now (board .entry)) r (now (board .exit))
+        ⌝ }
+{
+    let s = sheet_from(sheet, count, charge);
+    let f = frame_from(frame);
+    rowcalls::open_row(s, f, board)
+}
+
+// Asks for a new task at a priority place of a sheet with its frame: the new sheet and its choice, in a row of 227 numbers.
+#[no_mangle]
+pub extern "C" fn nolkrada_board_ask(
+    sheet: &[u32],
+    count: u32,
+    charge: u8,
+    frame: &[u32],
+    task: &[u32],
+    place: u32,
+    offer: &mut [u32],
+) -> u64
+    ensures { λ r. ⌜
+        Ends offerNumbers
+        (asWords planRow (askCall (framedFrom (now (sheet .entry)) count charge (now (frame .entry))) (taskEntry (taskAt (now (task .entry)) 0)) place))
+        (now (offer .entry)) r (now (offer .exit))
+        ⌝ }
+{
+    let s = sheet_from(sheet, count, charge);
+    let f = frame_from(frame);
+    let t = task_at(task, 0);
+    rowcalls::ask_row(s, f, t, place as usize, offer)
+}
+
+// Commits an offer to a board: with the sheet and frame that it was asked of, the n releases since the last commit, and a tick.
+#[no_mangle]
+pub extern "C" fn nolkrada_board_commit(
+    board: &mut [u32],
+    offer: &[u32],
+    sheet: &[u32],
+    count: u32,
+    charge: u8,
+    frame: &[u32],
+    n: u32,
+    task: &[u32],
+    tick: &[u64],
+    cost: &[u32],
+    at: u64,
+) -> u64
+    ensures { λ r. ⌜
+        Ends boardNumbers
+        (asWords boardRow
+        (commitCall (boardView (boardFrom (now (board .entry))))
+        (commitOf (planFrom (now (offer .entry))) (sheetFrom (now (sheet .entry)) count charge) (frameFrom (now (frame .entry))) n (now (task .entry)) (now (tick .entry))
+        (now (cost .entry)) at))) (now (board .entry)) r (now (board .exit))
+        ⌝ }
+{
+    let o = rows::plan_from(offer);
+    let s = sheet_from(sheet, count, charge);
+    let f = frame_from(frame);
+    rowcalls::commit_row(board, o, s, f, n as usize, task, tick, cost, at)
 }

@@ -34,22 +34,22 @@ module _ (n : ℕ) (task tick cost : List ℕ) where
   unfolding releasesOf
   drop-releases i h = drop-table _ noRelease n i h
 
--- the invariant of a loop that has passed every release below i
-pub record Checking (s : Tasks) (n : ℕ) (task tick cost : List ℕ) (before i : ℕ) : Type 0 where
+-- the invariant of a loop that has passed every release below i; none may be before tick `since`
+pub record Checking (s : Tasks) (since n : ℕ) (task tick cost : List ℕ) (before i : ℕ) : Type 0 where
   pub within : i ≤ n
-  pub rest : checkReleases s 0 0 (releasesOf n task tick cost) ≡ checkReleases s before i (drop i (releasesOf n task tick cost))
+  pub rest : checkReleases s since 0 (releasesOf n task tick cost) ≡ checkReleases s before i (drop i (releasesOf n task tick cost))
 
-module _ (s : Tasks) (n : ℕ) (task tick cost : List ℕ) where
+module _ (s : Tasks) (since n : ℕ) (task tick cost : List ℕ) where
   -- the release at a place of the columns
   abbrev pub placed : ℕ → Release
   placed i = release (getD task i 0) (getD tick i 0) (getD cost i 0)
 
-  pub checking-none : Checking s n task tick cost 0 0
+  pub checking-none : Checking s since n task tick cost since 0
   checking-none = record { within = omega arith; rest = refl }
 
   pub checking-fault
-      : (before i : ℕ) (q : Refusal) → Checking s n task tick cost before i → i < n → some q ≡ faultAt i (releaseFault s before maxTick (placed i))
-      → some q ≡ checkReleases s 0 0 (releasesOf n task tick cost)
+      : (before i : ℕ) (q : Refusal) → Checking s since n task tick cost before i → i < n → some q ≡ faultAt i (releaseFault s before maxTick (placed i))
+      → some q ≡ checkReleases s since 0 (releasesOf n task tick cost)
   checking-fault before i q c h e =
       let w = fault-of i _ q e in
       ap some (w .1)
@@ -57,8 +57,8 @@ module _ (s : Tasks) (n : ℕ) (task tick cost : List ℕ) where
       ∙ sym (c .rest ∙ ap (checkReleases s before i) (drop-releases n task tick cost i h))
 
   pub checking-next
-      : (before i : ℕ) → Checking s n task tick cost before i → i < n → none ≡ faultAt i (releaseFault s before maxTick (placed i))
-      → Checking s n task tick cost (getD tick i 0) (i + 1)
+      : (before i : ℕ) → Checking s since n task tick cost before i → i < n → none ≡ faultAt i (releaseFault s before maxTick (placed i))
+      → Checking s since n task tick cost (getD tick i 0) (i + 1)
   checking-next before i c h e =
       record {
         within = omega arith;
@@ -68,7 +68,7 @@ module _ (s : Tasks) (n : ℕ) (task tick cost : List ℕ) where
             ∙ releases-next s before i _ _ (faultless-of i _ e));
       }
 
-  pub checking-all : (before i : ℕ) → Checking s n task tick cost before i → n ≤ i → none ≡ checkReleases s 0 0 (releasesOf n task tick cost)
+  pub checking-all : (before i : ℕ) → Checking s since n task tick cost before i → n ≤ i → none ≡ checkReleases s since 0 (releasesOf n task tick cost)
   unfolding checkReleases
   checking-all before i c h =
       let e : i ≡ n = omega (arith, c .within) in

@@ -47,13 +47,20 @@ pub fn check_release(place: usize, low: u64, high: u64, most: u32, tick: u64, co
     Checked::Fine
 }
 
-// The releases in order: 7, 8 or 9 at the first release with a fault.
-pub fn check_releases(s: TaskSet, count: usize, task: &[u32], tick: &[u64], cost: &[u32]) -> Checked
+// The releases in order, none of them before tick `since`: 7, 8 or 9 at the first release with a fault.
+pub fn check_releases(
+    s: TaskSet,
+    since: u64,
+    count: usize,
+    task: &[u32],
+    tick: &[u64],
+    cost: &[u32],
+) -> Checked
     requires { ⌜ (s .count ≤ 32) × (count ≤ length (now task)) × (count ≤ length (now tick)) × (count ≤ length (now cost)) ⌝ }
-    ensures { λ r. ⌜ refusalIn r ≡ checkReleases (viewOf s) 0 0 (releasesOf count (now (task .entry)) (now (tick .entry)) (now (cost .entry))) ⌝ }
+    ensures { λ r. ⌜ refusalIn r ≡ checkReleases (viewOf s) since 0 (releasesOf count (now (task .entry)) (now (tick .entry)) (now (cost .entry))) ⌝ }
 {
     let tasks = s.count;
-    let mut before: u64 = 0;
+    let mut before = since;
     let mut i = 0;
     while i < count {
         let next = tick[i];
@@ -129,5 +136,5 @@ pub fn check_list(s: TaskSet, count: usize, task: &[u32], tick: &[u64], cost: &[
     let Checked::Fine = long else {
         return long;
     };
-    check_releases(s, count, task, tick, cost)
+    check_releases(s, 0, count, task, tick, cost)
 }

@@ -1,2 +1,3 @@
 -- Laws of task sets by value.
 pub mod SameEntries
+pub mod FilledLaws

@@ -199,7 +199,7 @@ pub fn check_call(
     let Checked::Fine = keeps else {
         return keeps;
     };
-    releases::check_releases(s, count, task, tick, cost)
+    releases::check_releases(s, 0, count, task, tick, cost)
 }
 
 // The shorter of two lengths.

@@ -261,7 +261,7 @@ pub fn check_write(
     let Checked::Fine = long else {
         return long;
     };
-    let listed = releases::check_releases(s, count, task, tick, cost);
+    let listed = releases::check_releases(s, 0, count, task, tick, cost);
     let sized = entries::sheet_size(s);
     let end = sized + list_size(count, tick, is_fine(listed));
     if room <= end {

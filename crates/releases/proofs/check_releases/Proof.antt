@@ -11,13 +11,13 @@ use Rattle.releases.proofs.check_releases.Statement.{statement}
 use Rattle.releases.proofs.check_releases.Tie as tie
 
 abbrev Inv-loop : tie.InvT-loop
-Inv-loop count task tick cost s tasks before₀ i₀ before i = Checking (viewOf s) count task tick cost before i
+Inv-loop since count task tick cost s tasks before₀ i₀ before i = Checking (viewOf s) since count task tick cost before i
 
 abbrev μ-loop : tie.MeasureT-loop
-μ-loop count task tick cost s tasks before₀ i₀ before i = count - i
+μ-loop since count task tick cost s tasks before₀ i₀ before i = count - i
 
 loop-holds : tie.Need-loop-holds Inv-loop μ-loop
-loop-holds c = checking-none _ _ _ _ _
+loop-holds c = checking-none _ _ _ _ _ _
 
 mul-next : tie.Need-mul-next Inv-loop μ-loop
 mul-next c = omega arith
@@ -36,7 +36,7 @@ cast-at c = omega (arith, c .shared-slice-known5 .given (c .before .before .befo
 
 returns : tie.Need-returns Inv-loop μ-loop
 returns c =
-    checking-fault _ _ _ _ _ _ _ _ (c .before .before .before .before .loop .inv) (c .before .before .before .loop-test .taken)
+    checking-fault _ _ _ _ _ _ _ _ _ (c .before .before .before .before .loop .inv) (c .before .before .before .loop-test .taken)
     (faulty _ 7 _ (fault-task _ _ _ _ (omega arith)))
 
 mul-t : tie.Need-mul-t Inv-loop μ-loop
@@ -63,7 +63,7 @@ enum-told-2 c = search needs
 returns-2 : tie.Need-returns-2 Inv-loop μ-loop
 returns-2 c =
     rw (c .enum-told2 .given .1)
-    (checking-fault _ _ _ _ _ _ _ _ (c .before .before .before .before .before .before .before .before .before .loop .inv)
+    (checking-fault _ _ _ _ _ _ _ _ _ (c .before .before .before .before .before .before .before .before .before .loop .inv)
     (c .before .before .before .before .before .before .before .before .loop-test .taken)
     (sym (ap refusalIn (c .enum-told2 .given .1)) ∙ c .before .before .check-release .ensures _ _ (omega arith) refl))
 
@@ -75,12 +75,12 @@ loop-less c = omega arith
 
 loop-again : tie.Need-loop-again Inv-loop μ-loop
 loop-again c =
-    checking-next _ _ _ _ _ _ _ (c .before .before .before .before .before .before .before .before .before .loop .inv)
+    checking-next _ _ _ _ _ _ _ _ (c .before .before .before .before .before .before .before .before .before .loop .inv)
     (c .before .before .before .before .before .before .before .before .loop-test .taken)
     (sym (ap refusalIn (c .enum-told .given .1)) ∙ c .before .before .check-release .ensures _ _ (omega arith) refl)
 
 returns-3 : tie.Need-returns-3 Inv-loop μ-loop
-returns-3 c = checking-all _ _ _ _ _ _ _ (c .before .loop .inv) (c .loop-test .left)
+returns-3 c = checking-all _ _ _ _ _ _ _ _ (c .before .loop .inv) (c .loop-test .left)
 
 pub check-releases-spec : {M : Type 1} → statement M
 check-releases-spec =

@@ -1,0 +1,6 @@
+-- Laws of ask and commit. From the ground up.
+pub mod SameLaws
+pub mod AskedLaws
+pub mod SinceLaws
+pub mod AcceptedLaws
+pub mod PlaceLaws

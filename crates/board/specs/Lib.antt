@@ -1,0 +1,2 @@
+-- What an opening and a commit answer.
+pub mod BoardCalls

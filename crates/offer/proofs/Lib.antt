@@ -1,0 +1,3 @@
+-- Laws of ask. From the ground up.
+pub mod PlanLaws
+pub mod AskLaws

@@ -1,0 +1,2 @@
+-- Offers as the definitions see them.
+pub mod Plans

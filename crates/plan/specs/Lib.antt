@@ -1,0 +1,2 @@
+-- Records by value as the definitions see them.
+pub mod PlanView

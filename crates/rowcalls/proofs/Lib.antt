@@ -1,0 +1,3 @@
+-- Laws of the calls on rows.
+pub mod RowEndLaws
+pub mod RowsStay

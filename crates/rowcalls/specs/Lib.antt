@@ -1,0 +1,2 @@
+-- What the calls on rows promise of the rows.
+pub mod RowsStay
