@@ -19,7 +19,9 @@ same-length : tie.Need-same-length
 same-length c = search needs
 
 returns : tie.Need-returns
-returns c = rw (c .before .before .before .before .before .before .sheet-from .ensures, c .before .before .before .before .before .frame-from .ensures, c .before .before .before .before .task-at .ensures) at (c .before .before .ask-row .ensures)
+returns c =
+    let d = c .before .before .before .before in
+    rw (d .before .before .sheet-from .ensures, d .before .frame-from .ensures, d .task-at .ensures) at (c .before .before .ask-row .ensures)
 
 pub nolkrada-board-ask-spec : {M : Type 1} → statement M
 nolkrada-board-ask-spec =

@@ -19,7 +19,9 @@ same-length : tie.Need-same-length
 same-length c = search needs
 
 returns : tie.Need-returns
-returns c = rw (c .before .before .before .before .before .before .plan-from .ensures, c .before .before .before .before .before .sheet-from .ensures, c .before .before .before .before .frame-from .ensures) at (c .before .before .commit-row .ensures)
+returns c =
+    let d = c .before .before .before .before in
+    rw (d .before .before .plan-from .ensures, d .before .sheet-from .ensures, d .frame-from .ensures) at (c .before .before .commit-row .ensures)
 
 pub nolkrada-board-commit-spec : {M : Type 1} → statement M
 nolkrada-board-commit-spec =
