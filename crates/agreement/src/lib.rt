@@ -8,7 +8,7 @@ use jumps::JumpAnswer;
 use taskset::{Checked, TaskSet};
 
 // What the ticking run and the run that jumps answered.
-#[derive(Drop)]
+#[derive(Clone, Copy)]
 pub struct BothAnswers {
     pub ticked: Checked,
     pub jumped: JumpAnswer,

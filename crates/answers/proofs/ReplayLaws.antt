@@ -109,12 +109,12 @@ module _ (f a b c : List ℕ) (ha : max_releases ≤ length a) (hb : max_release
     pub replay : list_text (view_of t) n p q r (choice (view_of t)) ≡ replay_text f
 
   -- the list text looks at the listed releases alone
-  List_same
+  list_same
       : (s : Tasks) (x : List Release) (ra rb rc : List ℕ) (c : Choice)
       → list_text s (length x) (tasks_of x ++ ra) (ticks_of x ++ rb) (costs_of x ++ rc) c ≡ list_text s (length x) (tasks_of x) (ticks_of x) (costs_of x) c
   unfolding list_text
-  List_same s x ra rb rc (unfit i) = refl
-  List_same s x ra rb rc (chosen ks ws) = long ∙ sym short
+  list_same s x ra rb rc (unfit i) = refl
+  list_same s x ra rb rc (chosen ks ws) = long ∙ sym short
     where
       rs : List ℕ
       rs = ready_list s (column ks) x
@@ -200,7 +200,7 @@ module _ (f a b c : List ℕ) (ha : max_releases ≤ length a) (hb : max_release
                   );
               list = rw (ev, back) (sym v.releases);
             };
-            replay = rw (replay_text, g, en, ap', aq, ar, ev) (List_same (sheet_in x) x.releases _ _ _ (choice (sheet_in x)));
+            replay = rw (replay_text, g, en, ap', aq, ar, ev) (list_same (sheet_in x) x.releases _ _ _ (choice (sheet_in x)));
           }
 
       go : (d : Answer File) → decode f ≡ d → Holds n t p q r

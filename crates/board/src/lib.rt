@@ -15,7 +15,7 @@ use taskset::{Checked, TaskSet};
 
 // What an opening or a commit answers: nothing wrong and the board, or the documents' number and place. After a refused commit the board is the one that was there; after
 // a refused opening it is of no meaning.
-#[derive(Drop)]
+#[derive(Clone, Copy)]
 pub struct Committed {
     pub answer: Checked,
     pub board: Board,

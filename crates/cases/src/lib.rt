@@ -1,6 +1,8 @@
 // Cases of the stored vectors. Standard input is a row of blocks, each with its length in bytes first (four bytes, little-endian). A case is a
 // label, a block of numbers that holds the task set and what the call is given besides, a block with the frame's numbers where that one says that there is a
 // frame, and a block for each lent slice: what it holds before the call. A number has four bytes, a tick eight.
+#![tactic(auto)]
+
 ghost use Rattle.std.specs.Prelude.{◌+◌, ◌≤◌, ◌<◌, min, ◌≡◌, not, eqb, length, get_or, drop};
 ghost use Rattle.io.specs.Counts.{IsPrefixLen};
 ghost use Rattle.cases.specs.Cases.{number_at, tick_at, entry_of, Numbers, SetIn};

@@ -1,4 +1,6 @@
 // The choice of kept jitters.
+#![tactic(auto)]
+
 ghost use Rattle.std.specs.Prelude.{◌≡◌, ◌≤◌, ◌++◌, length, take, drop, ◌&&◌};
 ghost use Rattle.model.specs.Tasks.{Valid};
 ghost use Rattle.model.specs.Checks.{refusal_of};
@@ -18,7 +20,7 @@ use taskset::{Checked, TaskSet};
 
 // Kept jitters and largest R of the first tasks, as many as have a kept jitter, 0 past them and 0 for those that are not judged; and the evaluations that they
 // took.
-#[derive(Drop)]
+#[derive(Clone, Copy)]
 pub struct Choices {
     pub keep: [u32; 32],
     pub worst: [u32; 32],
@@ -27,14 +29,14 @@ pub struct Choices {
 }
 
 // The choice that is the answer, and whether it is a partial one, that of the high tasks alone.
-#[derive(Drop)]
+#[derive(Clone, Copy)]
 pub struct Decision {
     pub choices: Choices,
     pub partial: bool,
 }
 
 // The answer of a choice: which of the two it is, or document 01's number and place.
-#[derive(Drop)]
+#[derive(Clone, Copy)]
 pub enum ChoiceAnswer {
     Ordinary,
     HighOnly,

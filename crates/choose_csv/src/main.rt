@@ -7,7 +7,7 @@ use libc::{STDIN_FILENO, STDOUT_FILENO};
 use loader::Loader;
 
 // What follows on a read: it failed, or the answer is printed, or more is read.
-#[derive(Drop)]
+#[derive(Clone, Copy)]
 pub enum Step {
     Fails,
     Prints,
@@ -15,7 +15,7 @@ pub enum Step {
 }
 
 // The loader after a read, and what follows.
-#[derive(Drop)]
+#[derive(Clone, Copy)]
 pub struct Turn {
     pub loader: Loader,
     pub step: Step,

@@ -104,12 +104,12 @@ module _ (framed : Bool) (ticks count : ℕ) (first size : List ℕ) (c : FrameC
   begins_at = record { in_frame = in_frame; within = w }
 
 -- how much a number that is tried counts, as the code has it
-pub Counts_of
+pub counts_of
     : (framed : Bool) (ticks count : ℕ) (first size loads periods : List ℕ) (J D : ℕ)
     → Counts (flat_tasks (column_frame framed ticks count first size) loads periods J D) (tally_of framed)
-Counts_of true ticks count first size loads periods J D =
+counts_of true ticks count first size loads periods J D =
     record { plain = λ e. let z : ◌≡◌ {A = ℕ} 0 1 = cc in absurd (omega arith); framed = λ f e. refl }
-Counts_of false ticks count first size loads periods J D =
+counts_of false ticks count first size loads periods J D =
     record { plain = λ e. refl; framed = λ f e. let z : ◌≡◌ {A = ℕ} 0 1 = cc in absurd (omega arith) }
 
 -- by a number equal to it

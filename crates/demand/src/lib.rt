@@ -1,4 +1,6 @@
 // Arrival count and demand.
+#![tactic(auto)]
+
 ghost use Rattle.std.specs.Prelude.{◌≡◌, ◌≤◌, ◌<◌};
 ghost use Rattle.model.specs.Tasks.{Valid};
 ghost use Rattle.model.specs.Arrival as model_arrival;
@@ -20,28 +22,28 @@ use quotient::{ceil_div, factor_of};
 use taskset::{Checked, TaskSet};
 
 // What the call "arrival count" answers: the count, or document 01's number and place.
-#[derive(Drop)]
+#[derive(Clone, Copy)]
 pub enum ArrivalAnswer {
     Count(u64),
     Refused { number: u32, place: usize },
 }
 
 // Loads and periods of a task set, one slot for each task.
-#[derive(Drop)]
+#[derive(Clone, Copy)]
 pub struct TaskColumns {
     pub loads: [u32; 32],
     pub periods: [u32; 32],
 }
 
 // Factors of periods in two parts, one slot for each period: what a division by the period needs.
-#[derive(Drop)]
+#[derive(Clone, Copy)]
 pub struct FactorColumns {
     pub highs: [u32; 32],
     pub lows: [u32; 32],
 }
 
 // A start of the search for W(q): its place in the frame, the ticks of the windows before it, and the first number of ticks tried from it.
-#[derive(Drop)]
+#[derive(Clone, Copy)]
 pub struct Start {
     pub at: u32,
     pub before: u32,

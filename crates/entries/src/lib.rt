@@ -1,4 +1,6 @@
 // Entries of a sheet that is read or loaded: none yet, and the check of the charge and of one task more; the bytes of records.
+#![tactic(auto)]
+
 ghost use Rattle.std.specs.Prelude.{◌≡◌, ◌≤◌, []};
 ghost use Rattle.taskset.specs.TaskSet.{view_of, refusal_in};
 ghost use Rattle.model.specs.Checks.{fault_at};

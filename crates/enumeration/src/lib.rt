@@ -1,1 +1,3 @@
 // Definitions and laws of the small traces of a sheet (document 02, R-12): no code.
+#![tactic(auto)]
+

@@ -189,24 +189,24 @@ follows s s' f r x p q e =
 pub never_answered : {A : Type 0} (q : Refusal) (x : A) → refused q ≡ answered x → ⊥
 never_answered q x e = let z : ◌≡◌ {A = ℕ} 0 1 = cc in omega arith
 
-Written_step
+written_step
     : (n : ℕ) (s : State) (at : ℕ) (f : List ℕ) (x : File) (r : Record) (t : Step) → record_of f ≡ r → advance s r ≡ t → Moves s r t → Bytes f
     → read_from (suc n) s at f ≡ answered x → ((s' : State) → read_from n s' (at + size_of r) (drop (size_of r) f) ≡ answered x → encode x ≡ part_of s' ++ drop (size_of r) f)
     → encode x ≡ part_of s ++ f
 unfolding record_bytes size_of
-Written_step n s at f x r t d a (stops q k) b e ih =
+written_step n s at f x r t d a (stops q k) b e ih =
     absurd (never_answered _ x (sym (read_stop n s at f r d k a) ∙ e))
-Written_step n s at f x r t d a (takes_charge c z g l h) b e ih =
+written_step n s at f x r t d a (takes_charge c z g l h) b e ih =
     follows s (with_charge s c) f r x (part_charge s c z g l h) (bytes_read f r (rw d at (shape f)) b (omega arith))
     (ih _ (sym (read_next n s at f r d _ a) ∙ e))
-Written_step n s at f x r t d a (takes_task t' z l g k) b e ih =
+written_step n s at f x r t d a (takes_task t' z l g k) b e ih =
     follows s (with_task s t') f r x (part_task s t' z) (bytes_read f r (rw d at (shape f)) b (omega arith))
     (ih _ (sym (read_next n s at f r d _ a) ∙ e))
-Written_step n s at f x r t d a (takes_release w r' l g m) b e ih =
+written_step n s at f x r t d a (takes_release w r' l g m) b e ih =
     follows s (with_release s r') f r x (part_release s w r' (kind_written (sheet_with s.charge s.tasks) s.before r' w g))
     (bytes_read f r (rw d at (shape f)) b (omega arith))
     (ih _ (sym (read_next n s at f r d _ a) ∙ e))
-Written_step n s at f x r t d a (ends l) b e ih =
+written_step n s at f x r t d a (ends l) b e ih =
     let g = after_end_lem s _ _ x (sym (read_last n s at f r d a) ∙ e) in
     ap encode g.1
     ∙ encode_parts (record { charge = s.charge; tasks = s.tasks; releases = s.releases })
@@ -218,7 +218,7 @@ written : (n : ℕ) (s : State) (at : ℕ) (f : List ℕ) (x : File) → Bytes f
 unfolding read_by
 written zero s at f x b e = absurd (never_answered _ x e)
 written (suc n) s at f x b e =
-    Written_step n s at f x (record_of f) (advance s (record_of f)) refl refl (moves s (record_of f)) b e
+    written_step n s at f x (record_of f) (advance s (record_of f)) refl refl (moves s (record_of f)) b e
     (λ s' e'. written n s' _ _ x (bytes_drop (size_of (record_of f)) f b) e')
 
 -- an accepted file is what its contents are written as
@@ -393,13 +393,13 @@ nil_of [] h = refl
 nil_of (r ∷ l) h = absurd (omega arith)
 
 -- what holds of each of some tasks holds with one more of which it holds
-pub All_more
+pub all_more
     : (P : Task → Type 0) (l : List Task) (t : Task) → ((i : ℕ) → i < length l → P (get_or l i no_task)) → P t
     → (i : ℕ) → i < length (l ++ (t ∷ [])) → P (get_or (l ++ (t ∷ [])) i no_task)
-All_more P [] t h g zero i = g
-All_more P [] t h g (suc j) i = absurd (omega arith)
-All_more P (a ∷ l) t h g zero i = h 0 (omega arith)
-All_more P (a ∷ l) t h g (suc j) i = All_more P l t (λ k m. h (suc k) (omega arith)) g j (omega arith)
+all_more P [] t h g zero i = g
+all_more P [] t h g (suc j) i = absurd (omega arith)
+all_more P (a ∷ l) t h g zero i = h 0 (omega arith)
+all_more P (a ∷ l) t h g (suc j) i = all_more P l t (λ k m. h (suc k) (omega arith)) g j (omega arith)
 
 good_charge : (s : State) (c : ℕ) → Good s → length s.tasks ≡ 0 → length s.releases ≡ 0 → Good (with_charge s c)
 good_charge s c g y z =
@@ -415,8 +415,8 @@ good_charge s c g y z =
 good_task : (s : State) (t : Task) → Good s → length s.releases ≡ 0 → length s.tasks < max_tasks → Ranged t → Loaded s.charge t → Good (with_task s t)
 good_task s t g z l h k =
     record {
-      ranged = All_more Ranged s.tasks t g.ranged h;
-      loaded = All_more (Loaded s.charge) s.tasks t g.loaded k;
+      ranged = all_more Ranged s.tasks t g.ranged h;
+      loaded = all_more (Loaded s.charge) s.tasks t g.loaded k;
       few_tasks = omega (arith, length-append s.tasks (t ∷ []));
       few_releases = g.few_releases;
       checked = λ m. rw (nil_of s.releases z, g.fresh z);

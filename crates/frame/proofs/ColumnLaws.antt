@@ -153,11 +153,11 @@ module _ (f : Frame) (h : Ruled (frame_of f)) where
   pub size_small : (k : ℕ) → k < on f.present f.count → (windows_of f).first k + (windows_of f).size k ≤ max_frame
   size_small k l = let v = counted k l in omega (arith, v.0.inside k v.1, v.0.ticks_high)
 
-  pub Copied_next
+  pub copied_next
       : (k per : ℕ) (first size : List ℕ) → Copied f k per first size → k < on f.present f.count
       → Copied f (k + 1) (per + (windows_of f).size k) (set first k ((windows_of f).first k)) (set size k ((windows_of f).size k))
   unfolding sum
-  Copied_next k per first size c l =
+  copied_next k per first size c l =
       record {
         within = omega arith;
         of_first = holds_next _ _ k _ first c.of_first (omega (arith, count_few)) refl;
@@ -167,10 +167,10 @@ module _ (f : Frame) (h : Ruled (frame_of f)) where
       }
 
   -- the columns are those of the frame
-  pub Copied_all
+  pub copied_all
       : (k n per : ℕ) (first size : List ℕ) → Copied f k per first size → n ≡ on f.present f.count → n ≤ k
       → Prepared f (record { framed = f.present; ticks = f.ticks; per = per; count = n; first = first; size = size })
-  Copied_all k n per first size c e l =
+  copied_all k n per first size c e l =
       record {
         supplies = record {
           columns = record {

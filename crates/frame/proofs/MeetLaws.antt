@@ -26,9 +26,9 @@ module _ (dem : ℕ → ℕ) (ours : ℕ → Bool) (u : ℕ) where
   below_start base t h g r = record { low = reached_low ours u base t h r; short = λ x a b. omega (arith, r.least x b, g x a) }
 
   -- it goes on to where as many are ours as the demand just tried
-  pub Below_next
+  pub below_next
       : (t v : ℕ) → ((x y : ℕ) → x ≤ y → dem x ≤ dem y) → 1 ≤ dem t → Below dem ours u t → Reached ours u (dem t) v → Below dem ours u v
-  Below_next t v rise h b r = record { low = reached_low ours u (dem t) v h r; short = short }
+  below_next t v rise h b r = record { low = reached_low ours u (dem t) v h r; short = short }
     where
       short : (x : ℕ) → 1 ≤ x → x < v → supply ours u x < dem x
       short x a l =

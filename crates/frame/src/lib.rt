@@ -1,4 +1,6 @@
 // Windows in a frame: its check, our ticks among some, and the ticks that some of ours take.
+#![tactic(auto)]
+
 ghost use Rattle.std.specs.Prelude.{◌≡◌, ◌&&◌, ℕ, ◌+◌, ◌-◌, ◌≤◌, ◌<◌, min, List, leb, ltb};
 ghost use Rattle.model.specs.Limits.{max_tick};
 ghost use Rattle.model.specs.Series as model_series;
@@ -16,14 +18,14 @@ use numbers::{number_at, wide};
 use taskset::{Checked, TaskSet};
 
 // A window: its first tick in the frame, and its length.
-#[derive(Drop)]
+#[derive(Clone, Copy)]
 pub struct Window {
     pub first: u32,
     pub length: u32,
 }
 
 // Whether there is a frame, its ticks, the number of its windows, and the windows. Those past the number are not looked at.
-#[derive(Drop)]
+#[derive(Clone, Copy)]
 pub struct Frame {
     pub present: bool,
     pub ticks: u32,
@@ -32,7 +34,7 @@ pub struct Frame {
 }
 
 // What the functions over columns need of a frame: its ticks, our ticks of it, the number of its windows, and their first ticks and lengths.
-#[derive(Drop)]
+#[derive(Clone, Copy)]
 pub struct Supply {
     pub framed: bool,
     pub ticks: u32,

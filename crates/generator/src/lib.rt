@@ -1,4 +1,6 @@
 // Every small trace of a sheet (document 02, R-12): a recursive generator that extends each trace one release deeper, its recursion and the search by count.
+#![tactic(auto)]
+
 ghost use Rattle.std.specs.Prelude.{◌≡◌, List, [], reverse, ℕ, ◌+◌, ◌<◌};
 ghost use Rattle.model.specs.Gap as model_gap;
 ghost use Rattle.model.specs.Ready as model_ready;
@@ -9,7 +11,7 @@ ghost use Rattle.generator.specs.Generator.{raised, Near, Looked, Seekable, left
 use numbers::larger;
 
 // P, J and E of a task.
-#[derive(Drop)]
+#[derive(Clone, Copy)]
 pub struct Timing {
     pub period: u32,
     pub jitter: u32,
@@ -17,7 +19,7 @@ pub struct Timing {
 }
 
 // The pairs (tick, task) of a sheet with at most 3 tasks: pair x is tick x / tasks and task x % tasks.
-#[derive(Drop)]
+#[derive(Clone, Copy)]
 pub struct Grid {
     pub timings: [Timing; 3],
     pub tasks: usize,
@@ -25,21 +27,21 @@ pub struct Grid {
 }
 
 // What the generator answers: the trace at the position was found, or what is left of the position after the traces that it went through.
-#[derive(Drop)]
+#[derive(Clone, Copy)]
 pub enum Sought {
     Found,
     Left(u64),
 }
 
 // Where a position of the list of small traces stands: at a trace of so many releases, or past the last, with what is left of it.
-#[derive(Drop)]
+#[derive(Clone, Copy)]
 pub enum Reached {
     Trace { length: usize },
     Past { left: u64 },
 }
 
 // The least tick at which a release may follow those looked at so far, and how many places before it the next one of its task stands.
-#[derive(Drop)]
+#[derive(Clone, Copy)]
 pub struct Floor {
     pub tick: u64,
     pub places: u32,

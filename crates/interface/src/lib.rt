@@ -1,5 +1,7 @@
 // What passes between C and the calls: a sheet as numbers, a refusal as a code, an answer as words in a lent slice.
 // A code is 0, or number · 2^32 + place of a refusal.
+#![tactic(auto)]
+
 ghost use Rattle.std.specs.Prelude.{◌≡◌, ◌+◌, ◌≤◌, ◌<◌, min, [], ◌∷◌, ◌++◌, length, drop};
 ghost use Rattle.std.proofs.Math.Option.{some};
 ghost use Rattle.std.proofs.lemmas.List.Edits.{sets};

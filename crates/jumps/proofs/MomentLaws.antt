@@ -26,7 +26,7 @@ use Rattle.frame.specs.Reached.{Reached}
 use Rattle.frame.proofs.ReachedLaws.{reached_exact, reached_low, reached_high}
 use Rattle.queues.specs.Queues.{jobs_of, max_finish, first_from, next_of, top_ready, never, wake_of, work_of, Runnable}
 use Rattle.queues.proofs.SearchedLaws.{work_in}
-use Rattle.queues.proofs.HeadLaws.{Ordered, Heads, May, start_soon, Head_first, head_none, heads_rest, heads_run, heads_done}
+use Rattle.queues.proofs.HeadLaws.{Ordered, Heads, May, start_soon, head_first, head_none, heads_rest, heads_run, heads_done}
 use Rattle.queues.proofs.ColumnLaws.{ordered, timely, heads_start, none_above, none_found, one_found}
 use Rattle.queues.proofs.LeftColumnLaws.{Lefts, lefts_start, lefts_rest, lefts_run, lefts_done}
 use Rattle.queues.proofs.FinishColumnLaws.{Written, written_start, written_rest, written_run, written_done, written_end}
@@ -250,7 +250,7 @@ module _ (o : Option Frame) (n tasks : ℕ) (task cost : List ℕ) (charge : ℕ
         kept : (k : ℕ) → t + k ≤ new → k ≤ d → Keeps j t (get_or head i 0) k
         kept k a b =
             keeps j t (get_or head i 0) found.1.0 found.1.1
-            (Head_first j tasks order t head s.heads i found.0 found.1 (none_above o n tasks task cost charge ready head t s.time i e))
+            (head_first j tasks order t head s.heads i found.0 found.1 (none_above o n tasks task cost charge ready head t s.time i e))
             k (no_start k a)
             (omega (arith, supply_longer (ours_in o) t k d b, reached_exact (ours_in o) t (get_or left i 0) d takes, is_left))
 

@@ -1,4 +1,6 @@
 // The run that jumps: from one moment to the next at which a job may run for the first time or finishes, never tick by tick.
+#![tactic(auto)]
+
 ghost use Rattle.std.specs.Prelude.{◌≡◌, ◌++◌, ◌-◌, ◌≤◌, ◌<◌, leb, length, get_or, drop};
 ghost use Rattle.model.specs.Series.{table};
 ghost use Rattle.model.specs.Stops.{different};
@@ -20,7 +22,7 @@ use queues::{NEVER, first_jobs, first_work, may_run, next_of, smaller, wake_of, 
 use taskset::{Checked, TaskSet};
 
 // What the run that jumps answers: how often it stopped, or the documents' number and place.
-#[derive(Drop)]
+#[derive(Clone, Copy)]
 pub enum JumpAnswer {
     Ran { stops: u32 },
     Refused { number: u32, place: usize },

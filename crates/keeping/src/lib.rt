@@ -1,4 +1,6 @@
 // The least kept jitter at which a task fits, given those of the tasks above: one walk over q finds it.
+#![tactic(auto)]
+
 ghost use Rattle.std.specs.Prelude.{◌≡◌, ◌≤◌};
 ghost use Rattle.frame.specs.WindowColumns.{column_frame, Supplies};
 ghost use Rattle.demand.specs.Columns.{Factored};
@@ -10,7 +12,7 @@ use numbers::{larger, less, wide};
 use taskset::PICKUP;
 
 // W(q) with how many t count for it, or that it is over the horizon H or there is none.
-#[derive(Drop)]
+#[derive(Clone, Copy)]
 pub enum Window {
     Within { window: u32, tries: u64 },
     Over,
@@ -18,7 +20,7 @@ pub enum Window {
 
 // What the walk over q says at one q: the least kept jitter, which stops here, with its largest R; that no kept jitter fits;
 // or the largest W(q) + pickup + J − qP so far.
-#[derive(Drop)]
+#[derive(Clone, Copy)]
 pub enum Step {
     Stops { keep: u32, worst: u32 },
     Fails,
@@ -26,7 +28,7 @@ pub enum Step {
 }
 
 // The least kept jitter at which a task fits, with its largest R, the last q that was taken and the evaluations; or that there is none.
-#[derive(Drop)]
+#[derive(Clone, Copy)]
 pub enum Least {
     Keep {
         keep: u32,

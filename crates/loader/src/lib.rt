@@ -9,7 +9,7 @@ use taskset::{Checked, Task, TaskSet};
 
 // What is read of a line: how many commas, whether the present field has a digit, its number, and the last three numbers before it, the oldest first, 0 where
 // there are fewer. A number over every limit counts as 1,000,001, however many its digits are.
-#[derive(Drop)]
+#[derive(Clone, Copy)]
 pub struct LineSoFar {
     pub commas: u32,
     pub digit: bool,
@@ -20,7 +20,7 @@ pub struct LineSoFar {
 }
 
 // What a byte does to a line: it goes on, it ends with a task, or it has another form.
-#[derive(Drop)]
+#[derive(Clone, Copy)]
 pub enum Taken {
     Goes { line: LineSoFar },
     Ends { task: Task },
@@ -29,7 +29,7 @@ pub enum Taken {
 
 // A loader: the tasks of the lines before, what is read of the present line, and whether the text is refused already. It is made by `start` and `feed`; of a
 // value made otherwise the calls promise their equations alone, and nothing about a text.
-#[derive(Drop)]
+#[derive(Clone, Copy)]
 pub struct Loader {
     pub tasks: TaskSet,
     pub line: LineSoFar,
@@ -37,7 +37,7 @@ pub struct Loader {
 }
 
 // The answer of a load, and the sheet: no task after a refusal. Entries past the count and the charge are 0 where the loader was fed from `start` on.
-#[derive(Drop)]
+#[derive(Clone, Copy)]
 pub struct Loaded {
     pub answer: Checked,
     pub tasks: TaskSet,

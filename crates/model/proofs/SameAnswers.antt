@@ -253,10 +253,10 @@ module _ (s s' : Tasks) (same : SameTasks s s') where
   choice_refused kept worst =
       refusal_same none none _ _ none [] _ _ (ap (λ n. lends n kept ∷ lends n worst ∷ []) same.count) (ap unfit_of choice_same)
 
-  Ready_refused
+  ready_refused
       : (kept : List ℕ) (n : ℕ) (task tick cost ready : List ℕ)
       → refusal_of (ready_inputs s kept n task tick cost ready) ≡ refusal_of (ready_inputs s' kept n task tick cost ready)
-  Ready_refused kept n task tick cost ready =
+  ready_refused kept n task tick cost ready =
       refusal_same none (some n) _ _ (some (column kept)) (releases_of n task tick cost) none none (lends_same kept _) refl
 
   run_refused
@@ -283,9 +283,9 @@ module _ (s s' : Tasks) (same : SameTasks s s') where
             answer_same (choice_inputs s kept worst) (choice_inputs s' kept worst) _ _ (choice_refused kept worst) (λ n. scope_same);
         choice_kept = λ kept worst. ap₂ (λ r c. column_after r (kept_column c) kept) (choice_refused kept worst) choice_same;
         choice_worst = λ kept worst. ap₂ (λ r c. column_after r (worst_column c) worst) (choice_refused kept worst) choice_same;
-        ready_refusal = Ready_refused;
+        ready_refusal = ready_refused;
         ready_ticks_lem = λ kept n task tick cost ready.
-            column_same _ _ _ _ ready (Ready_refused kept n task tick cost ready)
+            column_same _ _ _ _ ready (ready_refused kept n task tick cost ready)
             (λ e. ready_list_same (releases_of n task tick cost) (known_of (ready_inputs s kept n task tick cost ready) refl e) (column kept));
         run_refusal = run_refused;
         run_ready = λ kept n task tick cost ready finish.

@@ -1,1 +1,3 @@
 // Definitions only: see specs/. There is no code here.
+#![tactic(auto)]
+

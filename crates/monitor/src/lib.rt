@@ -2,6 +2,8 @@
 // The window is lent: 546 slots that only these calls change. Whatever the slots hold, a call answers by the definitions or refuses.
 // Slot 0 is the number of tasks, slot 1 the count of jobs; from slot 2 on stand the deadlines of 32 tasks, from 34 on the tasks of 256 jobs, a ring, and from 290 on
 // their responses.
+#![tactic(auto)]
+
 ghost use Rattle.std.specs.Prelude.{◌≡◌, ◌+◌, ◌≤◌, ◌<◌, max, ◌++◌, ltb, length, drop};
 ghost use Rattle.model.specs.Limits.{max_tasks};
 ghost use Rattle.model.specs.Series.{on, table};
@@ -33,7 +35,7 @@ use numbers::larger;
 use taskset::{Checked, TaskSet};
 
 // What is counted of one task: its jobs, the late ones among them, and the largest response.
-#[derive(Drop)]
+#[derive(Clone, Copy)]
 pub struct Tally {
     pub jobs: u32,
     pub late: u32,
@@ -41,7 +43,7 @@ pub struct Tally {
 }
 
 // What the display shows of one task, or document 01's number and place.
-#[derive(Drop)]
+#[derive(Clone, Copy)]
 pub enum ShowAnswer {
     Showing { jobs: u32, late: u32, largest: u64 },
     Refused { number: u32, place: usize },

@@ -1,4 +1,6 @@
 // Numbers of fixed width: the same number in more bits, the larger of two, a difference that is cut off at 0, the number at a place of a row.
+#![tactic(auto)]
+
 ghost use Rattle.std.specs.Prelude.{◌≡◌, ◌-◌, ◌<◌, max, get_or};
 
 // A byte as a number of 32 bits.

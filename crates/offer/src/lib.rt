@@ -12,7 +12,7 @@ use plan::Plan;
 use taskset::{Checked, Task, TaskSet};
 
 // What an ask answers: nothing wrong and the new sheet with its choice, or the documents' number and place; the record is then of no meaning.
-#[derive(Drop)]
+#[derive(Clone, Copy)]
 pub struct Asked {
     pub answer: Checked,
     pub plan: Plan,

@@ -71,7 +71,7 @@ module _ (j : Jobs) (tasks : ℕ) (o : Ordered j tasks) where
     head_may p a b d = (omega (arith, head_le p a d), omega (arith, head_start p a d))
 
     -- the highest-priority task whose oldest unfinished job may run: that job goes before every job that may run, and runs where the tick is ours
-    pub Head_first
+    pub head_first
         : (i : ℕ)
         → i < tasks
         → May j t head i
@@ -81,13 +81,13 @@ module _ (j : Jobs) (tasks : ℕ) (o : Ordered j tasks) where
         → j.start q ≤ t
         → 0 < left_at j t q
         → Before j.task (get_or head i 0) q
-    Head_first i a m f q b d u =
+    head_first i a m f q b d u =
         let e : j.task (get_or head i 0) ≡ i = h.own i a m.0 in
         let l : i ≤ j.task q = le_by i (j.task q) (λ g. f (j.task q) g (head_may q b d u)) in
         (omega arith, λ g. let s : j.task q ≡ i = omega arith in rw s at (head_le q b u))
 
     pub runs_head : j.ours t ≡ true → (i : ℕ) → i < tasks → May j t head i → ((k : ℕ) → k < i → May j t head k → ⊥) → runs j t ≡ some (get_or head i 0)
-    runs_head e i a m f = runs_is j t e (get_or head i 0) m.0 m.1 (h.unfinished i a m.0) (Head_first i a m f)
+    runs_head e i a m f = runs_is j t e (get_or head i 0) m.0 m.1 (h.unfinished i a m.0) (head_first i a m f)
 
     -- where the oldest unfinished job of no task may run, every job that may run is finished, and none runs
     pub head_none : ((k : ℕ) → k < tasks → May j t head k → ⊥) → (q : ℕ) → q < j.count → j.start q ≤ t → left_at j t q ≡ 0

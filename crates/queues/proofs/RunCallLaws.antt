@@ -23,7 +23,7 @@ use Rattle.model.proofs.FrameLaws.{Ruled}
 use Rattle.model.proofs.TableLaws.{length_table, table_agree}
 use Rattle.trace.specs.TraceCalls.{Shapable}
 use Rattle.trace.proofs.ReadyAtLaws.{ready_rising}
-use Rattle.trace.proofs.ListCallLaws.{Callable, Callable_of, listed_shapable, run_checks}
+use Rattle.trace.proofs.ListCallLaws.{Callable, callable_of, listed_shapable, run_checks}
 use Rattle.trace.proofs.CloseWalkLaws.{inside, task_is, list_high, ready_high, ready_slot}
 use Rattle.processor.proofs.FinishBound.{finish_bound}
 use Rattle.queues.specs.Queues.{start_of, jobs_of, finish_limit, max_finish, Workable, Runnable}
@@ -45,7 +45,7 @@ pub record Cleared (s : Tasks) (kept : List ℕ) (n : ℕ) (task tick cost ready
 
 module _ (s : Tasks) (kept : List ℕ) (n : ℕ) (task tick cost ready finish : List ℕ) (e : Cleared s kept n task tick cost ready finish) where
   callable : Callable s kept n task tick cost (min (length ready) (length finish))
-  callable = Callable_of s kept n task tick cost (min (length ready) (length finish)) (e.clear ∙ sym (run_checks s kept n task tick cost ready finish))
+  callable = callable_of s kept n task tick cost (min (length ready) (length finish)) (e.clear ∙ sym (run_checks s kept n task tick cost ready finish))
 
   shapable : Shapable s n task tick
   shapable = listed_shapable s n task tick cost callable.listed

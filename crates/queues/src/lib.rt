@@ -1,5 +1,7 @@
 // The jobs of a list in columns, as a queue for each task with its oldest unfinished job at the head: what both runs share, their checks
 // too, and the searches of the ticking run.
+#![tactic(auto)]
+
 ghost use Rattle.std.specs.Prelude.{◌≡◌, ◌≤◌, ◌<◌, min, leb, length, get_or};
 ghost use Rattle.model.specs.Slots.{Holds};
 ghost use Rattle.model.specs.Choice.{column};

@@ -1,4 +1,6 @@
 // A quotient by a period, rounded up, as products with a factor that is worked out once for the period.
+#![tactic(auto)]
+
 ghost use Rattle.std.specs.Prelude.{◌≡◌, ◌≤◌};
 ghost use Rattle.model.specs.Arrival as model_arrival;
 ghost use Rattle.quotient.specs.Factor.{parts_of, Divided};
@@ -6,7 +8,7 @@ ghost use Rattle.quotient.specs.Factor.{parts_of, Divided};
 use numbers::wide;
 
 // The factor of a period, 2^44 ÷ P rounded up, in two parts: high × 2^20 + low.
-#[derive(Drop)]
+#[derive(Clone, Copy)]
 pub struct Factor {
     pub high: u32,
     pub low: u32,

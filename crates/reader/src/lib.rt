@@ -8,7 +8,7 @@ use records::{Found, check_job, job_at, record_at};
 use taskset::{Checked, TaskSet};
 
 // What the scan of a whole file gives: a refusal, or the tasks with the charge, the number of releases and the offset at which they start.
-#[derive(Drop)]
+#[derive(Clone, Copy)]
 pub struct Scanned {
     pub answer: Checked,
     pub tasks: TaskSet,
@@ -124,14 +124,14 @@ fn scan(f: &[u8]) -> Scanned
 }
 
 // The answer of a read: the number of releases, or document 01's number and place.
-#[derive(Drop)]
+#[derive(Clone, Copy)]
 pub enum ReadOutcome {
     Read { releases: usize },
     Refused { number: u32, place: usize },
 }
 
 // The answer and the sheet; after a refusal a sheet of no task and no charge. Entries past the count are 0.
-#[derive(Drop)]
+#[derive(Clone, Copy)]
 pub struct ReadAnswer {
     pub outcome: ReadOutcome,
     pub tasks: TaskSet,

@@ -1,4 +1,6 @@
 // Records of the file: the one at an offset, and whether a release record may follow the records before it.
+#![tactic(auto)]
+
 ghost use Rattle.std.specs.Prelude.{◌≡◌, ◌≤◌, ◌<◌, ◌+◌, length, drop};
 ghost use Rattle.model.specs.Tasks.{Tasks};
 ghost use Rattle.model.specs.Checks.{fault_at};
@@ -12,7 +14,7 @@ use numbers::{larger, wide, wide_byte};
 use taskset::{Checked, Task};
 
 // A release as it stands in a file.
-#[derive(Drop)]
+#[derive(Clone, Copy)]
 pub struct Job {
     pub task: u32,
     pub tick: u64,
@@ -21,7 +23,7 @@ pub struct Job {
 
 // The record at an offset, or what is wrong with it: a number, or that the last byte of a kind 6 record is not 0. The tick of a long release
 // record (kind 4) has eight bytes.
-#[derive(Drop)]
+#[derive(Clone, Copy)]
 pub enum Found {
     Broken { number: u32 },
     WrongMark,

@@ -1,4 +1,6 @@
 // The checks of a list of releases in three columns: 10, 13, then 7, 8 and 9 release by release.
+#![tactic(auto)]
+
 ghost use Rattle.std.specs.Prelude.{◌≡◌, ℕ, ◌≤◌, ◌<◌, [], ◌∷◌, length};
 ghost use Rattle.model.specs.Tasks.{Tasks};
 ghost use Rattle.std.proofs.Math.Option.{some};

@@ -1,4 +1,6 @@
 // The programs' text, written into a lent buffer.
+#![tactic(auto)]
+
 ghost use Rattle.std.specs.Prelude.{◌≡◌, ◌+◌, ◌≤◌, ◌-◌, length};
 ghost use Rattle.model.specs.Choice.{scope_in};
 ghost use Rattle.taskset.specs.TaskSet.{view_of};

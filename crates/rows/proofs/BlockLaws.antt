@@ -126,14 +126,14 @@ pub written_none : (held : List ℕ) (at : ℕ) (g : ℕ → List ℕ) (w m : �
 unfolding joined
 written_none held at g w m h = record { within = omega arith; room = h; long = refl; whole = refl }
 
-pub Written_next
+pub written_next
     : (held : List ℕ) (at : ℕ) (g : ℕ → List ℕ) (w m : ℕ) (now now' : List ℕ) (i : ℕ)
     → ((k : ℕ) → length (g k) ≡ w)
     → Written held at g w m now i
     → i < m
     → now' ≡ sets now (at + i * w) (g i)
     → Written held at g w m now' (i + 1)
-Written_next held at g w m now now' i long f h e =
+written_next held at g w m now now' i long f h e =
     record {
       within = omega arith;
       room = f.room;

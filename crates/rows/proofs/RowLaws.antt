@@ -27,7 +27,7 @@ use Rattle.plan.specs.declared.Plan.{Plan}
 use Rattle.plan.specs.declared.Board.{Board}
 use Rattle.plan.specs.PlanView.{plan_view, board_view}
 use Rattle.rows.specs.Rows.{entry_numbers, tasks_row, windows_row, padded, scope_number, plan_row, frame_row, board_row, offer_numbers, board_numbers}
-use Rattle.rows.proofs.BlockLaws.{joined, length_joined, joined_padded, column_padded, ones, length_padded, sets_then, sets_front, Written, Written_next, written_All}
+use Rattle.rows.proofs.BlockLaws.{joined, length_joined, joined_padded, column_padded, ones, length_padded, sets_then, sets_front, Written, written_next, written_All}
 
 -- tasks and windows as groups
 abbrev pub task_group : Tasks → ℕ → List ℕ
@@ -102,7 +102,7 @@ pub numbers_next
 unfolding cut_number
 numbers_next held at l n now i x f h e =
     let k : at + i ≡ at + i * 1 = omega arith in
-    Written_next held at (cut_number l n) 1 32 now (set now (at + i) x) i (λ j. refl) f h (ap₂ (λ (m v : ℕ). set now m v) k e)
+    written_next held at (cut_number l n) 1 32 now (set now (at + i) x) i (λ j. refl) f h (ap₂ (λ (m v : ℕ). set now m v) k e)
 
 pub numbers_all
     : (held : List ℕ) (at : ℕ) (l : List ℕ) (n : ℕ) (now : List ℕ) (i : ℕ) → n ≤ 32 → Written held at (cut_number l n) 1 32 now i → 32 ≤ i
@@ -125,7 +125,7 @@ unfolding cut_window
 windows_next held f n now k w d h e =
     let a : 230 + 2 * k ≡ 230 + k * 2 = omega arith in
     let b : 231 + 2 * k ≡ suc (230 + k * 2) = omega arith in
-    Written_next held 230 (cut_window f n) 2 16 now (set (set now (230 + 2 * k) w.first) (231 + 2 * k) w.length) k (λ j. refl) d h
+    written_next held 230 (cut_window f n) 2 16 now (set (set now (230 + 2 * k) w.first) (231 + 2 * k) w.length) k (λ j. refl) d h
     (ap₂ (λ (i j : ℕ). set (set now i w.first) j w.length) a b
     ∙ ap (λ (v : Window). set (set now (230 + k * 2) v.first) (suc (230 + k * 2)) v.length) e)
 

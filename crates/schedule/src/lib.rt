@@ -1,5 +1,7 @@
 // The run, tick by tick: in each tick of ours, of the jobs that were ready before it and are unfinished, the highest-priority task's oldest
 // job runs.
+#![tactic(auto)]
+
 ghost use Rattle.std.specs.Prelude.{◌≡◌, ◌++◌, drop};
 ghost use Rattle.model.specs.Series.{table};
 ghost use Rattle.model.specs.Choice.{column};

@@ -1,4 +1,6 @@
 // Gap and shaper of one task.
+#![tactic(auto)]
+
 ghost use Rattle.std.specs.Prelude.{◌≡◌, []};
 ghost use Rattle.model.specs.Gap as model_gap;
 ghost use Rattle.shaper.specs.Shaper.{state_of, Small, Shapes};
@@ -14,7 +16,7 @@ pub fn gap(period: u32, keep: u32, k: u32) -> u64
 
 // The state of one task's shaper between two of its jobs: period and kept jitter, the latest ready tick, and the largest of
 // ready tick + k × period over the earlier jobs, k places before the next one. Both are 0 before the first job.
-#[derive(Drop)]
+#[derive(Clone, Copy)]
 pub struct Shaper {
     pub period: u32,
     pub keep: u32,
@@ -23,7 +25,7 @@ pub struct Shaper {
 }
 
 // The state after a job, and the job's ready tick.
-#[derive(Drop)]
+#[derive(Clone, Copy)]
 pub struct Shaped {
     pub state: Shaper,
     pub ready: u64,

@@ -9,7 +9,7 @@ use generator::{Grid, Reached, Timing};
 use taskset::{Checked, Task, TaskSet};
 
 // The answer of the call for a trace: the trace has so many releases; the position is past the last trace; or the number and the place of a refusal.
-#[derive(Drop)]
+#[derive(Clone, Copy)]
 pub enum SmallAnswer {
     Trace { length: usize },
     Past,
@@ -17,7 +17,7 @@ pub enum SmallAnswer {
 }
 
 // The answer of the call for the number of traces.
-#[derive(Drop)]
+#[derive(Clone, Copy)]
 pub enum CountAnswer {
     Count(u64),
     Refused { number: u32, place: usize },

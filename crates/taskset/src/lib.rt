@@ -1,4 +1,6 @@
 // The task set (document 01's "sheet"), its limits and its checks.
+#![tactic(auto)]
+
 ghost use Rattle.std.specs.Prelude.{◌≡◌, ◌≤◌, length};
 ghost use Rattle.std.proofs.Math.Option.{some};
 ghost use Rattle.model.specs.Choice.{column};
@@ -9,7 +11,7 @@ ghost use Rattle.taskset.specs.TaskSet.{view_of, refusal_in};
 pub const PICKUP: u64 = 1;
 
 // A task: period P, jitter J, cost E and deadline D, and its mark: low, or high where it is not low.
-#[derive(Drop)]
+#[derive(Clone, Copy)]
 pub struct Task {
     pub period: u32,
     pub jitter: u32,
@@ -20,7 +22,7 @@ pub struct Task {
 
 // "Sheet": a count and 32 task entries, task 0 with the highest priority, and the charge S that each job takes beside its cost, 0 where
 // there is none. Entries past the count are not looked at.
-#[derive(Drop)]
+#[derive(Clone, Copy)]
 pub struct TaskSet {
     pub tasks: [Task; 32],
     pub count: usize,
@@ -28,7 +30,7 @@ pub struct TaskSet {
 }
 
 // What a check answers: nothing wrong, or document 01's number and place.
-#[derive(Drop)]
+#[derive(Clone, Copy)]
 pub enum Checked {
     Fine,
     Refused { number: u32, place: usize },

@@ -1,4 +1,6 @@
 // Text into a lent buffer: bytes and decimal numbers, one after the other.
+#![tactic(auto)]
+
 ghost use Rattle.std.specs.Prelude.{◌+◌, ◌≤◌, ◌<◌, ◌≡◌, [], ◌∷◌, length};
 ghost use Rattle.text.specs.Text.{Put, PutField, decimal, field};
 

@@ -20,7 +20,7 @@ use Rattle.taskset.specs.declared.Task.{Task}
 use Rattle.fileformat.specs.File.{sheet_of, task_fault, end_fault}
 use Rattle.fileformat.specs.OldFiles.{AllHigh}
 use Rattle.fileformat.proofs.StepLaws.{Ranged, task_same, task_numbers_lem, task_few, task_ranged, end_early, end_fine}
-use Rattle.fileformat.proofs.RoundTrips.{never_answered, AllRanged, All_more}
+use Rattle.fileformat.proofs.RoundTrips.{never_answered, AllRanged, all_more}
 use Rattle.text.specs.Text.{line_feed, decimal, field}
 use Rattle.textformat.specs.Numerals.{is_digit, all_digits, is_numeral, value_from, value}
 use Rattle.textformat.specs.Lines.{comma, Line, last_line, lines_from, lines_of, fields_from, fields_of}
@@ -272,7 +272,7 @@ loads_valid ts l us (ends vs h) r f =
       framed = unframed_ruled;
     }
 loads_valid ts l us (takes vs x m ws k n) r f =
-    loads_valid (vs ++ (task_in x ∷ [])) m ws n (All_more Ranged vs (task_in x) r (task_ranged 0 _ 0 (task_in x) k.fine))
+    loads_valid (vs ++ (task_in x ∷ [])) m ws n (all_more Ranged vs (task_in x) r (task_ranged 0 _ 0 (task_in x) k.fine))
     (omega (arith, length-append vs (task_in x ∷ []), task_few 0 _ 0 (task_in x) k.fine))
 
 -- a high task is the high task with its numbers
@@ -286,7 +286,7 @@ high_same (t ∷ ts) h = ap₂ (λ u us. u ∷ us) (task_high t (h 0 (omega arit
 loads_high : (ts : List Task) (l : List Line) (us : List Task) → Loads ts l us → AllHigh ts → AllHigh us
 unfolding task_in task_of
 loads_high ts l us (ends vs h) r = r
-loads_high ts l us (takes vs x m ws k n) r = loads_high (vs ++ (task_in x ∷ [])) m ws n (All_more (λ t. t.low ≡ false) vs (task_in x) r refl)
+loads_high ts l us (takes vs x m ws k n) r = loads_high (vs ++ (task_in x ∷ [])) m ws n (all_more (λ t. t.low ≡ false) vs (task_in x) r refl)
 
 -- what is loaded is high ..
 pub loaded_high : LoadedIsHigh

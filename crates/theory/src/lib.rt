@@ -1,1 +1,3 @@
 // The scheduling laws: see specs/. There is no code here.
+#![tactic(auto)]
+

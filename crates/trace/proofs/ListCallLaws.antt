@@ -109,9 +109,9 @@ pub record Callable (s : Tasks) (kept : List ℕ) (n : ℕ) (task tick cost : Li
   pub slots_long : n ≤ m
   pub within : (i : ℕ) → i < s.count → column kept i ≤ s.jitter i
 
-pub Callable_of
+pub callable_of
     : (s : Tasks) (kept : List ℕ) (n : ℕ) (task tick cost : List ℕ) (m : ℕ) → none ≡ refusal_of (call_inputs s kept n task tick cost m) → Callable s kept n task tick cost m
-Callable_of s kept n task tick cost m e =
+callable_of s kept n task tick cost m e =
     let a = accepted_of _ e in
     let f = long_enough s.count kept n task tick cost m a.lent in
     record {

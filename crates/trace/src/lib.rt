@@ -1,4 +1,6 @@
 // The trace check and the ready ticks of a list of releases: one shaper for each task of the sheet.
+#![tactic(auto)]
+
 ghost use Rattle.std.specs.Prelude.{◌≡◌, List, [], ◌++◌, ℕ, ◌≤◌, ◌<◌, min, length, drop};
 ghost use Rattle.model.specs.Limits.{max_tasks};
 ghost use Rattle.model.specs.Refusal.{answered};
@@ -16,7 +18,7 @@ use taskset::{Checked, TaskSet};
 
 // The answer of the trace check: legal, or the first release that is too close to an earlier one of its task; or document 01's number
 // and place.
-#[derive(Drop)]
+#[derive(Clone, Copy)]
 pub enum TraceAnswer {
     Legal,
     TooClose { release: usize },
@@ -24,7 +26,7 @@ pub enum TraceAnswer {
 }
 
 // One shaper for each task of a sheet. Entries past the count are of no task.
-#[derive(Drop)]
+#[derive(Clone, Copy)]
 pub struct Shapers {
     pub of: [Shaper; 32],
 }

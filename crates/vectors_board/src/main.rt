@@ -16,7 +16,7 @@ use plan::{Board, Plan};
 use taskset::{Checked, Task, TaskSet};
 
 // The board, and the offer of the last ask that was not refused.
-#[derive(Drop)]
+#[derive(Clone, Copy)]
 struct Held {
     board: Board,
     offer: Plan,

@@ -71,9 +71,9 @@ pub slots_then
 slots_then w w₁ w₂ a b e₁ e₂ = e₂ ∙ ap (λ x. slots_after_all x b) e₁ ∙ sym (slots_append w a b)
 
 -- a job, by the number of its task
-pub Job_of
+pub job_of
     : (w w' : List ℕ) (k task response : ℕ)
     → w' ≡ job_after w (record { task = k; response = response })
     → k ≡ task
     → w' ≡ job_after w (record { task = task; response = response })
-Job_of w w' k task response h e = h ∙ ap (λ x. job_after w (record { task = x; response = response })) e
+job_of w w' k task response h e = h ∙ ap (λ x. job_after w (record { task = x; response = response })) e

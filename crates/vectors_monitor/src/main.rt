@@ -98,7 +98,7 @@ fn open_call(window: &mut [u64], opened: bool, set: TaskSet)
 }
 
 // A part of a case: whether the window is opened first, the sheet for that, and whether each job's task is shown after it.
-#[derive(Drop)]
+#[derive(Clone, Copy)]
 struct Part {
     opened: bool,
     set: TaskSet,

@@ -1,4 +1,6 @@
 // Response bound and verdict of one task.
+#![tactic(auto)]
+
 ghost use Rattle.std.specs.Prelude.{◌≡◌, ◌≤◌};
 ghost use Rattle.model.specs.Refusal.{answered};
 ghost use Rattle.model.specs.Choice.{column};
@@ -16,7 +18,7 @@ use taskset::{Checked, PICKUP, TaskSet};
 
 // What the call "verdict of one task" answers: horizon with q; late with q and R(q); fits with the largest R met and the first q that had it,
 // each with the number of its evaluations; or document 01's number and place.
-#[derive(Drop)]
+#[derive(Clone, Copy)]
 pub enum VerdictAnswer {
     Horizon {
         q: u32,
@@ -39,7 +41,7 @@ pub enum VerdictAnswer {
 }
 
 // The largest R met so far and the first q that had it.
-#[derive(Drop)]
+#[derive(Clone, Copy)]
 struct Best {
     worst: u32,
     first: u32,

@@ -14,7 +14,7 @@ ghost use Rattle.writer.specs.Writer.{stored, number_bytes, sheet_part, part, Al
 use taskset::{Checked, Task, TaskSet};
 
 // The answer of a write: the number of bytes written, or document 01's number and place.
-#[derive(Drop)]
+#[derive(Clone, Copy)]
 pub enum WriteAnswer {
     Written { bytes: usize },
     Refused { number: u32, place: usize },

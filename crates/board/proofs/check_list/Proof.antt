@@ -39,12 +39,12 @@ slots_fine
 slots_fine c = sym (ap refusal_in c.enum-told5.given.1) ∙ c.before.before.check-columns.ensures
 
 -- the kept jitters in force
-Kept_same
+kept_same
     : (c : tie.After-check-kept)
     → let a = (start c.before.before.before.before.before.before.before.before.before.before.before).args in
     refusal_in c.check-kept.result
     ≡ check_kept (framed_of a.b.plan.tasks a.b.frame) (some (column (take a.b.plan.tasks.count a.b.plan.keep)))
-Kept_same c =
+kept_same c =
     let a = (start c.before.before.before.before.before.before.before.before.before.before.before).args in
     c.check-kept.ensures ∙ kept_check (frame_of a.b.frame) (view_of a.b.plan.tasks) a.b.plan.keep _ c.before.before.kept_of.ensures
 
@@ -117,7 +117,7 @@ returns-4 c =
     rw c.enum-told8.given.1 (list_kept (board_view a.b) _ _ _ _ _ (sheet_fine
     c.before.before.before.before.before.before.before.before.before.before.before) (count_fine
     c.before.before.before.before.before.before.before.before) (slots_fine c.before.before.before.before.before) (sym (ap refusal_in
-    c.enum-told8.given.1) ∙ Kept_same c.before.before))
+    c.enum-told8.given.1) ∙ kept_same c.before.before))
 
 check-releases-requires : tie.Need-check-releases-requires
 check-releases-requires c κs =
@@ -135,7 +135,7 @@ returns-5 c =
     c.check-releases.ensures ∙ releases_alike (frame_of a.b.frame) (view_of a.b.plan.tasks) _ _ _ ∙ list_releases (board_view a.b) _ _ _ _ (sheet_fine
     c.before.before.before.before.before.before.before.before.before.before.before.before) (count_fine
     c.before.before.before.before.before.before.before.before.before) (slots_fine c.before.before.before.before.before.before) (sym (ap refusal_in
-    c.before.enum-told7.given.1) ∙ Kept_same c.before.before.before)
+    c.before.enum-told7.given.1) ∙ kept_same c.before.before.before)
 
 pub check-list-spec : {M : Type 1} → statement M
 check-list-spec =

@@ -1,5 +1,5 @@
 -- The job by its contract.
-use Rattle.vectors_monitor.proofs.CallLaws.{Job_of}
+use Rattle.vectors_monitor.proofs.CallLaws.{job_of}
 use borrow.Author.Rules.{rules}
 use Rattle.vectors_monitor.proofs.take_call.Statement.{statement}
 use Rattle.vectors_monitor.proofs.take_call.Tie as tie
@@ -17,7 +17,7 @@ same_length : tie.Need-same-length
 same_length c = search rules
 
 returns : tie.Need-returns
-returns c = Job_of _ _ _ _ _ c.before.before.before.before.take-job.ensures.1 c.before.before.before.before.before.before.index.ensures
+returns c = job_of _ _ _ _ _ c.before.before.before.before.take-job.ensures.1 c.before.before.before.before.before.before.index.ensures
 
 pub take-call-spec : {M : Type 1} → statement M
 take-call-spec =

@@ -1,0 +1,61 @@
+-- Every check comes before the columns are written.
+use mathlib.Core.Path.{◌≡◌, sym, ap, ◌∙◌}
+use mathlib.Core.Option.{none}
+use native.Mathlib.Omega.{arith}
+use borrow.Author.Rules.{rules}
+use lib.ListN.{length}
+use Rattle.model.specs.Tasks.{Valid}
+use Rattle.model.specs.Checks.{refusal_of}
+use Rattle.model.proofs.CheckLaws.{valid_of}
+use Rattle.model.proofs.OrderLaws.{accepted_of}
+use Rattle.taskset.specs.TaskSet.{refusal_in}
+use Rattle.frame.specs.FrameView.{framed_of}
+use Rattle.choice.specs.Choices.{room_inputs, scope_told}
+use Rattle.choice.proofs.ChoiceCallLaws.{room_long, refuses_room, refuses_unfit, answers}
+use Rattle.choice.proofs.choose.Goals.{In_default}
+use Rattle.choice.proofs.choose.Goals as goal
+
+-- every check before the choice passes
+fine : (c : In_default)
+    → let a = c.args in
+    none ≡ refusal_of (room_inputs (framed_of a.s a.f) (length a.kept.now) (length a.worst.now))
+fine c = sym (ap refusal_in c.in_default.is) ∙ c.check_room-checked.ensures
+
+-- so the sheet is within its limits
+valid : (c : In_default) → let a = c.args in Valid (framed_of a.s a.f)
+valid c = valid_of _ (sym (accepted_of _ (fine c)).tasks)
+
+pub returns-in-Refused : goal.returns-in-Refused
+unfolding scope_told
+returns-in-Refused c = refuses_room _ _ _ _ (sym (ap refusal_in c.in-Refused.is) ∙ c.check_room-checked.ensures)
+
+pub decide-decided-requires : goal.decide-decided-requires
+decide-decided-requires c = valid (goal.at.decide-decided-requires c).In_default
+
+pub returns-then-fitted-count : goal.returns-then-fitted-count
+unfolding scope_told
+returns-then-fitted-count c = refuses_unfit _ _ _ (fine (goal.at.returns-then-fitted-count c).In_default) _ c.decide-decided.ensures c.if-fitted-count.true
+
+pub put-requires : goal.put-requires
+put-requires c =
+    let few = (valid (goal.at.put-requires c).In_default).few_tasks in
+    (omega (arith, few, c.decide-decided.ensures.choices.keep_long), (room_long _ _ _ (fine (goal.at.put-requires c).In_default)).0)
+
+pub put-requires-2 : goal.put-requires-2
+put-requires-2 c =
+    let few = (valid (goal.at.put-requires-2 c).In_default).few_tasks in
+    (omega (arith, few, c.decide-decided.ensures.choices.worst_long), (room_long _ _ _ (fine (goal.at.put-requires-2 c).In_default)).1)
+
+pub returns-then-decided : goal.returns-then-decided
+unfolding scope_told
+returns-then-decided c =
+    rw c.if-decided.true at
+    (answers _ _ _ (fine (goal.at.returns-then-decided c).In_default) _ c.decide-decided.ensures _ _ c.if-fitted-count.false (valid (goal.at.returns-then-decided c).In_default).few_tasks
+    c.put.ensures c.put-2.ensures)
+
+pub returns : goal.returns
+unfolding scope_told
+returns c =
+    rw c.if-decided.false at
+    (answers _ _ _ (fine (goal.at.returns c).In_default) _ c.decide-decided.ensures _ _ c.if-fitted-count.false (valid (goal.at.returns c).In_default).few_tasks
+    c.put.ensures c.put-2.ensures)

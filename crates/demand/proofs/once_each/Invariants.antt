@@ -1,0 +1,11 @@
+-- The loop has summed the loads of the tasks below j.
+use Prim.Native.Nat.{◌-◌, ◌≤◌}
+use native.Mathlib.Omega.{arith}
+use Rattle.demand.proofs.FlatColumnLaws.{Once, once_none, once_next, once_all}
+use Rattle.demand.proofs.once_each.Given as goal
+
+abbrev pub invariant-loop-j : goal.invariant-loop-j
+invariant-loop-j l = Once l.loads l.n l.j l.sum
+
+abbrev pub decreases-loop-j : goal.decreases-loop-j
+decreases-loop-j l = l.n - l.j

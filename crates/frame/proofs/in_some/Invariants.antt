@@ -1,0 +1,12 @@
+-- No window below k has the tick.
+use Prim.Native.Nat.{◌-◌}
+use borrow.Author.Rules.{rules}
+use native.Mathlib.Omega.{arith}
+use Rattle.frame.proofs.ColumnLaws.{Outside, outside_none, outside_next, outside_here, outside_all}
+use Rattle.frame.proofs.in_some.Given as goal
+
+abbrev pub invariant-loop-k : goal.invariant-loop-k
+invariant-loop-k l = Outside l.first l.size l.count l.x l.k
+
+abbrev pub decreases-loop-k : goal.decreases-loop-k
+decreases-loop-k l = l.count - l.k

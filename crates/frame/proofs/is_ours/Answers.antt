@@ -1,0 +1,34 @@
+-- Without a frame every tick is ours; with one a tick is ours by its place.
+use Prim.Native.Nat.{◌%◌}
+use mathlib.Core.Path.{sym, ap}
+use borrow.Author.Rules.{rules}
+use borrow.Author.Tests.{not-false}
+use native.Mathlib.Omega.{arith}
+use Rattle.frame.proofs.ColumnLaws.{ours_absent, ours_present}
+use Rattle.frame.proofs.ReachLaws.{place_in}
+use Rattle.frame.proofs.is_ours.Goals as goal
+
+pub returns-then-not-framed : goal.returns-then-not-framed
+returns-then-not-framed c =
+    let a = c.args in
+    sym (ours_absent a.framed a.ticks a.count a.first.now a.size.now c.if-not-framed.true-raw a.t)
+
+pub nonzero_rem-t : goal.nonzero_rem-t
+nonzero_rem-t c = omega (arith, c.wide.ensures, (c.requires.rules (c.if-not-framed.false)).ticks_low)
+
+pub overflow_cast-t : goal.overflow_cast-t
+overflow_cast-t c =
+    omega (
+      arith,
+      place_in _ _ _ _ _ c.requires c.if-not-framed.false-raw c.args.t _ c.wide.ensures,
+      (c.requires.rules (c.if-not-framed.false)).ticks_high,
+    )
+
+pub in_some-requires : goal.in_some-requires
+in_some-requires c = c.requires.windows
+
+pub returns : goal.returns
+returns c =
+    let a = c.args in
+    ours_present a.framed a.ticks a.count a.first.now a.size.now c.if-not-framed.false-raw a.t _
+    (ap (◌%◌ a.t) c.wide.ensures) _ c.in_some.ensures

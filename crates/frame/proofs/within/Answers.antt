@@ -1,0 +1,37 @@
+use Prim.Native.Nat.{◌+◌, ◌-◌}
+use borrow.Author.Rules.{rules}
+use native.Mathlib.Omega.{arith}
+use Rattle.frame.proofs.ColumnLaws.{Summed, summed_none, summed_next, summed_all}
+use Rattle.frame.proofs.within.Goals.{After-part_of-sum}
+use Rattle.frame.proofs.within.Goals as goal
+
+-- one window more
+next : (c : After-part_of-sum)
+    → Summed c.args.first.now c.args.size.now c.args.count
+    c.args.x (c.loop-k.k + 1) (c.loop-k.sum + c.part_of-sum.result)
+next c =
+    summed_next _ _ _ c.requires _ _ _ _ c.loop-k.invariant c.loop-k-test.true c.part_of-sum.ensures
+
+pub loop-k-init : goal.loop-k-init
+loop-k-init c = summed_none _ _ _ c.requires _
+
+pub offset_bounds-first-k : goal.offset_bounds-first-k
+offset_bounds-first-k c = omega (arith, c.requires.few)
+
+pub bounds-first-k : goal.bounds-first-k
+bounds-first-k c = omega (arith, c.requires.first_long)
+
+pub offset_bounds-size-k : goal.offset_bounds-size-k
+offset_bounds-size-k c = omega (arith, c.requires.few)
+
+pub bounds-size-k : goal.bounds-size-k
+bounds-size-k c = omega (arith, c.requires.size_long)
+
+pub overflow_add-sum : goal.overflow_add-sum
+overflow_add-sum c = omega (arith, (next (goal.at.overflow_add-sum c).After-part_of-sum).high, (next (goal.at.overflow_add-sum c).After-part_of-sum).up_to, c.requires.few)
+
+pub loop-k-preserved : goal.loop-k-preserved
+loop-k-preserved c = next (goal.at.loop-k-preserved c).After-part_of-sum
+
+pub returns : goal.returns
+returns c = summed_all _ _ _ c.requires _ _ _ c.loop-k.invariant c.loop-k-test.false

@@ -1,0 +1,12 @@
+-- The releases before p are looked at from the latest down.
+use Prim.Native.Nat.{suc, ◌-◌}
+use mathlib.Core.Path.{◌≡◌}
+use native.Mathlib.Omega.{arith}
+use Rattle.generator.proofs.FloorLaws.{Raising, raising_none, raising_next, raising_all}
+use Rattle.generator.proofs.floor_of.Given as goal
+
+abbrev pub invariant-loop-p : goal.invariant-loop-p
+invariant-loop-p l = Raising l.t.period l.t.jitter l.i l.at l.task l.tick l.p l.f
+
+abbrev pub decreases-loop-p : goal.decreases-loop-p
+decreases-loop-p l = l.p

@@ -1,0 +1,9 @@
+-- The code is the definition as it stands.
+use mathlib.Core.Path.{refl}
+use Rattle.interface.specs.Interface.{refusal_code}
+use borrow.Author.Rules.{rules}
+use Rattle.interface.proofs.refusal_code.Goals as goal
+
+pub returns : goal.returns
+unfolding refusal_code
+returns c = refl

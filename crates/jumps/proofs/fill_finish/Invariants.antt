@@ -1,0 +1,20 @@
+-- Each turn begins at a moment: the state of the run at its tick. The next moment is later, and none is after the largest finish tick.
+use Prim.Native.Nat.{◌+◌, ◌-◌, ◌≤◌}
+use mathlib.Core.Path.{refl, sym}
+use mathlib.Core.Option.{Option}
+use native.Mathlib.Omega.{arith}
+use borrow.Author.Rules.{rules}
+use lib.ListN.{get_or}
+use Rattle.model.specs.Frame.{Frame, ours_in}
+use Rattle.frame.specs.Reached.{Reached}
+use Rattle.frame.specs.WindowColumns.{column_frame}
+use Rattle.queues.specs.Queues.{max_finish}
+use Rattle.queues.proofs.ColumnLaws.{timely}
+use Rattle.jumps.proofs.MomentLaws.{Moment, Front, queued, stops_few, moment_start, moment_wait, moment_cut, moment_done, moment_end, front, some_ticks, end_soon, cut_less}
+use Rattle.jumps.proofs.fill_finish.Given as goal
+
+abbrev pub invariant-loop-head : goal.invariant-loop-head
+invariant-loop-head l = Moment (column_frame l.framed l.ticks l.windows l.first l.size) l.n l.tasks l.task l.cost l.charge l.ready l.initial.finish l.t l.wake l.stops l.head l.since l.left l.coming l.due l.finish
+
+abbrev pub decreases-loop-head : goal.decreases-loop-head
+decreases-loop-head l = max_finish - l.t

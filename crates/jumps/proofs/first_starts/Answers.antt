@@ -1,0 +1,20 @@
+use Prim.Native.Nat.{◌-◌, ◌≤◌}
+use mathlib.Core.Path.{◌≡◌}
+use borrow.Author.Rules.{rules}
+use native.Mathlib.Omega.{arith}
+use lib.ListN.{get_or}
+use Rattle.model.specs.Slots.{Holds}
+use Rattle.model.proofs.SlotLaws.{holds_none, holds_next}
+use Rattle.queues.specs.Queues.{wake_of}
+use Rattle.jumps.proofs.first_starts.Goals as goal
+
+pub loop-i-init : goal.loop-i-init
+loop-i-init c = (omega arith, holds_none _ _)
+
+pub loop-i-preserved : goal.loop-i-preserved
+loop-i-preserved c = (omega arith, holds_next _ _ _ _ _ c.loop-i.invariant.1 (omega arith) c.wake_of.ensures)
+
+pub returns : goal.returns
+returns c =
+    let e : c.loop-i.i ≡ c.args.tasks = omega arith in
+    rw e at c.loop-i.invariant.1

@@ -1,0 +1,16 @@
+-- The first i slots hold the start ticks of the oldest jobs of the first i tasks.
+use Prim.Native.Nat.{◌-◌, ◌≤◌}
+use mathlib.Core.Path.{◌≡◌}
+use borrow.Author.Rules.{rules}
+use native.Mathlib.Omega.{arith}
+use lib.ListN.{get_or}
+use Rattle.model.specs.Slots.{Holds}
+use Rattle.model.proofs.SlotLaws.{holds_none, holds_next}
+use Rattle.queues.specs.Queues.{wake_of}
+use Rattle.jumps.proofs.first_starts.Given as goal
+
+abbrev pub invariant-loop-i : goal.invariant-loop-i
+invariant-loop-i l = (l.i ≤ l.tasks) × Holds (λ x. wake_of l.ready l.n (get_or l.head x 0)) l.i 32 l.since
+
+abbrev pub decreases-loop-i : goal.decreases-loop-i
+decreases-loop-i l = l.tasks - l.i

@@ -1,0 +1,14 @@
+-- The loop follows the search from start to start: see `Searching`.
+use Prim.Native.Nat.{◌+◌, ◌-◌, ◌*◌}
+use native.Mathlib.Omega.{arith}
+use borrow.Author.Rules.{rules}
+use Rattle.frame.proofs.ColumnLaws.{ruled_columns}
+use Rattle.demand.proofs.SeekLaws.{some_start}
+use Rattle.keeping.proofs.WindowOfLaws.{Searching, search_start, search_over, search_within, search_next, search_turn}
+use Rattle.keeping.proofs.window_of.Given as goal
+
+abbrev pub invariant-loop-t : goal.invariant-loop-t
+invariant-loop-t l = Searching l.framed l.ticks l.count l.first l.size l.loads l.periods l.keeps l.n l.once l.q l.own l.starts l.tally l.at l.before l.t l.w l.k l.tries
+
+abbrev pub decreases-loop-t : goal.decreases-loop-t
+decreases-loop-t l = (l.starts - l.k) * 10000002 + (10000001 - l.t)

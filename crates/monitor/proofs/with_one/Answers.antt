@@ -1,0 +1,7 @@
+-- Each field by its own function.
+use mathlib.Core.Path.{refl}
+use borrow.Author.Rules.{rules}
+use Rattle.monitor.proofs.with_one.Goals as goal
+
+pub returns : goal.returns
+returns c = rw (c.late_with-late.ensures, c.larger-largest.ensures) refl

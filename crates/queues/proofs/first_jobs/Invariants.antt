@@ -1,0 +1,14 @@
+-- The first i slots hold the oldest jobs of the first i tasks.
+use Prim.Native.Nat.{◌-◌, ◌≤◌}
+use mathlib.Core.Path.{◌≡◌}
+use native.Mathlib.Omega.{arith}
+use Rattle.model.specs.Slots.{Holds}
+use Rattle.model.proofs.SlotLaws.{holds_none, holds_next}
+use Rattle.queues.specs.Queues.{next_of}
+use Rattle.queues.proofs.first_jobs.Given as goal
+
+abbrev pub invariant-loop-i : goal.invariant-loop-i
+invariant-loop-i l = (l.i ≤ l.tasks) × Holds (λ x. next_of l.task l.n x 0) l.i 32 l.head
+
+abbrev pub decreases-loop-i : goal.decreases-loop-i
+decreases-loop-i l = l.tasks - l.i

@@ -1,0 +1,36 @@
+use Prim.Native.Nat.{◌-◌}
+use native.Mathlib.Omega.{arith}
+use mathlib.Core.Path.{refl, sym, ap, ◌∙◌}
+use borrow.Author.Rules.{rules}
+use Rattle.taskset.specs.TaskSet.{view_of, refusal_in}
+use Rattle.model.proofs.TraceLaws.{fault_task}
+use Rattle.model.proofs.CheckLaws.{faulty}
+use Rattle.releases.proofs.ReleaseLaws.{Checking, checking_none, checking_fault, checking_next, checking_all}
+use Rattle.releases.proofs.check_releases.Goals as goal
+
+pub loop-i-init : goal.loop-i-init
+loop-i-init c = checking_none _ _ _ _ _ _
+
+pub overflow_cast-at : goal.overflow_cast-at
+overflow_cast-at c = omega (arith, c.shared_slice_known-in-loop-i-2-1.given c.loop-i.i)
+
+pub returns-then-tasks-at : goal.returns-then-tasks-at
+returns-then-tasks-at c =
+    checking_fault _ _ _ _ _ _ _ _ _ c.loop-i.invariant c.loop-i-test.true
+    (faulty _ 7 _ (fault_task _ _ _ _ (omega arith)))
+
+pub returns-in_default : goal.returns-in_default
+returns-in_default c =
+    rw c.in_default.is
+    (checking_fault _ _ _ _ _ _ _ _ _ c.loop-i.invariant
+    c.loop-i-test.true
+    (sym (ap refusal_in c.in_default.is) ∙ c.check_release-k.ensures _ _ (omega arith) refl))
+
+pub loop-i-preserved : goal.loop-i-preserved
+loop-i-preserved c =
+    checking_next _ _ _ _ _ _ _ _ c.loop-i.invariant
+    c.loop-i-test.true
+    (sym (ap refusal_in c.in-Fine.is) ∙ c.check_release-k.ensures _ _ (omega arith) refl)
+
+pub returns : goal.returns
+returns c = checking_all _ _ _ _ _ _ _ _ c.loop-i.invariant c.loop-i-test.false

@@ -1,0 +1,9 @@
+use native.Mathlib.Omega.{arith}
+use Rattle.report.proofs.ReportLaws.{choice_page}
+use borrow.Author.Rules.{rules}
+use Rattle.report.proofs.put_choice.Goals as goal
+
+pub returns : goal.returns
+returns c =
+    choice_page _ _ _ _ _ _ _ _ _ _ _ c.put_bytes-a.ensures
+    c.put_tasks-b.ensures c.put_last.ensures

@@ -1,0 +1,11 @@
+use native.Mathlib.Omega.{arith}
+use Rattle.report.proofs.ReportLaws.{refusal_line}
+use borrow.Author.Rules.{rules}
+use Rattle.report.proofs.put_refusal.Goals as goal
+
+pub returns : goal.returns
+returns c =
+    refusal_line _ _ _ _ _ _ _ _ _ _ _
+    c.put_bytes-a.ensures
+    c.put_field-b.ensures
+    c.put_bytes-c.ensures c.put_field.ensures

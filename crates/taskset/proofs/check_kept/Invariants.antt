@@ -1,0 +1,15 @@
+-- The loop has passed every task below i: each has K ≤ J.
+use Prim.Native.Nat.{◌-◌}
+use borrow.Author.Tests.{lt-ltb, le-ltb}
+use native.Mathlib.Omega.{arith}
+use Rattle.model.specs.Choice.{column}
+use Rattle.model.proofs.SearchLaws.{Sought, sought_none, sought_next, sought_here, sought_all}
+use Rattle.model.proofs.CheckLaws.{over, refuses_kept, passes_kept}
+use Rattle.taskset.specs.TaskSet.{view_of}
+use Rattle.taskset.proofs.check_kept.Given as goal
+
+abbrev pub invariant-loop-i : goal.invariant-loop-i
+invariant-loop-i l = Sought (over (view_of l.s) (column l.kept)) l.count l.i
+
+abbrev pub decreases-loop-i : goal.decreases-loop-i
+decreases-loop-i l = l.count - l.i

@@ -1,0 +1,11 @@
+-- A number of 64 bits is below 10^20.
+use native.Mathlib.Omega.{arith}
+use Rattle.text.proofs.TextLaws.{field_room, field_put}
+use borrow.Author.Rules.{rules}
+use Rattle.text.proofs.put_wide_field.Goals as goal
+
+pub put_ended-requires : goal.put_ended-requires
+put_ended-requires c = field_room _ _ _ 19 _ (omega arith) (omega arith)
+
+pub returns : goal.returns
+returns c = field_put _ _ _ _ 19 _ _ (omega arith) c.put_ended.ensures

@@ -1,0 +1,13 @@
+-- The shorter of the two columns decides.
+use mathlib.Core.Path.{ap, ◌∙◌}
+use borrow.Author.Rules.{rules}
+use Rattle.model.specs.Checks.{refusal_of}
+use Rattle.taskset.specs.TaskSet.{view_of}
+use Rattle.trace.specs.TraceCalls.{call_inputs}
+use Rattle.trace.proofs.check_two.Goals as goal
+
+pub returns : goal.returns
+returns c =
+    let a = c.args in
+    c.check_call.ensures
+    ∙ ap (λ x. refusal_of (call_inputs (view_of a.s) a.kept.now a.count a.task.now a.tick.now a.cost.now x)) c.shorter-least.ensures

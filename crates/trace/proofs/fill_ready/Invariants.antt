@@ -1,0 +1,23 @@
+-- The loop has written the ready ticks of every release before p.
+use Prim.Native.Nat.{◌-◌, ◌<◌}
+use mathlib.Core.List.{[]}
+use lib.ListN.{get_or}
+use native.Mathlib.Omega.{arith}
+use Rattle.model.specs.Limits.{max_tasks}
+use Rattle.model.specs.Tasks.{Tasks}
+use Rattle.model.specs.Choice.{column}
+use Rattle.taskset.specs.TaskSet.{view_of}
+use Rattle.trace.specs.Standing.{Standing}
+use Rattle.trace.specs.TraceCalls.{Shapable}
+use Rattle.trace.proofs.CloseWalkLaws.{walk_small, Step}
+use Rattle.trace.proofs.ReadyFillLaws.{Filling, filling_none, filling_next, filling_all}
+use Rattle.trace.proofs.fill_ready.Given as goal
+
+-- for every sheet that the shapers were made for, since the loop does not look at the sheet
+abbrev pub invariant-loop-p : goal.invariant-loop-p
+invariant-loop-p l =
+    (s : Tasks) → Shapable s l.count l.task l.tick → Standing s.period (column l.kept) (λ i. []) s.count l.initial.all.of → Filling s (column l.kept) l.count l.task l.tick l.initial.ready
+    l.all.of l.ready l.p
+
+abbrev pub decreases-loop-p : goal.decreases-loop-p
+decreases-loop-p l = l.count - l.p
