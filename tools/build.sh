@@ -41,7 +41,7 @@ crates_of() {
             m = split(uses[n], a, " ")
             for (k = 1; k <= m; k++) visit(a[k])
         }
-        { sub(/#.*/, ""); i = index($0, ":"); if (i) uses[substr($0, 1, i - 1)] = substr($0, i + 1) }
+        { sub(/#.*/, ""); i = index($0, ":"); if (i) { split(substr($0, 1, i - 1), name, " "); uses[name[1]] = substr($0, i + 1) } }
         END { m = split(ENVIRON["WANTED"], a, " "); for (k = 1; k <= m; k++) visit(a[k]); print count + 0 }' "$here/crates.txt"
 }
 
@@ -81,7 +81,7 @@ prove() { # rt's verb, then crates
     trap 'stop 143' TERM
     (
         cd "$here" || exit
-        exec $(command -v setsid) rt "$@"
+        exec $(command -v setsid) tools/prove "$@"
     ) </dev/null >"$built/pipe" 2>&1 &
     job=$!
     progress "$many" <"$built/pipe" 3>"$log"

@@ -1,5 +1,5 @@
 //! Calls ./run and ./install as a user does: arguments, each kind of standard input, exit statuses, and the proving. The proving is
-//! tested in a copy of the commands in which a stub stands in place of rt: it prints rt's lines and leaves the real programs.
+//! tested in a copy of the commands in which a stub stands in place of tools/prove: it prints its lines and leaves the real programs.
 
 use std::fs::{self, File, OpenOptions};
 use std::io::{BufRead, BufReader, Read, Write};
@@ -145,7 +145,7 @@ impl Tree {
     }
 }
 
-/// In place of rt: counts its calls, refuses to run beside itself, prints a line for each crate, leaves the program in two pieces, and
+/// In place of tools/prove, which calls rt: counts its calls, refuses to run beside itself, prints a line for each crate, leaves the program in two pieces, and
 /// does as `plan` says. Like rt it works in a child in the background, which an interrupt from the terminal does not reach.
 const STUB: &str = r#"#!/bin/sh
 echo "$*" >>calls
@@ -215,8 +215,11 @@ fn stub_tree(name: &str) -> Tree {
     tree.write("crates/model/specs/Limits.antt", "limits\n");
     tree.write("crates/model/specs/Gap.antt", "gap\n");
     tree.write("order", &closure(&PROGRAMS).join("\n"));
-    tree.write("bin/rt", STUB);
-    fs::set_permissions(tree.root.join("bin/rt"), fs::Permissions::from_mode(0o755)).unwrap();
+    tree.write("tools/prove", STUB);
+    tree.write("bin/rt", "#!/bin/sh\necho \"rt: called beside tools/prove\"\nexit 1\n");
+    for command in ["tools/prove", "bin/rt"] {
+        fs::set_permissions(tree.root.join(command), fs::Permissions::from_mode(0o755)).unwrap();
+    }
     tree.plan("");
     tree
 }

@@ -1,4 +1,6 @@
 // The run that jumps and the ticking run give the same: a consequence of their two contracts, stated over a function that makes both.
+#![tactic(auto)]
+
 ghost use Rattle.std.specs.Prelude.{◌≡◌};
 ghost use Rattle.frame.specs.FrameView.{framed_of};
 ghost use Rattle.agreement.specs.Agreement.{Ticked, Jumped, SameEnds};

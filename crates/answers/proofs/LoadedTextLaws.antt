@@ -50,4 +50,4 @@ module _ (text : List ℕ) (r : Loaded) (h : LoadSays (load text) r) where
 
     pub csv_chosen : sheet_text (view_of r.tasks) ≡ choose_csv_text text
     unfolding choose_csv_text
-    csv_chosen = rw (fine_view, choose_csv_text, said_tasks _ r h e)
+    csv_chosen = ap sheet_text fine_view ∙ rw (choose_csv_text, said_tasks _ r h e)

@@ -170,7 +170,7 @@ module _ (f a b c : List ℕ) (ha : max_releases ≤ length a) (hb : max_release
           let ok : none ≡ check_tasks (view_of t) = rw ev (sym v.tasks) in
           record {
             sheet = ok;
-            choose = rw (ev, choose_text, g);
+            choose = ap sheet_text ev ∙ rw (choose_text, g);
             listed = record {
               sheet = ok;
               few = omega (arith, v.few);
@@ -200,7 +200,9 @@ module _ (f a b c : List ℕ) (ha : max_releases ≤ length a) (hb : max_release
                   );
               list = rw (ev, back) (sym v.releases);
             };
-            replay = rw (replay_text, g, en, ap', aq, ar, ev) (list_same (sheet_in x) x.releases _ _ _ (choice (sheet_in x)));
+            replay =
+                ap (λ (s : Tasks). list_text s n p q r (choice s)) ev
+                ∙ rw (replay_text, g, en, ap', aq, ar) (list_same (sheet_in x) x.releases _ _ _ (choice (sheet_in x)));
           }
 
       go : (d : Answer File) → decode f ≡ d → Holds n t p q r

@@ -1,4 +1,6 @@
 // What each program prints for the bytes of a file or of a text sheet, written into a lent buffer.
+#![tactic(auto)]
+
 ghost use Rattle.std.specs.Prelude.{◌≡◌, ◌≤◌, length};
 ghost use Rattle.std.proofs.Math.Option.{none};
 ghost use Rattle.model.specs.Checks.{check_tasks};

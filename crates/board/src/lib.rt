@@ -1,4 +1,6 @@
 // Board and commit (document 02, R-11): the sheet in force with its frame and its choice, which only commits change.
+#![tactic(auto)]
+
 ghost use Rattle.std.specs.Prelude.{◌≡◌, ◌≤◌, length, take};
 ghost use Rattle.std.proofs.Math.Option.{none};
 ghost use Rattle.model.specs.Slots.{Holds};

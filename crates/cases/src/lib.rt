@@ -8,9 +8,13 @@ ghost use Rattle.io.specs.Counts.{IsPrefixLen};
 ghost use Rattle.cases.specs.Cases.{number_at, tick_at, entry_of, Numbers, SetIn};
 
 use frame::Frame;
-use libc::{STDIN_FILENO, STDOUT_FILENO};
 use numbers::{wide, wide_byte};
 use taskset::{Checked, Task, TaskSet};
+
+// Standard input.
+const STDIN_FILENO: i32 = 0;
+// Standard output.
+const STDOUT_FILENO: i32 = 1;
 
 // The smaller of a number and a limit.
 fn at_most(n: u32, limit: usize) -> usize

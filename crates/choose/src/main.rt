@@ -1,5 +1,10 @@
 // The first program: reads a file from standard input, ignores its releases once read, and prints the choice.
-use libc::{STDIN_FILENO, STDOUT_FILENO};
+#![tactic(auto)]
+
+// Standard input.
+const STDIN_FILENO: i32 = 0;
+// Standard output.
+const STDOUT_FILENO: i32 = 1;
 
 fn main() {
     // No byte past these changes the answer.

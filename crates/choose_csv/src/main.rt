@@ -3,8 +3,11 @@ ghost use Rattle.std.specs.Prelude.{◌≡◌};
 ghost use Rattle.loader.specs.Pieces.{Fed};
 ghost use Rattle.choose_csv.specs.Turn.{is_failure, turn_of};
 
-use libc::{STDIN_FILENO, STDOUT_FILENO};
 use loader::Loader;
+use std::io::Read;
+
+// Standard output.
+const STDOUT_FILENO: i32 = 1;
 
 // What follows on a read: it failed, or the answer is printed, or more is read.
 #[derive(Clone, Copy)]
@@ -68,12 +71,16 @@ fn print(l: Loader)
 }
 
 // A proved loop has to end, so it counts its turns down, from a number that no input uses up.
-fn main() {
+fn main(rt: HostRuntime) {
+    let mut input = rt.stdin();
     let mut l = loader::start();
     let mut piece: [u8; 4096] = [0; 4096];
     let mut turns = u64::MAX;
     while turns > 0 {
-        let got = libc::read(STDIN_FILENO, &mut piece);
+        let got = match input.read(&mut piece) {
+            Ok(n) => n as isize,
+            Err(_) => -1,
+        };
         let t = after_read(l, &piece, got);
         let step = t.step;
         l = t.loader;

@@ -1,5 +1,7 @@
 // The comparisons of a commit (document 02, R-11): sheets, frames and offers that say the same, entries past the counts left out; and whether an offer is what an ask
 // gives.
+#![tactic(auto)]
+
 ghost use Rattle.std.specs.Prelude.{◌≡◌, not, ◌&&◌, ◌≤◌, eqb, length, take};
 ghost use Rattle.model.specs.Search.{first};
 ghost use Rattle.model.specs.Tasks.{Valid};

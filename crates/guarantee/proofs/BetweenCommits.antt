@@ -107,8 +107,8 @@ module _ (b : Board) (w : WellFormed b) where
       some_job : (o : Option ℕ) → runs (jobs_under b l) t ≡ o → Picks (in_force b) (kept_by b) l t o → o ≡ none
       some_job none e p = refl
       some_job (some q) e p =
-          let r = ready_from_lem (in_force b) (kept_by b) l (release_at l q).task q p.0.in_List refl in
-          absurd (omega (arith, r, p.0.was_ready, d.since q p.0.in_List))
+          let r = ready_from_lem (in_force b) (kept_by b) l (release_at l q).task q p.0.in_list refl in
+          absurd (omega (arith, r, p.0.was_ready, d.since q p.0.in_list))
 
       ours : (x : Bool) → (board_of (in_force b)).ours t ≡ x → runs (jobs_under b l) t ≡ none
       ours true e = some_job (runs (jobs_under b l) t) refl (picks.0 e)

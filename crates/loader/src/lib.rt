@@ -1,4 +1,6 @@
 // Loader of text sheets: one pass over the bytes with a small state, which goes in with a piece of text and comes back.
+#![tactic(auto)]
+
 ghost use Rattle.std.specs.Prelude.{◌≡◌, ◌+◌, ◌*◌, ◌<◌, min};
 ghost use Rattle.textformat.specs.Numerals.{is_digit};
 ghost use Rattle.textformat.specs.TextSheet.{load as loadText};

@@ -1,4 +1,6 @@
 // Ask (document 02, R-11): a new task at a priority place of the sheet held, and the new sheet with its choice as one record. Nothing is changed.
+#![tactic(auto)]
+
 ghost use Rattle.std.specs.Prelude.{◌≡◌, ◌≤◌, ◌<◌};
 ghost use Rattle.taskset.specs.TaskSet.{entry_of, refusal_in};
 ghost use Rattle.frame.specs.FrameView.{framed_of};

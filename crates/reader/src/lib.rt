@@ -1,4 +1,6 @@
 // Reader of the file.
+#![tactic(auto)]
+
 ghost use Rattle.std.specs.Prelude.{◌≡◌, ◌≤◌, ◌+◌, ◌*◌, length, [], ◌∷◌};
 ghost use Rattle.taskset.specs.TaskSet.{refusal_in};
 ghost use Rattle.model.specs.Refusal.{first_refusal};

@@ -1,4 +1,6 @@
 // Opening, ask and commit on lent rows of numbers, as the library for C has them: a code back, and a row that a refusal leaves as it was.
+#![tactic(auto)]
+
 ghost use Rattle.frame.specs.FrameView.{framed_of};
 ghost use Rattle.admission.specs.Offers as admission_offers;
 ghost use Rattle.admission.specs.Boards as admission_boards;

@@ -1,4 +1,6 @@
 // The calls on the small traces as the library for C has them: a code back, and columns and words that a refusal leaves as they were.
+#![tactic(auto)]
+
 ghost use Rattle.taskset.specs.TaskSet.{view_of};
 ghost use Rattle.enumeration.specs.SmallCalls.{count_call};
 ghost use Rattle.interface.specs.Interface.{one_word};

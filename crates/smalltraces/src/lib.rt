@@ -1,4 +1,6 @@
 // The calls on the small traces of a sheet (document 02, R-12): the trace at a position, and how many there are.
+#![tactic(auto)]
+
 ghost use Rattle.std.specs.Prelude.{◌≡◌, ◌++◌, ◌≤◌, take, drop};
 ghost use Rattle.releases.proofs.ReleaseLaws.{Columns};
 ghost use Rattle.taskset.specs.TaskSet.{view_of, refusal_in};

@@ -1,5 +1,7 @@
 // Runs the stored cases of arrival count, verdict and choice, and prints a line for each: the answer, and every slot of the lent columns that the
 // choice writes.
+#![tactic(auto)]
+
 ghost use Rattle.std.specs.Prelude.{◌≡◌};
 ghost use Rattle.model.specs.Checks.{refusal_of};
 ghost use Rattle.model.specs.Choice as model_choice;

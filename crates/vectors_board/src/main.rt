@@ -1,5 +1,7 @@
 // Runs the stored cases of board, ask and commit, and prints a line for each: the answer of the opening and the board, then each step after a mark. A step is an ask,
 // with its answer and the offer, or a commit, with its answer and the board after it.
+#![tactic(auto)]
+
 ghost use Rattle.std.specs.Prelude.{◌≡◌, min};
 ghost use Rattle.frame.specs.FrameView.{framed_of};
 ghost use Rattle.admission.specs.Offers as admission_offers;
@@ -10,10 +12,12 @@ ghost use Rattle.board.specs.BoardCalls.{board_in, commit_of};
 
 use board::Committed;
 use frame::{Frame, Window};
-use libc::STDOUT_FILENO;
 use offer::Asked;
 use plan::{Board, Plan};
 use taskset::{Checked, Task, TaskSet};
+
+// Standard output.
+const STDOUT_FILENO: i32 = 1;
 
 // The board, and the offer of the last ask that was not refused.
 #[derive(Clone, Copy)]

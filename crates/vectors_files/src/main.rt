@@ -1,5 +1,7 @@
 // Runs the stored cases of read and write, and prints a line for each: the answer, the task set that a read returns with its charge, and every slot and
 // byte of the lent slices.
+#![tactic(auto)]
+
 ghost use Rattle.std.specs.Prelude.{◌≡◌, length};
 ghost use Rattle.model.specs.Checks.{refusal_of};
 ghost use Rattle.model.specs.Calls.{column_after};
@@ -7,10 +9,12 @@ ghost use Rattle.taskset.specs.TaskSet.{view_of};
 ghost use Rattle.fileformat.specs.File.{encode};
 ghost use Rattle.fileformat.specs.FileCalls.{file_of, read_call, read_column, write_inputs};
 
-use libc::STDOUT_FILENO;
 use reader::ReadOutcome;
 use taskset::TaskSet;
 use writer::WriteAnswer;
+
+// Standard output.
+const STDOUT_FILENO: i32 = 1;
 
 // Prints what a read answers beside the task set.
 fn print_outcome(outcome: ReadOutcome) {

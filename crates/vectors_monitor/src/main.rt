@@ -1,6 +1,8 @@
 // Runs the stored cases of the last 256 jobs, and prints a line for each. In it, each after a mark: the answer of an opening and each job that was refused, the
 // same of a second opening, the slots of the lent window that changed, what is shown of one task, and the answer of a display of all tasks with every slot
 // of its lent columns.
+#![tactic(auto)]
+
 ghost use Rattle.std.specs.Prelude.{◌≡◌, not, ◌++◌, min, eqb, get_or};
 ghost use Rattle.model.specs.Calls.{column_after};
 ghost use Rattle.taskset.specs.TaskSet.{view_of};
@@ -10,9 +12,11 @@ ghost use Rattle.monitor.specs.MonitorCalls.{job_after, all_refusal, jobs_column
 ghost use Rattle.monitor.specs.AfterAnyCalls.{slots_after_all};
 ghost use Rattle.vectors_monitor.specs.CaseCalls.{open_calls, job_calls, part_calls};
 
-use libc::STDOUT_FILENO;
 use monitor::ShowAnswer;
 use taskset::{Checked, TaskSet};
+
+// Standard output.
+const STDOUT_FILENO: i32 = 1;
 
 // The smaller of two numbers.
 fn smaller(a: usize, b: usize) -> usize

@@ -1,6 +1,8 @@
 // Runs the stored cases of both runs, and prints a line for each: the answer of the ticking run and every slot of its lent columns of ready and
 // finish ticks, then those of the run that jumps, whose columns held the same. A case may ask for the run that jumps alone, where ticking would
 // take too long.
+#![tactic(auto)]
+
 ghost use Rattle.std.specs.Prelude.{◌≡◌};
 ghost use Rattle.model.specs.Choice.{column};
 ghost use Rattle.model.specs.Checks.{refusal_of};

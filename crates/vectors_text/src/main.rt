@@ -1,5 +1,7 @@
 // Runs the stored cases of the loader, and prints a line for each: the answer, and the task set that a load returns; of a text in pieces first whether the
 // answer is decided after each.
+#![tactic(auto)]
+
 use loader::{Loaded, Loader};
 use taskset::Checked;
 

@@ -1,5 +1,7 @@
 // Runs the stored cases of the trace check and of the ready ticks, and prints a line for each: the answer, and every slot of the lent column of
 // ready ticks.
+#![tactic(auto)]
+
 ghost use Rattle.std.specs.Prelude.{◌≡◌};
 ghost use Rattle.model.specs.Choice.{column};
 ghost use Rattle.model.specs.Checks.{refusal_of};

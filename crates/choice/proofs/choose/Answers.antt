@@ -27,14 +27,20 @@ valid c = valid_of _ (sym (accepted_of _ (fine c)).tasks)
 
 pub returns-in-Refused : goal.returns-in-Refused
 unfolding scope_told
-returns-in-Refused c = refuses_room _ _ _ _ (sym (ap refusal_in c.in-Refused.is) ∙ c.check_room-checked.ensures)
+returns-in-Refused c =
+    let a = c.args in
+    let r = refuses_room _ a.kept.now a.worst.now _ (sym (ap refusal_in c.in-Refused.is) ∙ c.check_room-checked.ensures) in
+    record { result_value = r.0; kept_after = r.1.0; worst_after = r.1.1 }
 
 pub decide-decided-requires : goal.decide-decided-requires
 decide-decided-requires c = valid (goal.at.decide-decided-requires c).In_default
 
 pub returns-then-fitted-count : goal.returns-then-fitted-count
 unfolding scope_told
-returns-then-fitted-count c = refuses_unfit _ _ _ (fine (goal.at.returns-then-fitted-count c).In_default) _ c.decide-decided.ensures c.if-fitted-count.true
+returns-then-fitted-count c =
+    let a = c.args in
+    let r = refuses_unfit _ a.kept.now a.worst.now (fine (goal.at.returns-then-fitted-count c).In_default) _ c.decide-decided.ensures c.if-fitted-count.true in
+    record { result_value = r.0; kept_after = r.1.0; worst_after = r.1.1 }
 
 pub put-requires : goal.put-requires
 put-requires c =
@@ -49,13 +55,17 @@ put-requires-2 c =
 pub returns-then-decided : goal.returns-then-decided
 unfolding scope_told
 returns-then-decided c =
-    rw c.if-decided.true at
-    (answers _ _ _ (fine (goal.at.returns-then-decided c).In_default) _ c.decide-decided.ensures _ _ c.if-fitted-count.false (valid (goal.at.returns-then-decided c).In_default).few_tasks
-    c.put.ensures c.put-2.ensures)
+    let a = c.args in
+    let r =
+    answers _ a.kept.now a.worst.now (fine (goal.at.returns-then-decided c).In_default) _ c.decide-decided.ensures _ _ c.if-fitted-count.false (valid (goal.at.returns-then-decided c).In_default).few_tasks
+    c.put.ensures c.put-2.ensures in
+    record { result_value = rw c.if-decided.true at r.0; kept_after = r.1.0; worst_after = r.1.1 }
 
 pub returns : goal.returns
 unfolding scope_told
 returns c =
-    rw c.if-decided.false at
-    (answers _ _ _ (fine (goal.at.returns c).In_default) _ c.decide-decided.ensures _ _ c.if-fitted-count.false (valid (goal.at.returns c).In_default).few_tasks
-    c.put.ensures c.put-2.ensures)
+    let a = c.args in
+    let r =
+    answers _ a.kept.now a.worst.now (fine (goal.at.returns c).In_default) _ c.decide-decided.ensures _ _ c.if-fitted-count.false (valid (goal.at.returns c).In_default).few_tasks
+    c.put.ensures c.put-2.ensures in
+    record { result_value = rw c.if-decided.false at r.0; kept_after = r.1.0; worst_after = r.1.1 }

@@ -2,7 +2,6 @@
 use mathlib.Core.Path.{sym}
 use native.Mathlib.Omega.{arith}
 use Rattle.generator.proofs.LeftLaws.{left_none, left_some}
-use borrow.Author.Rules.{rules}
 use Rattle.generator.proofs.ended.Goals as goal
 
 pub returns-then-position-eq0 : goal.returns-then-position-eq0

@@ -1,7 +1,7 @@
 use Prim.Native.Nat.{suc, ◌-◌}
 use mathlib.Core.Path.{◌≡◌}
 use native.Mathlib.Omega.{arith}
-use Rattle.generator.proofs.FloorLaws.{Raising, raising_none, raising_next, raising_all}
+use Rattle.generator.proofs.FloorLaws.{raising_none, raising_next, raising_all}
 use Rattle.generator.proofs.floor_of.Goals as goal
 
 pub loop-p-init : goal.loop-p-init

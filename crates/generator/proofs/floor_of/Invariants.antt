@@ -1,8 +1,5 @@
 -- The releases before p are looked at from the latest down.
-use Prim.Native.Nat.{suc, ◌-◌}
-use mathlib.Core.Path.{◌≡◌}
-use native.Mathlib.Omega.{arith}
-use Rattle.generator.proofs.FloorLaws.{Raising, raising_none, raising_next, raising_all}
+use Rattle.generator.proofs.FloorLaws.{Raising}
 use Rattle.generator.proofs.floor_of.Given as goal
 
 abbrev pub invariant-loop-p : goal.invariant-loop-p

@@ -1,6 +1,5 @@
 -- One release more: of another task it changes nothing, of the same task it raises the floor.
 use native.Mathlib.Omega.{arith}
-use borrow.Author.Rules.{rules}
 use Rattle.generator.proofs.FloorLaws.{gap_small, raised_other, raised_same}
 use Rattle.generator.proofs.raise.Goals as goal
 

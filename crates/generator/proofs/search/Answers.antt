@@ -1,7 +1,4 @@
-use Prim.Native.Nat.{◌+◌, ◌-◌}
-use native.Mathlib.Omega.{arith}
-use borrow.Author.Rules.{rules}
-use Rattle.generator.proofs.ByCountLaws.{Searching, searching_none, searching_room, searching_all, searching_found, searching_next}
+use Rattle.generator.proofs.ByCountLaws.{searching_none, searching_room, searching_all, searching_found, searching_next}
 use Rattle.generator.proofs.search.Goals as goal
 
 pub loop-n-init : goal.loop-n-init
@@ -16,7 +13,7 @@ returns-in_default c = searching_found _ _ _ _ _ _ _ _ _ _ _ c.loop-n.invariant 
 pub loop-n-preserved : goal.loop-n-preserved
 loop-n-preserved c =
     searching_next _ _ _ _ _ _ _ _ _ _ _ c.loop-n.invariant c.loop-n-test.true _ _ _ _ c.seek-got.ensures _ c.in-Left.is
-    c.seek-got.auto.tick.1.1.1.1.0 c.seek-got.auto.tick.1.1.1.1.1.0 c.seek-got.auto.tick.1.1.1.1.1.1.0
+    c.seek-got.auto.task c.seek-got.auto.tick c.seek-got.auto.cost
 
 pub returns : goal.returns
 returns c = searching_all _ _ _ _ _ _ _ _ _ _ _ c.loop-n.invariant c.loop-n-test.false

@@ -1,8 +1,6 @@
 -- Count after count: position p is what is left of it among the traces of n releases or more.
 use Prim.Native.Nat.{◌+◌, ◌-◌}
-use native.Mathlib.Omega.{arith}
-use borrow.Author.Rules.{rules}
-use Rattle.generator.proofs.ByCountLaws.{Searching, searching_none, searching_room, searching_all, searching_found, searching_next}
+use Rattle.generator.proofs.ByCountLaws.{Searching}
 use Rattle.generator.proofs.search.Given as goal
 
 abbrev pub invariant-loop-n : goal.invariant-loop-n

@@ -10,7 +10,7 @@ use Rattle.frame.specs.WindowColumns.{column_frame}
 use Rattle.queues.specs.Queues.{max_finish}
 use Rattle.queues.proofs.ColumnLaws.{timely}
 use Rattle.jumps.proofs.MomentLaws.{Moment, Front, queued, stops_few, moment_start, moment_wait, moment_cut, moment_done, moment_end, front, some_ticks, end_soon, cut_less}
-use Rattle.jumps.proofs.fill_finish.Goals.{After-top_started-i, Else-i-tasks, After-reach}
+use Rattle.jumps.proofs.fill_finish.Goals.{After-top_started-i, Else-i-tasks, After-reach, Else-i-tasks-unread}
 use Rattle.jumps.proofs.fill_finish.Goals as goal
 
 -- the stops fit
@@ -22,6 +22,14 @@ room c =
 found : (c : Else-i-tasks)
     → Front c.args.n c.args.tasks c.loop-head.head c.loop-head.left c.top_started-i.result
 found c =
+    let m = c.loop-head.invariant in
+    let w = c.next_wake-wake.ensures in
+    front _ _ _ _ _ _ _ _ m.can _ _ _ _ _ _ _ _ _ m _ _ _ w.0 w.1 _ c.top_started-i.ensures c.if-i-tasks.false
+
+-- the same before the column is read
+found_unread : (c : Else-i-tasks-unread)
+    → Front c.args.n c.args.tasks c.loop-head.head c.loop-head.left c.top_started-i.result
+found_unread c =
     let m = c.loop-head.invariant in
     let w = c.next_wake-wake.ensures in
     front _ _ _ _ _ _ _ _ m.can _ _ _ _ _ _ _ _ _ m _ _ _ w.0 w.1 _ c.top_started-i.ensures c.if-i-tasks.false
@@ -75,7 +83,7 @@ pub returns-then-wake : goal.returns-then-wake
 returns-then-wake c =
     let m = c.loop-head.invariant in
     let w = c.next_wake-wake.ensures in
-    moment_end _ _ _ _ _ _ _ _ m.can _ _ _ _ _ _ _ _ _ m _ _ _ w.0 w.1 _ c.top_started-i.ensures c.if-i-tasks.true c.if-wake.true
+    let r = moment_end _ _ _ _ _ _ _ _ m.can _ _ _ _ _ _ _ _ _ m _ _ _ w.0 w.1 _ c.top_started-i.ensures c.if-i-tasks.true c.if-wake.true in record { finishes = r.0; stops = r.1 }
 
 pub overflow_add-stops : goal.overflow_add-stops
 overflow_add-stops c = omega (arith, room (goal.at.overflow_add-stops c).After-top_started-i)
@@ -87,13 +95,16 @@ loop-head-preserved-then-i-tasks c =
     moment_wait _ _ _ _ _ _ _ _ m.can _ _ _ _ _ _ _ _ _ m _ _ _ w.0 w.1 _ c.top_started-i.ensures c.if-i-tasks.true c.if-wake.false
 
 pub loop-head-smaller-then-i-tasks : goal.loop-head-smaller-then-i-tasks
-loop-head-smaller-then-i-tasks c = omega (arith, (loop-again (goal.at.loop-head-smaller-then-i-tasks c).Else-wake).time, c.next_wake-wake.ensures.1)
+loop-head-smaller-then-i-tasks c =
+    omega (arith, (let m = c.loop-head.invariant in
+    let w = c.next_wake-wake.ensures in
+    moment_wait _ _ _ _ _ _ _ _ m.can _ _ _ _ _ _ _ _ _ m _ _ _ w.0 w.1 _ c.top_started-i.ensures c.if-i-tasks.true c.if-wake.false).time, c.next_wake-wake.ensures.1)
 
 pub offset_bounds-left-i : goal.offset_bounds-left-i
-offset_bounds-left-i c = omega (arith, found (goal.at.offset_bounds-left-i c).Else-i-tasks-unread, c.loop-head.invariant.can.few_tasks)
+offset_bounds-left-i c = omega (arith, found_unread c, c.loop-head.invariant.can.few_tasks)
 
 pub bounds-left-i : goal.bounds-left-i
-bounds-left-i c = omega (arith, found (goal.at.bounds-left-i c).Else-i-tasks-unread, c.loop-head.invariant.can.few_tasks)
+bounds-left-i c = omega (arith, found_unread c, c.loop-head.invariant.can.few_tasks)
 
 pub reach-requires : goal.reach-requires
 reach-requires c =
@@ -103,7 +114,7 @@ reach-requires c =
     })
 
 pub overflow_add-end : goal.overflow_add-end
-overflow_add-end c = omega (arith, soon (goal.at.overflow_add-end c).After-reach)
+overflow_add-end c = omega (arith, soon c)
 
 pub offset_bounds-left-i-then-wake-end : goal.offset_bounds-left-i-then-wake-end
 offset_bounds-left-i-then-wake-end c = omega (arith, found (goal.at.offset_bounds-left-i-then-wake-end c).Else-i-tasks, c.loop-head.invariant.can.few_tasks)
@@ -140,7 +151,11 @@ loop-head-preserved-then-wake-end c =
     c.left_after.ensures
 
 pub loop-head-smaller-then-wake-end : goal.loop-head-smaller-then-wake-end
-loop-head-smaller-then-wake-end c = omega (arith, (loop-again-2 (goal.at.loop-head-smaller-then-wake-end c).After-left_after).time, c.next_wake-wake.ensures.1)
+loop-head-smaller-then-wake-end c =
+    omega (arith, (let m = c.loop-head.invariant in
+    let w = c.next_wake-wake.ensures in
+    moment_cut _ _ _ _ _ _ _ _ m.can _ _ _ _ _ _ _ _ _ m _ _ _ w.0 w.1 _ c.top_started-i.ensures c.if-i-tasks.false _ (takes (goal.at.loop-head-smaller-then-wake-end c).After-reach) c.if-wake-end.true _
+    c.left_after.ensures).time, c.next_wake-wake.ensures.1)
 
 pub offset_bounds-head-i : goal.offset_bounds-head-i
 offset_bounds-head-i c = omega (arith, found (goal.at.offset_bounds-head-i c).Else-i-tasks, c.loop-head.invariant.can.few_tasks)
@@ -206,4 +221,12 @@ loop-head-preserved c =
     c.work_of.ensures
 
 pub loop-head-smaller : goal.loop-head-smaller
-loop-head-smaller c = omega (arith, (loop-again-3 (goal.at.loop-head-smaller c).After-work_of).time, later (goal.at.loop-head-smaller c).After-reach)
+loop-head-smaller c =
+    omega (arith, (let m = c.loop-head.invariant in
+    let w = c.next_wake-wake.ensures in
+    moment_done _ _ _ _ _ _ _ _ m.can _ _ _ _ _ _ _ _ _ m _ _ _ w.0 w.1 _ c.top_started-i.ensures c.if-i-tasks.false _ (takes (goal.at.loop-head-smaller c).After-reach) _ _ _ _
+    refl
+    c.if-wake-end.false
+    c.next_of-next.ensures
+    c.wake_of.ensures
+    c.work_of.ensures).time, later (goal.at.loop-head-smaller c).After-reach)

@@ -16,20 +16,20 @@ between : (c : After-our_ticks)
 between c =
     let a = c.args in
     let ours = ours_in (column_frame a.framed a.ticks a.windows a.first.now a.size.now) in
-    let e : a.t + (a.u - a.t) ≡ a.u = omega (arith, c.requires.1) in
+    let e : a.t + (a.u - a.t) ≡ a.u = omega (arith, c.requires.t_le_u) in
     c.our_ticks.ensures
     ∙ ap (supply ours 0) (sym e)
     ∙ supply_from ours a.t (a.u - a.t)
     ∙ ap (λ x. x + supply ours a.t (a.u - a.t)) (sym c.our_ticks-before.ensures)
 
 pub overflow_sub-done : goal.overflow_sub-done
-overflow_sub-done c = omega (arith, between (goal.at.overflow_sub-done c).After-our_ticks)
+overflow_sub-done c = omega (arith, between c)
 
 pub overflow_cast-result : goal.overflow_cast-result
-overflow_cast-result c = omega (arith, between (goal.at.overflow_cast-result c).After-our_ticks, c.requires)
+overflow_cast-result c = omega (arith, between c, c.requires)
 
 pub overflow_sub-result : goal.overflow_sub-result
-overflow_sub-result c = omega (arith, between (goal.at.overflow_sub-result c).After-our_ticks, c.requires)
+overflow_sub-result c = omega (arith, between c, c.requires)
 
 pub returns : goal.returns
-returns c = omega (arith, between (goal.at.returns c).After-our_ticks, c.requires)
+returns c = omega (arith, between c, c.requires)

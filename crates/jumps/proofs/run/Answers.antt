@@ -47,18 +47,18 @@ supply_of-supply-requires c = (runnable _ _ _ _ _ _ _ _ (fine (goal.at.supply_of
 
 pub fill_finish-stops-requires : goal.fill_finish-stops-requires
 fill_finish-stops-requires c =
-    let p = c.supply-of.ensures in (record {
+    let p = c.supply_of-supply.ensures in (record {
       supplies = p.supplies;
-      runnable = rw (shaped _ _ _ _ _ _ _ _ (fine (goal.at.fill_finish-stops-requires c).In_default-1) _ _ (ap refusal_in c.enum_told.given.1) c.check_and_shape-checked.ensures.ticks)
-          (runnable_alike _ _ p.same _ _ _ _ _ _ _ (ruled_columns _ _ _ _ _ p.supplies.columns) (runnable _ _ _ _ _ _ _ _ (fine (goal.at.fill_finish-stops-requires c).In_default-1)));
+      runnable = rw (shaped _ _ _ _ _ _ _ _ (fine (goal.at.fill_finish-stops-requires c).In_default) _ _ (ap refusal_in c.in_default.is) c.check_and_shape-checked.ensures.ticks)
+          (runnable_alike _ _ p.same _ _ _ _ _ _ _ (ruled_columns _ _ _ _ _ p.supplies.columns) (runnable _ _ _ _ _ _ _ _ (fine (goal.at.fill_finish-stops-requires c).In_default)));
     })
 
 pub returns : goal.returns
 returns c =
-    let e = fine (goal.at.returns c).In_default-1 in
-    let x = shaped _ _ _ _ _ _ _ _ e _ _ (ap refusal_in c.enum_told.given.1) c.check-and-shape.ensures.1 in
-    let f = rw (jobs_alike _ _ c.supply-of.ensures.same _ _ _ _ _) at c.fill_finish-stops.ensures in (record {
-      answer = jump_answered _ _ _ _ _ _ _ _ e _ _ x f.1;
-      ticks = column_by _ _ _ _ _ c.check-and-shape.ensures.1 (checks (goal.at.returns c).After-check_and_shape-arg-1);
-      finishes = finish_written _ _ _ _ _ _ _ _ e _ _ x f.0;
+    let e = fine (goal.at.returns c).In_default in
+    let x = shaped _ _ _ _ _ _ _ _ e _ _ (ap refusal_in c.in_default.is) c.check_and_shape-checked.ensures.ticks in
+    let f = rw (jobs_alike _ _ c.supply_of-supply.ensures.same _ _ _ _ _) at c.fill_finish-stops.ensures in (record {
+      answer = jump_answered _ _ _ _ _ _ _ _ e _ _ x f.stops;
+      ticks = column_by _ _ _ _ _ c.check_and_shape-checked.ensures.ticks (checks (goal.at.returns c).After-check_and_shape-checked);
+      finishes = finish_written _ _ _ _ _ _ _ _ e _ _ x f.finishes;
     })

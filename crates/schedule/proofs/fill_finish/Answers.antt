@@ -1,7 +1,6 @@
 use Prim.Native.Nat.{◌-◌}
 use mathlib.Core.Path.{◌≡◌, refl, sym, ap, ◌∙◌}
 use mathlib.Core.Bool.{true, not}
-use mathlib.Core.Logic.{⊎_elim}
 use mathlib.Core.Option.{Option}
 use native.Mathlib.Omega.{arith}
 use borrow.Author.Tests.{not-true, not-false}
@@ -11,15 +10,17 @@ use Rattle.frame.proofs.ColumnLaws.{ours_absent}
 use Rattle.queues.specs.Queues.{jobs_of, max_finish}
 use Rattle.queues.proofs.ColumnLaws.{timely}
 use Rattle.schedule.proofs.FinishFillLaws.{Filling, Top, fill_start, fill_sleep, fill_idle, some_soon, fill_off, fill_top, fill_run, fill_done, fill_end}
-use Rattle.schedule.proofs.fill_finish.Goals.{Joined-framed}
+use Rattle.schedule.proofs.fill_finish.Goals.{Joined-framed, Joined-framed-unread, then-framed+else-not-is_ours, else-framed}
 use Rattle.schedule.proofs.fill_finish.Goals as goal
 
 -- the tick is ours: it was asked, or there is no frame
 ours : (c : Joined-framed) → ours_in ((column_frame c.args.framed c.args.ticks c.args.windows c.args.first.now c.args.size.now)) c.loop-t.t ≡ true
 ours c =
     let a = c.args in
-    ⊎_elim (λ x. sym x.1.ensures ∙ not-false _ x.2.left)
-    (λ x. ours_absent a.framed a.ticks a.windows a.first.now a.size.now (ap not x.left) c.loop-t.t) c.if-framed.branch
+    elim c.if-framed.branch [
+      | then-framed+else-not-is_ours w ↦ sym w.is_ours.ensures ∙ w.if-not-is_ours.false
+      | else-framed w ↦ ours_absent a.framed a.ticks a.windows a.first.now a.size.now (ap not w.if-framed.false) c.loop-t.t
+    ]
 
 -- which job runs
 top : (c : Joined-framed)
@@ -27,6 +28,21 @@ top : (c : Joined-framed)
     Top (jobs_of ((column_frame c.args.framed c.args.ticks c.args.windows c.args.first.now c.args.size.now)) a.n a.task.now a.cost.now a.charge a.ready.now) a.tasks c.loop-t.t c.loop-t.head c.loop-t.left
     c.top_ready-i.result
 top c = fill_top _ _ _ _ _ _ _ _ c.loop-t.invariant.can _ _ _ _ _ c.loop-t.invariant.state _ c.top_ready-i.ensures c.if-i-tasks.false (ours c)
+
+-- the same before the column is read
+ours_unread : (c : Joined-framed-unread) → ours_in ((column_frame c.args.framed c.args.ticks c.args.windows c.args.first.now c.args.size.now)) c.loop-t.t ≡ true
+ours_unread c =
+    let a = c.args in
+    elim c.if-framed.branch [
+      | then-framed+else-not-is_ours w ↦ sym w.is_ours.ensures ∙ w.if-not-is_ours.false
+      | else-framed w ↦ ours_absent a.framed a.ticks a.windows a.first.now a.size.now (ap not w.if-framed.false) c.loop-t.t
+    ]
+
+top_unread : (c : Joined-framed-unread)
+    → let a = c.args in
+    Top (jobs_of ((column_frame c.args.framed c.args.ticks c.args.windows c.args.first.now c.args.size.now)) a.n a.task.now a.cost.now a.charge a.ready.now) a.tasks c.loop-t.t c.loop-t.head c.loop-t.left
+    c.top_ready-i.result
+top_unread c = fill_top _ _ _ _ _ _ _ _ c.loop-t.invariant.can _ _ _ _ _ c.loop-t.invariant.state _ c.top_ready-i.ensures c.if-i-tasks.false (ours_unread c)
 
 pub first_work-left-requires : goal.first_work-left-requires
 first_work-left-requires c = let r = c.requires.runnable in (r.few_tasks, r.workable)
@@ -38,7 +54,7 @@ pub loop-t-preserved-then-t-wake : goal.loop-t-preserved-then-t-wake
 loop-t-preserved-then-t-wake c = fill_sleep _ _ _ _ _ _ _ _ c.loop-t.invariant.can _ _ _ _ _ c.loop-t.invariant.state c.if-t-wake.true
 
 pub loop-t-smaller-then-t-wake : goal.loop-t-smaller-then-t-wake
-loop-t-smaller-then-t-wake c = omega (arith, (loop-again (goal.at.loop-t-smaller-then-t-wake c).Then-t-wake).state.time)
+loop-t-smaller-then-t-wake c = omega (arith, (fill_sleep _ _ _ _ _ _ _ _ c.loop-t.invariant.can _ _ _ _ _ c.loop-t.invariant.state c.if-t-wake.true).state.time)
 
 pub top_ready-i-requires : goal.top_ready-i-requires
 top_ready-i-requires c = let r = c.loop-t.invariant.can in (r.few_tasks, timely _ _ _ _ _ _ _ _ r)
@@ -70,7 +86,15 @@ loop-t-preserved-then-i-tasks c =
     c.if-wake.false
 
 pub loop-t-smaller-then-i-tasks : goal.loop-t-smaller-then-i-tasks
-loop-t-smaller-then-i-tasks c = omega (arith, (loop-again-2 (goal.at.loop-t-smaller-then-i-tasks c).Else-wake).state.time)
+loop-t-smaller-then-i-tasks c =
+    omega (arith, (fill_idle _ _ _ _ _ _ _ _ c.loop-t.invariant.can _ _ _ _ _
+    c.loop-t.invariant.state
+    _
+    _
+    c.top_ready-i.ensures
+    c.if-i-tasks.true
+    c.wake_all-wake.ensures
+    c.if-wake.false).state.time)
 
 pub is_ours-requires : goal.is_ours-requires
 is_ours-requires c = c.requires.frame_columns
@@ -85,19 +109,22 @@ loop-t-preserved-then-not-is_ours c =
     (sym c.is_ours.ensures ∙ c.if-not-is_ours.true)
 
 pub loop-t-smaller-then-not-is_ours : goal.loop-t-smaller-then-not-is_ours
-loop-t-smaller-then-not-is_ours c = omega (arith, (loop-again-3 (goal.at.loop-t-smaller-then-not-is_ours c).Then-not-is_ours).state.time)
+loop-t-smaller-then-not-is_ours c =
+    omega (arith, (fill_off _ _ _ _ _ _ _ _ c.loop-t.invariant.can _ _ _ _ _ c.loop-t.invariant.state _ c.top_ready-i.ensures c.if-i-tasks.false
+    c.if-t-wake.false
+    (sym c.is_ours.ensures ∙ c.if-not-is_ours.true)).state.time)
 
 pub offset_bounds-left-i : goal.offset_bounds-left-i
-offset_bounds-left-i c = omega (arith, top (goal.at.offset_bounds-left-i c).Joined-framed-unread)
+offset_bounds-left-i c = omega (arith, top_unread c)
 
 pub bounds-left-i : goal.bounds-left-i
-bounds-left-i c = omega (arith, top (goal.at.bounds-left-i c).Joined-framed-unread)
+bounds-left-i c = omega (arith, top_unread c)
 
 pub overflow_sub-rest : goal.overflow_sub-rest
-overflow_sub-rest c = omega (arith, top (goal.at.overflow_sub-rest c).Joined-framed)
+overflow_sub-rest c = omega (arith, top c)
 
 pub overflow_add-t-in-loop-t : goal.overflow_add-t-in-loop-t
-overflow_add-t-in-loop-t c = omega (arith, top (goal.at.overflow_add-t-in-loop-t c).Joined-framed)
+overflow_add-t-in-loop-t c = omega (arith, top c)
 
 pub offset_bounds-left-i-then-rest-ne0 : goal.offset_bounds-left-i-then-rest-ne0
 offset_bounds-left-i-then-rest-ne0 c = omega (arith, top (goal.at.offset_bounds-left-i-then-rest-ne0 c).Joined-framed)
@@ -116,7 +143,14 @@ loop-t-preserved-then-rest-ne0 c =
     c.if-rest-ne0.true
 
 pub loop-t-smaller-then-rest-ne0 : goal.loop-t-smaller-then-rest-ne0
-loop-t-smaller-then-rest-ne0 c = omega (arith, (loop-again-4 (goal.at.loop-t-smaller-then-rest-ne0 c).Then-rest-ne0).state.time)
+loop-t-smaller-then-rest-ne0 c =
+    omega (arith, (fill_run _ _ _ _ _ _ _ _ c.loop-t.invariant.can _ _ _ _ _ c.loop-t.invariant.state
+    _
+    _
+    (top (goal.at.loop-t-smaller-then-rest-ne0 c).Joined-framed)
+    c.if-t-wake.false
+    refl
+    c.if-rest-ne0.true).state.time)
 
 pub offset_bounds-head-i : goal.offset_bounds-head-i
 offset_bounds-head-i c = omega (arith, top (goal.at.offset_bounds-head-i c).Joined-framed)
@@ -169,4 +203,15 @@ loop-t-preserved c =
     c.work_of.ensures
 
 pub loop-t-smaller : goal.loop-t-smaller
-loop-t-smaller c = omega (arith, (loop-again-5 (goal.at.loop-t-smaller c).After-work_of).state.time)
+loop-t-smaller c =
+    omega (arith, (fill_done _ _ _ _ _ _ _ _ c.loop-t.invariant.can _ _ _ _ _ c.loop-t.invariant.state
+    _
+    _
+    _
+    _
+    (top (goal.at.loop-t-smaller c).Joined-framed)
+    c.if-t-wake.false
+    refl
+    c.if-rest-ne0.false
+    c.next_of-next.ensures
+    c.work_of.ensures).state.time)

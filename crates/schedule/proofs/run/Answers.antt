@@ -46,18 +46,18 @@ supply_of-supply-requires c = (runnable _ _ _ _ _ _ _ _ (fine (goal.at.supply_of
 
 pub fill_finish-requires : goal.fill_finish-requires
 fill_finish-requires c =
-    let p = c.supply-of.ensures in (record {
+    let p = c.supply_of-supply.ensures in (record {
       frame_columns = p.supplies.columns;
-      runnable = rw (shaped _ _ _ _ _ _ _ _ (fine (goal.at.fill_finish-requires c).In-Fine-1) _ _ (ap refusal_in c.enum_told.given.1) c.check_and_shape-checked.ensures.ticks)
-          (runnable_alike _ _ p.same _ _ _ _ _ _ _ (ruled_columns _ _ _ _ _ p.supplies.columns) (runnable _ _ _ _ _ _ _ _ (fine (goal.at.fill_finish-requires c).In-Fine-1)));
+      runnable = rw (shaped _ _ _ _ _ _ _ _ (fine (goal.at.fill_finish-requires c).In-Fine) _ _ (ap refusal_in c.in-Fine.is) c.check_and_shape-checked.ensures.ticks)
+          (runnable_alike _ _ p.same _ _ _ _ _ _ _ (ruled_columns _ _ _ _ _ p.supplies.columns) (runnable _ _ _ _ _ _ _ _ (fine (goal.at.fill_finish-requires c).In-Fine)));
     })
 
 pub returns : goal.returns
 returns c =
-    let e = fine (goal.at.returns c).In-Fine-1 in
+    let e = fine (goal.at.returns c).In-Fine in
     (record {
       refusal = e.clear;
-      ticks = column_by _ _ _ _ _ c.check-and-shape.ensures.1 (checks (goal.at.returns c).After-check_and_shape-arg-1);
-      finishes = finish_written _ _ _ _ _ _ _ _ e _ _ (shaped _ _ _ _ _ _ _ _ e _ _ (ap refusal_in c.enum_told.given.1) c.check-and-shape.ensures.1)
-            (rw (jobs_alike _ _ c.supply-of.ensures.same _ _ _ _ _) at c.fill_finish.ensures);
+      ticks = column_by _ _ _ _ _ c.check_and_shape-checked.ensures.ticks (checks (goal.at.returns c).After-check_and_shape-checked);
+      finishes = finish_written _ _ _ _ _ _ _ _ e _ _ (shaped _ _ _ _ _ _ _ _ e _ _ (ap refusal_in c.in-Fine.is) c.check_and_shape-checked.ensures.ticks)
+            (rw (jobs_alike _ _ c.supply_of-supply.ensures.same _ _ _ _ _) at c.fill_finish.ensures);
     })

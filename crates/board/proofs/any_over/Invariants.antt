@@ -1,0 +1,11 @@
+-- The loop has passed the ticks below i.
+use Prim.Native.Nat.{◌-◌}
+use native.Mathlib.Omega.{arith}
+use Rattle.board.proofs.OverLaws.{Passing, passing_none, passing_next, passing_here, passing_all}
+use Rattle.board.proofs.any_over.Given as goal
+
+abbrev pub invariant-loop-i : goal.invariant-loop-i
+invariant-loop-i l = Passing l.t l.n l.column l.i
+
+abbrev pub decreases-loop-i : goal.decreases-loop-i
+decreases-loop-i l = l.n - l.i

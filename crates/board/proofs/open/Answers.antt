@@ -1,0 +1,7 @@
+-- The board holds what was planned.
+use Rattle.board.proofs.CommitLaws.{opened}
+use borrow.Author.Rules.{rules}
+use Rattle.board.proofs.open.Goals as goal
+
+pub returns : goal.returns
+returns c = opened _ _ _ c.plan_of-got.ensures

@@ -1,0 +1,24 @@
+use Prim.Native.Nat.{◌-◌}
+use mathlib.Core.Path.{sym, ap, ◌∙◌}
+use mathlib.Core.Bool.{not}
+use native.Mathlib.Omega.{arith}
+use borrow.Author.Rules.{rules}
+use Rattle.model.proofs.SearchLaws.{Sought, sought_none, sought_next}
+use Rattle.frame.specs.FrameView.{windows_of}
+use Rattle.admission.specs.Boards.{window_differs}
+use Rattle.comparison.proofs.CompareLaws.{nowhere_here, nowhere_all}
+use Rattle.comparison.proofs.same_windows.Goals as goal
+
+pub loop-k-init : goal.loop-k-init
+loop-k-init c = sought_none _ _
+
+pub returns-then-not-same_window : goal.returns-then-not-same_window
+unfolding window_differs
+returns-then-not-same_window c = nowhere_here _ _ _ c.loop-k.invariant c.loop-k-test.true (ap not (sym c.same_window.ensures ∙ c.if-not-same_window.true))
+
+pub loop-k-preserved : goal.loop-k-preserved
+unfolding window_differs
+loop-k-preserved c = sought_next _ _ _ c.loop-k.invariant c.loop-k-test.true (ap not (sym c.same_window.ensures ∙ c.if-not-same_window.false))
+
+pub returns : goal.returns
+returns c = nowhere_all _ _ _ c.loop-k.invariant c.loop-k-test.false

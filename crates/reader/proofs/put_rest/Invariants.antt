@@ -1,0 +1,15 @@
+-- The releases below i are written, the first of them before the loop.
+use Prim.Native.Nat.{◌-◌}
+use mathlib.Core.Path.{ap}
+use Rattle.fileformat.specs.Records.{body_size}
+use native.Mathlib.Omega.{arith}
+use borrow.Author.Rules.{rules}
+use Rattle.reader.specs.Reader.{Putting}
+use Rattle.reader.proofs.ReadColumnLaws.{Reading, reading, putting_next, putting_all}
+use Rattle.reader.proofs.put_rest.Given as goal
+
+abbrev pub invariant-loop-i : goal.invariant-loop-i
+invariant-loop-i l = Putting l.f l.start l.count l.initial.task l.initial.tick l.initial.cost l.task l.tick l.cost l.at l.i
+
+abbrev pub decreases-loop-i : goal.decreases-loop-i
+decreases-loop-i l = l.count - l.i

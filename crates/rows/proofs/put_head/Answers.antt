@@ -1,0 +1,11 @@
+-- Three stores, one after the other.
+use native.Mathlib.Omega.{arith}
+use lib.ListN.{length-set}
+use borrow.Author.Rules.{rules}
+use Rattle.rows.proofs.put_head.Goals as goal
+
+pub bounds-row-161 : goal.bounds-row-161
+bounds-row-161 c = simp length-set (omega arith)
+
+pub returns : goal.returns
+returns c = rw (c.wide_byte.ensures.0, c.scope_number.ensures)

@@ -1,0 +1,13 @@
+-- The loop has read the windows below k.
+use Prim.Native.Nat.{◌-◌}
+use mathlib.Core.Path.{refl}
+use native.Mathlib.Omega.{arith}
+use Rattle.rows.specs.Rows.{window_in}
+use Rattle.rows.proofs.FillLaws.{Read, read_none, read_next, read_all}
+use Rattle.rows.proofs.windows_in.Given as goal
+
+abbrev pub invariant-loop-k : goal.invariant-loop-k
+invariant-loop-k l = Read (window_in l.row) 16 l.windows l.k
+
+abbrev pub decreases-loop-k : goal.decreases-loop-k
+decreases-loop-k l = 16 - l.k

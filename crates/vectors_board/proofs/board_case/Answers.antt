@@ -1,0 +1,12 @@
+use native.Mathlib.Omega.{arith}
+use borrow.Author.Rules.{rules}
+use Rattle.vectors_board.proofs.board_case.Goals as goal
+
+pub loop-left-init : goal.loop-left-init
+loop-left-init c = tt
+
+pub loop-left-preserved : goal.loop-left-preserved
+loop-left-preserved c = tt
+
+pub returns : goal.returns
+returns c = tt

@@ -1,0 +1,15 @@
+-- The releases below i are written.
+use Prim.Native.Nat.{◌-◌}
+use mathlib.Core.Path.{sym, ap, ◌∙◌}
+use borrow.Author.Rules.{rules}
+use native.Mathlib.Omega.{arith}
+use Rattle.fileformat.specs.Records.{width_in}
+use Rattle.writer.proofs.StoreLaws.{stored_long}
+use Rattle.writer.proofs.PartLaws.{PartPut, put_none, next_alike, next_room, put_next, put_all, put_end}
+use Rattle.writer.proofs.put_part.Given as goal
+
+abbrev pub invariant-loop-i : goal.invariant-loop-i
+invariant-loop-i l = PartPut l.initial.out l.from l.first l.last (width_in l.long) l.task l.tick l.cost l.out l.at l.i
+
+abbrev pub decreases-loop-i : goal.decreases-loop-i
+decreases-loop-i l = l.last - l.i

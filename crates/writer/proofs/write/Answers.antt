@@ -1,0 +1,117 @@
+-- A write that is not refused has room for the tasks, the releases and the end record, one after the other.
+use Prim.Native.Nat.{◌+◌, ◌≤◌}
+use mathlib.Core.Path.{◌≡◌, sym, ap, ◌∙◌}
+use mathlib.Core.Option.{none}
+use native.Mathlib.Omega.{arith}
+use borrow.Author.Rules.{rules}
+use lib.ListN.{length, length-set, length-map}
+use Rattle.model.specs.Checks.{refusal_of}
+use Rattle.model.specs.Calls.{releases_of}
+use Rattle.taskset.specs.TaskSet.{view_of, refusal_in}
+use Rattle.fileformat.specs.FileCalls.{sheet_bytes, list_bytes, write_inputs}
+use Rattle.releases.proofs.ReleaseLaws.{length_releases}
+use Rattle.fileformat.proofs.WidthLaws.{list_high}
+use Rattle.fileformat.proofs.TaskSizeLaws.{tasks_bytes_high}
+use Rattle.fileformat.proofs.RoundTrips.{charge_bytes_high}
+use Rattle.writer.specs.Writer.{part}
+use Rattle.writer.proofs.StoreLaws.{stored_long}
+use Rattle.writer.proofs.PartLaws.{bytes_split, shorts_alike, longs_alike}
+use Rattle.writer.proofs.WriteLaws.{WriteFits, write_fits, stored_both, write_refused, write_done}
+use Rattle.writer.proofs.write.Goals.{In_default, After-short_count-shorts, After-slice_known-4-1, After-put_part-arg-2-1}
+use Rattle.writer.proofs.write.Goals as goal
+
+-- the check that passed
+accepted : (c : In_default) → let a =
+    c.args in none ≡ refusal_of (write_inputs (view_of a.s) a.count a.task.now a.tick.now a.cost.now (length a.out.now))
+accepted c = sym (ap refusal_in c.in_default.is) ∙ c.check_write-k.ensures
+
+fits : (c : In_default) → let a = c.args in WriteFits a.s a.count a.task.now a.tick.now a.cost.now (length a.out.now)
+fits c = write_fits _ _ _ _ _ _ (accepted c)
+
+in_array : (c : In_default) → c.args.s.count ≤ length c.args.s.tasks
+in_array c =
+    let e : length c.args.s.tasks ≡ 32 = c.well_formed.0.1.1.0.1.0.1 in
+    omega (arith, (fits c).few_tasks)
+
+-- the bytes of both parts
+split : (c : After-short_count-shorts) → let a = c.args in list_bytes (part 0 c.short_count-shorts.result a.task.now a.tick.now a.cost.now) + list_bytes
+    (part c.short_count-shorts.result a.count a.task.now a.tick.now a.cost.now) ≡ list_bytes (releases_of a.count a.task.now a.tick.now a.cost.now)
+split c = let a = c.args in bytes_split a.task.now a.tick.now a.cost.now c.short_count-shorts.result a.count c.short_count-shorts.ensures.within
+
+-- where the releases begin
+sized : (c : After-short_count-shorts) → c.put_sheet-start.result ≡ sheet_bytes (view_of c.args.s)
+sized c = c.put_sheet-start.ensures.end
+
+-- where the file ends
+end_is
+    : (c : After-slice_known-4-1) → let a = c.args in c.put_part-end.result ≡ sheet_bytes (view_of a.s) + list_bytes
+    (releases_of a.count a.task.now a.tick.now a.cost.now)
+end_is c = omega (arith, c.put_part-end.ensures.end, c.put_part-middle.ensures.end, (c.put_sheet-start.ensures.end), (let a = c.args in bytes_split a.task.now a.tick.now a.cost.now c.short_count-shorts.result a.count c.short_count-shorts.ensures.within))
+
+-- the lent bytes are as many as before
+long_one : (c : After-put_part-arg-2-1) → length c.put_part-middle.new.out ≡ length c.args.out.now
+long_one c = stored_long _ _ _ _ c.put_part-middle.ensures.bytes ∙ stored_long _ _ _ _ c.put_sheet-start.ensures.bytes
+
+long : (c : After-slice_known-4-1) → length c.put_part-end.new.out ≡ length c.args.out.now
+long c = stored_long _ _ _ _ c.put_part-end.ensures.bytes ∙ (stored_long _ _ _ _ c.put_part-middle.ensures.bytes ∙ stored_long _ _ _ _ c.put_sheet-start.ensures.bytes)
+
+pub returns-in-Refused : goal.returns-in-Refused
+returns-in-Refused c = write_refused _ _ _ _ _ _ _ _ (sym (ap refusal_in c.in-Refused.is) ∙ c.check_write-k.ensures)
+
+pub put_sheet-start-requires : goal.put_sheet-start-requires
+put_sheet-start-requires c = ((fits (goal.at.put_sheet-start-requires c).In_default).few_tasks, omega (arith, (fits (goal.at.put_sheet-start-requires c).In_default).bytes), in_array (goal.at.put_sheet-start-requires c).In_default)
+
+pub short_count-shorts-requires : goal.short_count-shorts-requires
+short_count-shorts-requires c = (fits (goal.at.short_count-shorts-requires c).In_default).columns.tick_long
+
+pub put_part-middle-requires : goal.put_part-middle-requires
+put_part-middle-requires c =
+    let f = fits (goal.at.put_part-middle-requires c).In_default in
+    let w = c.short_count-shorts.ensures.within in (
+      omega (arith, f.bytes, split (goal.at.put_part-middle-requires c).After-short_count-shorts, sized (goal.at.put_part-middle-requires c).After-short_count-shorts, stored_long _ _ _ _ c.put_sheet-start.ensures.bytes),
+      omega arith,
+      omega (arith, w, f.columns.task_long),
+      omega (arith, w, f.columns.tick_long),
+      omega (arith, w, f.columns.cost_long),
+      shorts_alike _ _ _ f.rising c.short_count-shorts.ensures,
+    )
+
+pub put_part-end-requires : goal.put_part-end-requires
+put_part-end-requires c =
+    let f = fits (goal.at.put_part-end-requires c).In_default in (
+      omega (arith, f.bytes, split (goal.at.put_part-end-requires c).After-short_count-shorts, c.put_part-middle.ensures.end, sized (goal.at.put_part-end-requires c).After-short_count-shorts, long_one c),
+      c.short_count-shorts.ensures.within,
+      f.columns.task_long,
+      f.columns.tick_long,
+      f.columns.cost_long,
+      longs_alike _ _ _ c.short_count-shorts.ensures,
+    )
+
+pub bounds-out-end : goal.bounds-out-end
+bounds-out-end c = omega (arith, end_is c, (fits (goal.at.bounds-out-end c).In_default).bytes, long c)
+
+pub overflow_add-result : goal.overflow_add-result
+overflow_add-result c =
+    let f = fits (goal.at.overflow_add-result c).In_default in
+    let a = c.args in
+    let l = releases_of a.count a.task.now a.tick.now a.cost.now in
+    omega (
+      arith,
+      end_is c,
+      charge_bytes_high a.s.charge,
+      tasks_bytes_high (view_of a.s) a.s.count,
+      f.few_tasks,
+      f.few_releases,
+      list_high l,
+      length_releases a.count a.task.now a.tick.now a.cost.now,
+    )
+
+pub shape_of-out : goal.shape_of-out
+shape_of-out c = omega (arith, length-set c.put_part-end.new.out c.put_part-end.result 3, long c)
+
+pub returns : goal.returns
+returns c =
+    let p = c.put_part-middle.ensures in
+    write_done _ _ _ _ _ _ (in_array (goal.at.returns c).In_default) _ _ _ _ (accepted (goal.at.returns c).In_default) c.put_sheet-start.ensures.bytes
+    (stored_both _ _ _ _ _ _ _ _ _ _ c.short_count-shorts.ensures.within p.bytes p.end c.put_part-end.ensures.bytes)
+    (sized (goal.at.returns c).After-short_count-shorts) (end_is c) (fits (goal.at.returns c).In_default).bytes
