@@ -1,5 +1,5 @@
 -- What the functions of this crate take and answer.
-use Rattle.std.specs.Prelude.{ℕ, zero, suc, ◌-◌, ◌≤◌, ◌<◌, ◌≡◌, Bool, true, false, ◌||◌, List, [], ◌∷◌, map, leb, length, take, pos}
+use Rattle.std.specs.Prelude.{ℕ, zero, suc, ◌≤◌, ◌<◌, ◌≡◌, Bool, true, false, ◌||◌, List, [], ◌∷◌, map, leb, length, take, pos}
 use Rattle.std.proofs.Math.Option.{Option, none}
 use Rattle.model.specs.Series.{sum}
 use Rattle.model.specs.Limits.{max_tasks}

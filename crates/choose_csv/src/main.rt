@@ -1,4 +1,6 @@
 // The third program: reads a text sheet from standard input in pieces, to its end or until the answer is decided, and prints the choice.
+#![tactic(auto)]
+
 ghost use Rattle.std.specs.Prelude.{◌≡◌};
 ghost use Rattle.loader.specs.Pieces.{Fed};
 ghost use Rattle.choose_csv.specs.Turn.{is_failure, turn_of};

@@ -1,16 +1,14 @@
 -- Laws of the search for W(q), start by start: from a number tried it goes on at the least number of ticks among which as many as the demand just found are ours.
-use Prim.Native.Nat.{ℕ, zero, suc, ◌+◌, ◌*◌, ◌≤◌, ◌<◌, max}
+use Prim.Native.Nat.{ℕ, suc, ◌+◌, ◌*◌, ◌≤◌, ◌<◌, max}
 use mathlib.Core.Path.{◌≡◌, refl, sym, ap, ◌∙◌}
 use mathlib.Core.Option.{Option, some, none}
 use native.Mathlib.Omega.{arith}
-use native.Mathlib.Numerals.{add-one}
-use lib.ListN.{length}
 use Rattle.model.specs.Series.{sum}
 use Rattle.model.specs.Limits.{horizon_tick}
 use Rattle.model.specs.Frame.{Frame, ours_in}
-use Rattle.model.specs.Tasks.{Tasks, load, board_of, our_ticks}
+use Rattle.model.specs.Tasks.{Tasks, load, board_of}
 use Rattle.model.specs.Demand.{demand, window_from, larger, largest, window}
-use Rattle.model.specs.Evaluations.{tried, counted_at}
+use Rattle.model.specs.Evaluations.{counted_at}
 use Rattle.model.proofs.SupplyLaws.{supply_longer}
 use Rattle.model.proofs.FrameLaws.{Ruled}
 use Rattle.model.proofs.LargestLaws.{largest_none}

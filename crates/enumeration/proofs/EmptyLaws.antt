@@ -1,11 +1,11 @@
 -- With a count or a tick bound of 0 there is the empty trace alone: proves EmptyAlone of specs/EveryTrace.antt.
 use Prim.Native.Nat.{ℕ, zero, suc, ◌-◌, ◌*◌}
-use mathlib.Core.Path.{◌≡◌, refl, sym, ap, ◌∙◌}
-use mathlib.Core.Logic.{◌⊎◌, inl, inr}
+use mathlib.Core.Path.{◌≡◌, refl, ap, ◌∙◌}
+use mathlib.Core.Logic.{inl, inr}
 use mathlib.Core.List.{List, [], ◌∷◌, ◌++◌}
 use native.Mathlib.Omega.{arith}
 use native.Mathlib.Nat.{zero-mul}
-use Rattle.model.specs.Tasks.{Tasks, Release}
+use Rattle.model.specs.Tasks.{Tasks}
 use Rattle.enumeration.specs.SmallTraces.{joined, extended, traces_of, small_traces}
 use Rattle.enumeration.specs.EveryTrace.{EmptyAlone}
 

@@ -1,6 +1,6 @@
 -- A small trace of a sheet within the limits passes the trace check: proves SmallPasses of specs/EveryTrace.antt.
 use Prim.Native.Nat.{ℕ, suc}
-use mathlib.Core.Logic.{◌⊎◌, inl, ⊎_elim}
+use mathlib.Core.Logic.{inl, ⊎_elim}
 use mathlib.Core.List.{List}
 use native.Mathlib.Omega.{arith}
 use Rattle.model.specs.Tasks.{Tasks, Release, release_at, Valid}

@@ -1,3 +1,2 @@
 // Definitions and laws of the small traces of a sheet (document 02, R-12): no code.
 #![tactic(auto)]
-

@@ -7,7 +7,7 @@ use native.Mathlib.Omega.{arith}
 use borrow.Author.Tests.{ne_eqb}
 use lib.ListN.{length, get_or, drop, length-append}
 use lib.Seq.{drop_at, get_or-drop, append_snoc}
-use Rattle.model.specs.Limits.{max_tasks, max_releases, max_tick, max_short_tick}
+use Rattle.model.specs.Limits.{max_tasks, max_releases, max_tick}
 use Rattle.model.specs.Tasks.{Release, Valid}
 use Rattle.model.specs.Refusal.{Refusal, refused, answered}
 use Rattle.model.specs.Checks.{release_fault, check_releases}

@@ -6,7 +6,6 @@ use lib.IntN.{ℤ}
 use Rattle.model.specs.Tasks.{Tasks}
 use Rattle.model.specs.Evaluations.{judged}
 use Rattle.model.specs.Choice.{column, Scope, scope, choice}
-use Rattle.model.specs.Refusal.{answered}
 use Rattle.model.specs.Calls.{releases_of, task_inputs, verdict_call, choice_inputs, choice_call}
 use Rattle.model.proofs.CheckLaws.{valid_of, kept_of, task_of_lem, chosen_of}
 use Rattle.model.proofs.OrderLaws.{accepted_of, answered_of}

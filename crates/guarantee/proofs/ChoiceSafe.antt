@@ -5,7 +5,7 @@ use mathlib.Core.Bool.{Bool, true, false, not}
 use mathlib.Core.List.{List}
 use native.Mathlib.Omega.{arith}
 use lib.ListN.{get_or}
-use lib.IntN.{ℤ, pos}
+use lib.IntN.{pos}
 use Rattle.model.specs.Tasks.{Tasks, Release}
 use Rattle.model.specs.Gap.{Legal}
 use Rattle.model.specs.Verdict.{fits, verdict}
@@ -13,7 +13,7 @@ use Rattle.model.specs.Choice.{column, Choice, unfit, chosen, Scope, ordinary, h
 use Rattle.model.specs.Claims.{Trace, OnTime}
 use Rattle.response.proofs.ChoiceLaws.{Unfit, choice_keeps, choice_fits, choice_least, choice_left_out, choice_unfit}
 use Rattle.guarantee.proofs.Demand3.{demand3}
-use Rattle.guarantee.specs.ChoiceSafe.{NeverLate, ChoiceIsSafe, OrdinaryIsSafe, HighOnlyIsSafe, HighUnfit, UnfitIsHigh}
+use Rattle.guarantee.specs.ChoiceSafe.{ChoiceIsSafe, OrdinaryIsSafe, HighOnlyIsSafe, HighUnfit, UnfitIsHigh}
 
 -- those of a choice
 pub choice_safe : ChoiceIsSafe

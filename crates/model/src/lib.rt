@@ -1,3 +1,2 @@
 // Definitions only: see specs/. There is no code here.
 #![tactic(auto)]
-

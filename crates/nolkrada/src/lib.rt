@@ -1,5 +1,7 @@
 // The calls for C: numbers and slices in, a code back. A slice is passed as a pointer and a length.
 // Every call returns 0 where it answered, else number · 2^32 + place of its refusal, and a refusal leaves every lent slot as it was.
+#![tactic(auto)]
+
 ghost use Rattle.std.specs.Prelude.{◌≡◌};
 ghost use Rattle.model.specs.Checks.{refusal_of};
 ghost use Rattle.model.specs.Choice.{choice, column};

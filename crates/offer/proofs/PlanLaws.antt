@@ -10,7 +10,7 @@ use lib.Seq.{take-append_seam}
 use lib.IntN.{nat_abs}
 use Rattle.model.specs.Limits.{max_tasks}
 use Rattle.model.specs.Tasks.{Tasks}
-use Rattle.model.specs.Choice.{unfit, Scope, ordinary, high_only, scope_in, scope, choice}
+use Rattle.model.specs.Choice.{Scope, ordinary, high_only, scope_in, scope, choice}
 use Rattle.model.specs.Refusal.{Refusal, refused, answered, first_refusal}
 use Rattle.model.specs.Checks.{check_tasks, check_task, check_count, check_slots, check_kept, check_releases, check_choice, refusal_of}
 use Rattle.model.specs.Calls.{column_after, unfit_of, choice_inputs, choice_call, kept_column, worst_column}

@@ -5,7 +5,6 @@ use Rattle.model.specs.Frame.{supply}
 use Rattle.model.specs.Processor.{Processor}
 use Rattle.model.specs.Tasks.{Tasks}
 use Rattle.model.specs.Arrival.{arrivals}
-use Rattle.model.specs.Demand.{demand}
 
 -- "pickup": the ticks from its ready tick to the first in which a job may run, the same for every job. More cost takes no less work, and some cost takes some
 pub record Regular (m : Processor) : Type 0 where

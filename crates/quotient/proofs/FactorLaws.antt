@@ -1,5 +1,5 @@
 -- Why the products with the factor give the quotient: m · P is over 2^44 by less than P, and y times that does not reach 2^44.
-use Prim.Native.Nat.{ℕ, ◌+◌, ◌*◌, ◌/◌, ◌%◌, ◌-◌, ◌^◌, ◌≤◌, ◌<◌}
+use Prim.Native.Nat.{ℕ, ◌+◌, ◌*◌, ◌/◌, ◌-◌, ◌^◌, ◌≤◌, ◌<◌}
 use mathlib.Core.Path.{◌≡◌, refl, sym, ap, ◌∙◌}
 use native.Mathlib.Omega.{arith}
 use native.Mathlib.Nat.{mul-div-mul_right, div-div-eq-div-mul, mul-add-div_right, div-eq_of_lt, div-le_self, mul-le-mul, mul_assoc, mul-add}

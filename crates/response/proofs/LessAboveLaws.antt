@@ -5,7 +5,6 @@ use mathlib.Core.Bool.{true}
 use mathlib.Core.Option.{some, some-injective}
 use native.Mathlib.Omega.{arith}
 use borrow.Author.Tests.{leb-true, le-leb}
-use lib.IntN.{ℤ}
 use lib.Signed.{◌≤ℤ◌}
 use Rattle.model.specs.Tasks.{Tasks, Valid}
 use Rattle.model.specs.Gap.{gap}

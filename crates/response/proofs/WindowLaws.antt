@@ -6,11 +6,11 @@ use native.Mathlib.Omega.{arith}
 use native.Mathlib.Nat.{mul-le-mul_left, mod-lt}
 use borrow.Author.Tests.{leb-true, leb-false, le-leb, lt-leb}
 use Rattle.model.specs.Limits.{horizon_tick}
-use Rattle.model.specs.Frame.{Frame, ours_in, turn_of, supply}
+use Rattle.model.specs.Frame.{ours_in, turn_of, supply}
 use Rattle.model.specs.Tasks.{Tasks, load, board_of, our_ticks}
 use Rattle.model.specs.Demand.{demand, meets, window_from, larger, largest, window}
 use Rattle.model.proofs.SearchLaws.{Found, first_found, first_nothing, first_is, first_none}
-use Rattle.model.proofs.LargestLaws.{IsLargest, largest_found, largest_is, largest_none, largest_missing}
+use Rattle.model.proofs.LargestLaws.{IsLargest, largest_found, largest_missing}
 use Rattle.model.proofs.SupplyLaws.{supply_high, supply_all}
 use Rattle.model.proofs.FrameLaws.{Ruled, turn_low, supply_place}
 

@@ -1,5 +1,5 @@
 -- The history of a task: the ready ticks of its earlier jobs, the latest first. What it says about the jobs that follow.
-use Prim.Native.Nat.{ℕ, ◌+◌, ◌-◌}
+use Prim.Native.Nat.{ℕ}
 use mathlib.Core.Path.{◌≡◌, refl, sym, ap, ◌∙◌}
 use mathlib.Core.List.{List, [], ◌∷◌, ◌++◌, reverse_aux}
 use native.Mathlib.Omega.{arith}

@@ -1,5 +1,5 @@
 -- Windows of ticks in a run of any jobs: what tasks use, and what they leave over.
-use Rattle.std.specs.Prelude.{ℕ, ◌+◌, ◌-◌, ◌<◌, ◌≡◌, Bool, true, ◌&&◌, not}
+use Rattle.std.specs.Prelude.{ℕ, ◌+◌, ◌<◌, ◌≡◌, Bool, true, ◌&&◌, not}
 use Rattle.model.specs.Series.{on, sum}
 use Rattle.model.specs.Run.{Jobs, left_at, runs}
 use Rattle.model.specs.Claims.{of_tasks}

@@ -1,3 +1,2 @@
 // The scheduling laws: see specs/. There is no code here.
 #![tactic(auto)]
-

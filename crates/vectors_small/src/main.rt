@@ -1,5 +1,7 @@
 // Runs the stored cases of the small traces, and prints a line for each: the answer of the call for a trace, every slot of its three lent columns, and after a
 // mark the answer of the call for the number of traces.
+#![tactic(auto)]
+
 ghost use Rattle.std.specs.Prelude.{◌≡◌};
 ghost use Rattle.taskset.specs.TaskSet.{view_of};
 ghost use Rattle.enumeration.specs.SmallCalls.{small_call, small_column};

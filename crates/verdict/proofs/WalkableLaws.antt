@@ -1,5 +1,5 @@
 -- A task of a sheet that passed its checks can be judged by its columns.
-use Prim.Native.Nat.{ℕ, ◌+◌, ◌*◌, ◌<◌}
+use Prim.Native.Nat.{ℕ, ◌<◌}
 use mathlib.Core.Path.{◌≡◌, refl, ◌∙◌}
 use mathlib.Core.Option.{Option, some}
 use mathlib.Core.List.{List}

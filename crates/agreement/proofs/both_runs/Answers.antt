@@ -1,5 +1,4 @@
 -- Both contracts, over columns that held the same.
-use borrow.Author.Rules.{rules}
 use Rattle.frame.specs.FrameView.{framed_of}
 use Rattle.agreement.specs.Agreement.{Ticked, Jumped}
 use Rattle.agreement.proofs.AgreementLaws.{same_ends}

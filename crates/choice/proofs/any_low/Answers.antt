@@ -1,9 +1,8 @@
-use Prim.Native.Nat.{◌-◌}
 use mathlib.Core.Path.{◌≡◌, ap, ◌∙◌}
 use native.Mathlib.Omega.{arith}
 use Rattle.taskset.specs.TaskSet.{view_of}
 use Rattle.choice.specs.Choices.{any_low}
-use Rattle.choice.proofs.DecideLaws.{LookedAt, low_start, low_next, low_found}
+use Rattle.choice.proofs.DecideLaws.{low_start, low_next, low_found}
 use Rattle.choice.proofs.any_low.Goals as goal
 
 pub loop-i-init : goal.loop-i-init

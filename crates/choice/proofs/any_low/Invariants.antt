@@ -1,10 +1,7 @@
 -- The loop has met no low task so far: see `LookedAt`.
 use Prim.Native.Nat.{◌-◌}
-use mathlib.Core.Path.{◌≡◌, ap, ◌∙◌}
-use native.Mathlib.Omega.{arith}
 use Rattle.taskset.specs.TaskSet.{view_of}
-use Rattle.choice.specs.Choices.{any_low}
-use Rattle.choice.proofs.DecideLaws.{LookedAt, low_start, low_next, low_found}
+use Rattle.choice.proofs.DecideLaws.{LookedAt}
 use Rattle.choice.proofs.any_low.Given as goal
 
 abbrev pub invariant-loop-i : goal.invariant-loop-i

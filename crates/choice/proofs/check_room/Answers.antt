@@ -1,6 +1,5 @@
 -- With a frame the sheet's and the frame's checks come first; then the slots of both columns.
 use mathlib.Core.Path.{sym, ap, ◌∙◌}
-use borrow.Author.Rules.{rules}
 use Rattle.taskset.specs.TaskSet.{refusal_in}
 use Rattle.choice.proofs.ChoiceCallLaws.{room_sheet, room_framed, room_absent}
 use Rattle.choice.proofs.check_room.Goals as goal

@@ -2,7 +2,6 @@
 use mathlib.Core.Path.{◌≡◌, sym, ap, ◌∙◌}
 use mathlib.Core.Option.{none}
 use native.Mathlib.Omega.{arith}
-use borrow.Author.Rules.{rules}
 use Rattle.model.specs.Checks.{check_tasks}
 use Rattle.taskset.specs.TaskSet.{view_of, refusal_in}
 use Rattle.choice.proofs.ChoiceCallLaws.{room_sheet, room_kept, room_worst, room_enough}

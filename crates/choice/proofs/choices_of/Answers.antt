@@ -1,12 +1,10 @@
-use Prim.Native.Nat.{◌-◌}
 use borrow.Author.Rules.{rules}
 use native.Mathlib.Omega.{arith}
 use Rattle.model.specs.Tasks.{Valid}
 use Rattle.model.proofs.FramedLaws.{bare_valid}
 use Rattle.taskset.specs.TaskSet.{view_of}
-use Rattle.frame.specs.WindowColumns.{column_frame}
 use Rattle.demand.proofs.FlatColumnLaws.{copied_periods, factored}
-use Rattle.choice.proofs.ChoosingLaws.{Choosing, choosing_none, choosing_walk, choosing_unfit, choosing_few, choosing_next, choosing_all}
+use Rattle.choice.proofs.ChoosingLaws.{choosing_none, choosing_walk, choosing_unfit, choosing_few, choosing_next, choosing_all}
 use Rattle.choice.proofs.choices_of.Goals.{Start}
 use Rattle.choice.proofs.choices_of.Goals as goal
 
@@ -35,7 +33,7 @@ keep_for-least-requires c =
     let below = c.loop-i-test.true in (record {
       walkable = choosing_walk _ _ _ _ _ _ _ _ _ f below;
       factored = factored _ _ _ _ c.loop-i.i c.factors_of-by.ensures
-            (omega (arith, f.valid.few_tasks)) (omega (arith, below));
+          (omega (arith, f.valid.few_tasks)) (omega (arith, below));
       supplies = c.supply_of-windows.ensures.supplies;
     })
 

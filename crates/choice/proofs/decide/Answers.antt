@@ -1,7 +1,6 @@
 -- The ordinary choice, and the other where it ends in 15.
 use mathlib.Core.Path.{sym, ◌∙◌}
 use native.Mathlib.Omega.{arith}
-use borrow.Author.Rules.{rules}
 use Rattle.choice.proofs.DecideLaws.{decided_first, decided_second, decided_same}
 use Rattle.choice.proofs.decide.Goals as goal
 

@@ -1,5 +1,4 @@
 -- A task that is spared has 0; else the least kept jitter is what `least_keep` says.
-use borrow.Author.Rules.{rules}
 use Rattle.choice.proofs.NextChoiceLaws.{spared_is, unspared_is}
 use Rattle.choice.proofs.keep_for.Goals as goal
 

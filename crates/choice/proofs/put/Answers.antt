@@ -1,7 +1,4 @@
-use Prim.Native.Nat.{◌-◌}
-use borrow.Author.Rules.{rules}
-use native.Mathlib.Omega.{arith}
-use Rattle.choice.proofs.CopyLaws.{Copied, copied_none, copied_next, copied_all}
+use Rattle.choice.proofs.CopyLaws.{copied_none, copied_next, copied_all}
 use Rattle.choice.proofs.put.Goals as goal
 
 pub loop-i-init : goal.loop-i-init

@@ -1,8 +1,6 @@
 -- The loop has copied the numbers below i.
 use Prim.Native.Nat.{◌-◌}
-use borrow.Author.Rules.{rules}
-use native.Mathlib.Omega.{arith}
-use Rattle.choice.proofs.CopyLaws.{Copied, copied_none, copied_next, copied_all}
+use Rattle.choice.proofs.CopyLaws.{Copied}
 use Rattle.choice.proofs.put.Given as goal
 
 abbrev pub invariant-loop-i : goal.invariant-loop-i

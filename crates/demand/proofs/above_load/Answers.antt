@@ -1,6 +1,4 @@
-use Prim.Native.Nat.{◌-◌}
-use native.Mathlib.Omega.{arith}
-use Rattle.demand.proofs.FlatColumnLaws.{Summed, summed_none, summed_next, summed_all}
+use Rattle.demand.proofs.FlatColumnLaws.{summed_none, summed_next, summed_all}
 use Rattle.demand.proofs.above_load.Goals as goal
 
 pub loop-j-init : goal.loop-j-init

@@ -1,7 +1,6 @@
 -- The loop has summed the terms of the tasks below j.
 use Prim.Native.Nat.{◌-◌}
-use native.Mathlib.Omega.{arith}
-use Rattle.demand.proofs.FlatColumnLaws.{Summed, summed_none, summed_next, summed_all}
+use Rattle.demand.proofs.FlatColumnLaws.{Summed}
 use Rattle.demand.proofs.above_load.Given as goal
 
 abbrev pub invariant-loop-j : goal.invariant-loop-j

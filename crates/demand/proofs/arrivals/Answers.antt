@@ -1,6 +1,5 @@
 -- The two cases of the definition, t = 0 and t ≥ 1.
 use mathlib.Core.Path.{◌≡◌, sym}
-use borrow.Author.Rules.{rules}
 use native.Mathlib.Omega.{arith}
 use Rattle.demand.proofs.ArrivalCountLaws.{arrivals_at, arrivals_none}
 use Rattle.demand.proofs.arrivals.Goals as goal

@@ -1,7 +1,6 @@
 -- Each way out is the refusal of one check, those before it having passed.
 use mathlib.Core.Path.{◌≡◌, sym, ap, ◌∙◌}
 use mathlib.Core.Option.{none}
-use borrow.Author.Rules.{rules}
 use Rattle.model.specs.Checks.{check_tasks}
 use Rattle.model.proofs.CheckLaws.{valid_of}
 use Rattle.model.proofs.OrderLaws.{refused_tasks}

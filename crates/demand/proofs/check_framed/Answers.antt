@@ -1,7 +1,5 @@
 -- The sheet and its frame refuse, or the checks that follow are those without the frame.
-use mathlib.Core.Path.{◌≡◌, sym, ap, ◌∙◌}
-use mathlib.Core.Option.{none}
-use borrow.Author.Rules.{rules}
+use mathlib.Core.Path.{sym, ap, ◌∙◌}
 use Rattle.model.proofs.OrderLaws.{refused_tasks}
 use Rattle.taskset.specs.TaskSet.{refusal_in}
 use Rattle.demand.proofs.FramedCallLaws.{framed_call, absent_call}

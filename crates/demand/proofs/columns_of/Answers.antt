@@ -1,7 +1,4 @@
-use Prim.Native.Nat.{◌-◌}
-use borrow.Author.Rules.{rules}
 use native.Mathlib.Omega.{arith}
-use Rattle.demand.specs.Columns.{Copied}
 use Rattle.demand.proofs.FlatColumnLaws.{copied_none, copied_next, copied_all}
 use Rattle.demand.proofs.columns_of.Goals as goal
 

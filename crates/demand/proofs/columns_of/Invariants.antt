@@ -1,9 +1,6 @@
 -- The loop has copied the slots below j.
 use Prim.Native.Nat.{◌-◌}
-use borrow.Author.Rules.{rules}
-use native.Mathlib.Omega.{arith}
 use Rattle.demand.specs.Columns.{Copied}
-use Rattle.demand.proofs.FlatColumnLaws.{copied_none, copied_next, copied_all}
 use Rattle.demand.proofs.columns_of.Given as goal
 
 abbrev pub invariant-loop-j : goal.invariant-loop-j

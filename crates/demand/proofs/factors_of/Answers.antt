@@ -1,7 +1,5 @@
-use Prim.Native.Nat.{◌-◌, ◌≤◌}
 use mathlib.Core.Path.{◌≡◌}
 use native.Mathlib.Omega.{arith}
-use Rattle.demand.specs.Columns.{Prepared}
 use Rattle.demand.proofs.FlatColumnLaws.{prepared_none, prepared_next}
 use Rattle.demand.proofs.factors_of.Goals as goal
 

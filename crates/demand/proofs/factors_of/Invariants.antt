@@ -1,9 +1,6 @@
 -- The first j slots hold the factors of the first j periods.
 use Prim.Native.Nat.{◌-◌, ◌≤◌}
-use mathlib.Core.Path.{◌≡◌}
-use native.Mathlib.Omega.{arith}
 use Rattle.demand.specs.Columns.{Prepared}
-use Rattle.demand.proofs.FlatColumnLaws.{prepared_none, prepared_next}
 use Rattle.demand.proofs.factors_of.Given as goal
 
 abbrev pub invariant-loop-j : goal.invariant-loop-j

@@ -1,6 +1,6 @@
-use Prim.Native.Nat.{◌-◌, ◌≤◌}
+use Prim.Native.Nat.{◌≤◌}
 use native.Mathlib.Omega.{arith}
-use Rattle.demand.proofs.FlatColumnLaws.{Once, once_none, once_next, once_all}
+use Rattle.demand.proofs.FlatColumnLaws.{once_none, once_next, once_all}
 use Rattle.demand.proofs.once_each.Goals.{After-wide-sum}
 use Rattle.demand.proofs.once_each.Goals as goal
 

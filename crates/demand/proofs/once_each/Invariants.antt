@@ -1,7 +1,6 @@
 -- The loop has summed the loads of the tasks below j.
-use Prim.Native.Nat.{◌-◌, ◌≤◌}
-use native.Mathlib.Omega.{arith}
-use Rattle.demand.proofs.FlatColumnLaws.{Once, once_none, once_next, once_all}
+use Prim.Native.Nat.{◌-◌}
+use Rattle.demand.proofs.FlatColumnLaws.{Once}
 use Rattle.demand.proofs.once_each.Given as goal
 
 abbrev pub invariant-loop-j : goal.invariant-loop-j

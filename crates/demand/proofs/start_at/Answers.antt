@@ -1,8 +1,4 @@
 -- The place of the start, the ticks of the windows before it, and the first number tried from it.
-use mathlib.Core.Path.{◌≡◌, sym}
-use borrow.Author.Rules.{rules}
-use native.Mathlib.Omega.{arith}
-use Rattle.frame.specs.WindowColumns.{Begins}
 use Rattle.demand.proofs.SeekColumnLaws.{begins_at}
 use Rattle.demand.proofs.start_at.Goals as goal
 

@@ -1,5 +1,4 @@
 -- The product is the definition's term, and below 64 bits.
-use borrow.Author.Rules.{rules}
 use native.Mathlib.Omega.{arith}
 use Rattle.demand.proofs.FlatColumnLaws.{term_high, term_is, divided}
 use Rattle.demand.proofs.term.Goals as goal

@@ -1,6 +1,5 @@
 -- No frame is never refused; a frame that is there is checked by its windows.
 use mathlib.Core.Path.{◌∙◌}
-use borrow.Author.Rules.{rules}
 use Rattle.frame.proofs.FrameCheckingLaws.{absent_passes, present_check}
 use Rattle.frame.proofs.check.Goals as goal
 

@@ -1,6 +1,5 @@
 -- The sheet's own refusal first; where it has none, that of the frame.
 use mathlib.Core.Path.{sym, ap, ◌∙◌}
-use borrow.Author.Rules.{rules}
 use Rattle.model.proofs.FramedLaws.{bare_refuses, frame_follows}
 use Rattle.taskset.specs.TaskSet.{view_of, refusal_in}
 use Rattle.frame.specs.FrameView.{frame_of}

@@ -1,12 +1,9 @@
-use Prim.Native.Nat.{◌-◌}
 use mathlib.Core.Path.{sym, ap, ◌∙◌}
 use mathlib.Core.Bool.{not}
 use mathlib.Core.Logic.{inl, inr}
-use borrow.Author.Rules.{rules}
 use native.Mathlib.Omega.{arith}
-use Rattle.frame.specs.FrameView.{windows_of}
 use Rattle.model.proofs.FrameCheckLaws.{refuses_ticks, refuses_windows}
-use Rattle.frame.proofs.FrameCheckingLaws.{Checking, checking_none, checking_next, checking_small, checking_here, checking_all}
+use Rattle.frame.proofs.FrameCheckingLaws.{checking_none, checking_next, checking_small, checking_here, checking_all}
 use Rattle.frame.proofs.check_windows.Goals as goal
 
 pub returns-then-ticks-lt1 : goal.returns-then-ticks-lt1

@@ -1,6 +1,5 @@
 -- An empty row is no frame; else two numbers and the windows make one.
 use mathlib.Core.Path.{◌∙◌}
-use borrow.Author.Rules.{rules}
 use Rattle.frame.proofs.RowLaws.{empty_row}
 use Rattle.frame.proofs.frame_from.Goals as goal
 

@@ -1,7 +1,5 @@
-use Prim.Native.Nat.{◌-◌}
-use borrow.Author.Rules.{rules}
 use native.Mathlib.Omega.{arith}
-use Rattle.frame.proofs.ColumnLaws.{Outside, outside_none, outside_next, outside_here, outside_all}
+use Rattle.frame.proofs.ColumnLaws.{outside_none, outside_next, outside_here, outside_all}
 use Rattle.frame.proofs.in_some.Goals as goal
 
 pub loop-k-init : goal.loop-k-init

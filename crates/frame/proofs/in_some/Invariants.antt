@@ -1,8 +1,6 @@
 -- No window below k has the tick.
 use Prim.Native.Nat.{◌-◌}
-use borrow.Author.Rules.{rules}
-use native.Mathlib.Omega.{arith}
-use Rattle.frame.proofs.ColumnLaws.{Outside, outside_none, outside_next, outside_here, outside_all}
+use Rattle.frame.proofs.ColumnLaws.{Outside}
 use Rattle.frame.proofs.in_some.Given as goal
 
 abbrev pub invariant-loop-k : goal.invariant-loop-k

@@ -2,7 +2,6 @@
 use mathlib.Core.Path.{sym}
 use native.Mathlib.Omega.{arith}
 use Rattle.model.proofs.FrameCheckLaws.{allowed_yes, allowed_no}
-use borrow.Author.Rules.{rules}
 use Rattle.frame.proofs.is_allowed.Goals as goal
 
 pub returns-then-w-low : goal.returns-then-w-low

@@ -1,8 +1,6 @@
 -- Without a frame every tick is ours; with one a tick is ours by its place.
 use Prim.Native.Nat.{◌%◌}
 use mathlib.Core.Path.{sym, ap}
-use borrow.Author.Rules.{rules}
-use borrow.Author.Tests.{not-false}
 use native.Mathlib.Omega.{arith}
 use Rattle.frame.proofs.ColumnLaws.{ours_absent, ours_present}
 use Rattle.frame.proofs.ReachLaws.{place_in}

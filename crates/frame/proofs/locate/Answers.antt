@@ -1,6 +1,5 @@
-use Prim.Native.Nat.{◌-◌}
 use native.Mathlib.Omega.{arith}
-use Rattle.frame.proofs.ColumnLaws.{Passed, passed_none, passed_next, passed_here, passed_all}
+use Rattle.frame.proofs.ColumnLaws.{passed_none, passed_next, passed_here, passed_all}
 use Rattle.frame.proofs.locate.Goals as goal
 
 pub loop-k-init : goal.loop-k-init

@@ -1,7 +1,6 @@
 -- The windows below k end before the tick.
 use Prim.Native.Nat.{◌-◌}
-use native.Mathlib.Omega.{arith}
-use Rattle.frame.proofs.ColumnLaws.{Passed, passed_none, passed_next, passed_here, passed_all}
+use Rattle.frame.proofs.ColumnLaws.{Passed}
 use Rattle.frame.proofs.locate.Given as goal
 
 abbrev pub invariant-loop-k : goal.invariant-loop-k

@@ -1,6 +1,5 @@
 -- Whole frames by division, and one pass over the windows for the rest.
 use mathlib.Core.Path.{refl}
-use borrow.Author.Rules.{rules}
 use native.Mathlib.Omega.{arith}
 use Rattle.frame.proofs.ReachLaws.{ours_absent_ticks, place_in, sizes, our_ticks_is, our_ticks_high}
 use Rattle.frame.proofs.our_ticks.Goals as goal

@@ -1,5 +1,4 @@
 -- From the place of the tick in the frame.
-use borrow.Author.Rules.{rules}
 use native.Mathlib.Omega.{arith}
 use Rattle.frame.proofs.ReachLaws.{reach_absent, place_in, sizes, begins_place, reach_place}
 use Rattle.frame.proofs.reach.Goals as goal

@@ -1,6 +1,5 @@
 -- Whole frames by division, and one pass over the windows for the last of them.
 use Prim.Native.Nat.{◌+◌, ◌-◌, ◌/◌, ◌*◌, ◌≤◌}
-use borrow.Author.Rules.{rules}
 use native.Mathlib.Omega.{arith}
 use Rattle.model.specs.Frame.{ours_in}
 use Rattle.frame.specs.Reached.{IsReach}

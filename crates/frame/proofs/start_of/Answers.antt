@@ -1,7 +1,6 @@
 -- The end of window k, by its place in the frame.
 use Prim.Native.Nat.{◌<◌}
 use native.Mathlib.Omega.{arith}
-use borrow.Author.Tests.{not-false}
 use Rattle.frame.proofs.ColumnLaws.{starts_present, start_absent, start_present}
 use Rattle.frame.proofs.start_of.Goals.{Else-not-framed}
 use Rattle.frame.proofs.start_of.Goals as goal

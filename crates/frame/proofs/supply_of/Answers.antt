@@ -1,8 +1,7 @@
-use Prim.Native.Nat.{◌-◌, ◌<◌}
-use borrow.Author.Rules.{rules}
+use Prim.Native.Nat.{◌<◌}
 use native.Mathlib.Omega.{arith}
 use Rattle.model.specs.Series.{on}
-use Rattle.frame.proofs.ColumnLaws.{Copied, count_few, size_small, copied_none, copied_next, copied_all}
+use Rattle.frame.proofs.ColumnLaws.{count_few, size_small, copied_none, copied_next, copied_all}
 use Rattle.frame.proofs.supply_of.Goals.{In-loop-k}
 use Rattle.frame.proofs.supply_of.Goals as goal
 

@@ -1,9 +1,6 @@
 -- The loop has copied the windows below k.
-use Prim.Native.Nat.{◌-◌, ◌<◌}
-use borrow.Author.Rules.{rules}
-use native.Mathlib.Omega.{arith}
-use Rattle.model.specs.Series.{on}
-use Rattle.frame.proofs.ColumnLaws.{Copied, count_few, size_small, copied_none, copied_next, copied_all}
+use Prim.Native.Nat.{◌-◌}
+use Rattle.frame.proofs.ColumnLaws.{Copied}
 use Rattle.frame.proofs.supply_of.Given as goal
 
 abbrev pub invariant-loop-k : goal.invariant-loop-k

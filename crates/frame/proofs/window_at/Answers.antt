@@ -1,6 +1,5 @@
 -- Two numbers make a window.
 use Rattle.frame.specs.FrameView.{window_at}
-use borrow.Author.Rules.{rules}
 use Rattle.frame.proofs.window_at.Goals as goal
 
 pub returns : goal.returns

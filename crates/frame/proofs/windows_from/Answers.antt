@@ -1,7 +1,5 @@
-use Prim.Native.Nat.{◌-◌}
 use mathlib.Core.Path.{refl}
-use native.Mathlib.Omega.{arith}
-use Rattle.frame.proofs.RowLaws.{Filled, filled_none, filled_next, filled_all}
+use Rattle.frame.proofs.RowLaws.{filled_none, filled_next, filled_all}
 use Rattle.frame.proofs.windows_from.Goals as goal
 
 pub loop-k-init : goal.loop-k-init

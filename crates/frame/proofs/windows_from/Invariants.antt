@@ -1,8 +1,6 @@
 -- The loop has filled the windows below k.
 use Prim.Native.Nat.{◌-◌}
-use mathlib.Core.Path.{refl}
-use native.Mathlib.Omega.{arith}
-use Rattle.frame.proofs.RowLaws.{Filled, filled_none, filled_next, filled_all}
+use Rattle.frame.proofs.RowLaws.{Filled}
 use Rattle.frame.proofs.windows_from.Given as goal
 
 abbrev pub invariant-loop-k : goal.invariant-loop-k

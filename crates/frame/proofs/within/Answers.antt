@@ -1,5 +1,4 @@
-use Prim.Native.Nat.{◌+◌, ◌-◌}
-use borrow.Author.Rules.{rules}
+use Prim.Native.Nat.{◌+◌}
 use native.Mathlib.Omega.{arith}
 use Rattle.frame.proofs.ColumnLaws.{Summed, summed_none, summed_next, summed_all}
 use Rattle.frame.proofs.within.Goals.{After-part_of-sum}

@@ -1,8 +1,6 @@
 -- The loop has summed the ticks of the windows below k.
-use Prim.Native.Nat.{◌+◌, ◌-◌}
-use borrow.Author.Rules.{rules}
-use native.Mathlib.Omega.{arith}
-use Rattle.frame.proofs.ColumnLaws.{Summed, summed_none, summed_next, summed_all}
+use Prim.Native.Nat.{◌-◌}
+use Rattle.frame.proofs.ColumnLaws.{Summed}
 use Rattle.frame.proofs.within.Given as goal
 
 abbrev pub invariant-loop-k : goal.invariant-loop-k

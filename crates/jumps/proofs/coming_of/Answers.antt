@@ -1,8 +1,6 @@
-use Prim.Native.Nat.{◌-◌}
 use mathlib.Core.Path.{sym, ◌∙◌}
 use native.Mathlib.Omega.{arith}
-use Rattle.queues.proofs.SearchedLaws.{Passed, passed_none, passed_next, passed_here, passed_all}
-use Rattle.jumps.specs.Jumps.{comes}
+use Rattle.queues.proofs.SearchedLaws.{passed_none, passed_next, passed_here, passed_all}
 use Rattle.jumps.proofs.coming_of.Goals as goal
 
 pub loop-p-init : goal.loop-p-init

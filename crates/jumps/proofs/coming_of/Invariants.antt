@@ -1,8 +1,6 @@
 -- The loop has passed every place from the first on that holds another task or a job that may run.
 use Prim.Native.Nat.{◌-◌}
-use mathlib.Core.Path.{sym, ◌∙◌}
-use native.Mathlib.Omega.{arith}
-use Rattle.queues.proofs.SearchedLaws.{Passed, passed_none, passed_next, passed_here, passed_all}
+use Rattle.queues.proofs.SearchedLaws.{Passed}
 use Rattle.jumps.specs.Jumps.{comes}
 use Rattle.jumps.proofs.coming_of.Given as goal
 

@@ -1,15 +1,13 @@
-use Prim.Native.Nat.{◌+◌, ◌-◌, ◌≤◌}
+use Prim.Native.Nat.{◌+◌, ◌≤◌}
 use mathlib.Core.Path.{refl, sym}
-use mathlib.Core.Option.{Option}
 use native.Mathlib.Omega.{arith}
-use borrow.Author.Rules.{rules}
 use lib.ListN.{get_or}
-use Rattle.model.specs.Frame.{Frame, ours_in}
+use Rattle.model.specs.Frame.{ours_in}
 use Rattle.frame.specs.Reached.{Reached}
 use Rattle.frame.specs.WindowColumns.{column_frame}
 use Rattle.queues.specs.Queues.{max_finish}
 use Rattle.queues.proofs.ColumnLaws.{timely}
-use Rattle.jumps.proofs.MomentLaws.{Moment, Front, queued, stops_few, moment_start, moment_wait, moment_cut, moment_done, moment_end, front, some_ticks, end_soon, cut_less}
+use Rattle.jumps.proofs.MomentLaws.{Front, queued, stops_few, moment_start, moment_wait, moment_cut, moment_done, moment_end, front, some_ticks, end_soon, cut_less}
 use Rattle.jumps.proofs.fill_finish.Goals.{After-top_started-i, Else-i-tasks, After-reach, Else-i-tasks-unread}
 use Rattle.jumps.proofs.fill_finish.Goals as goal
 
@@ -96,9 +94,13 @@ loop-head-preserved-then-i-tasks c =
 
 pub loop-head-smaller-then-i-tasks : goal.loop-head-smaller-then-i-tasks
 loop-head-smaller-then-i-tasks c =
-    omega (arith, (let m = c.loop-head.invariant in
-    let w = c.next_wake-wake.ensures in
-    moment_wait _ _ _ _ _ _ _ _ m.can _ _ _ _ _ _ _ _ _ m _ _ _ w.0 w.1 _ c.top_started-i.ensures c.if-i-tasks.true c.if-wake.false).time, c.next_wake-wake.ensures.1)
+    omega (
+      arith,
+      (let m = c.loop-head.invariant in
+          let w = c.next_wake-wake.ensures in
+          moment_wait _ _ _ _ _ _ _ _ m.can _ _ _ _ _ _ _ _ _ m _ _ _ w.0 w.1 _ c.top_started-i.ensures c.if-i-tasks.true c.if-wake.false).time,
+      c.next_wake-wake.ensures.1,
+    )
 
 pub offset_bounds-left-i : goal.offset_bounds-left-i
 offset_bounds-left-i c = omega (arith, found_unread c, c.loop-head.invariant.can.few_tasks)
@@ -129,9 +131,9 @@ left_after-requires c =
       supplies = c.requires.supplies;
       t_le_u = omega (arith, w.1);
       t_bound = omega (
-          arith,
-          cut_less _ _ _ _ _ _ _ _ m.can _ _ _ _ _ _ _ _ _ m _ _ _ w.0 w.1 _ c.top_started-i.ensures c.if-i-tasks.false _ (takes (goal.at.left_after-requires c).After-reach) c.if-wake-end.true,
-        );
+        arith,
+        cut_less _ _ _ _ _ _ _ _ m.can _ _ _ _ _ _ _ _ _ m _ _ _ w.0 w.1 _ c.top_started-i.ensures c.if-i-tasks.false _ (takes (goal.at.left_after-requires c).After-reach) c.if-wake-end.true,
+      );
     })
 
 pub offset_bounds-left-i-then-wake-end-2 : goal.offset_bounds-left-i-then-wake-end-2
@@ -152,10 +154,14 @@ loop-head-preserved-then-wake-end c =
 
 pub loop-head-smaller-then-wake-end : goal.loop-head-smaller-then-wake-end
 loop-head-smaller-then-wake-end c =
-    omega (arith, (let m = c.loop-head.invariant in
-    let w = c.next_wake-wake.ensures in
-    moment_cut _ _ _ _ _ _ _ _ m.can _ _ _ _ _ _ _ _ _ m _ _ _ w.0 w.1 _ c.top_started-i.ensures c.if-i-tasks.false _ (takes (goal.at.loop-head-smaller-then-wake-end c).After-reach) c.if-wake-end.true _
-    c.left_after.ensures).time, c.next_wake-wake.ensures.1)
+    omega (
+      arith,
+      (let m = c.loop-head.invariant in
+          let w = c.next_wake-wake.ensures in
+          moment_cut _ _ _ _ _ _ _ _ m.can _ _ _ _ _ _ _ _ _ m _ _ _ w.0 w.1 _ c.top_started-i.ensures c.if-i-tasks.false _ (takes (goal.at.loop-head-smaller-then-wake-end c).After-reach) c.if-wake-end.true _
+          c.left_after.ensures).time,
+      c.next_wake-wake.ensures.1,
+    )
 
 pub offset_bounds-head-i : goal.offset_bounds-head-i
 offset_bounds-head-i c = omega (arith, found (goal.at.offset_bounds-head-i c).Else-i-tasks, c.loop-head.invariant.can.few_tasks)
@@ -222,11 +228,15 @@ loop-head-preserved c =
 
 pub loop-head-smaller : goal.loop-head-smaller
 loop-head-smaller c =
-    omega (arith, (let m = c.loop-head.invariant in
-    let w = c.next_wake-wake.ensures in
-    moment_done _ _ _ _ _ _ _ _ m.can _ _ _ _ _ _ _ _ _ m _ _ _ w.0 w.1 _ c.top_started-i.ensures c.if-i-tasks.false _ (takes (goal.at.loop-head-smaller c).After-reach) _ _ _ _
-    refl
-    c.if-wake-end.false
-    c.next_of-next.ensures
-    c.wake_of.ensures
-    c.work_of.ensures).time, later (goal.at.loop-head-smaller c).After-reach)
+    omega (
+      arith,
+      (let m = c.loop-head.invariant in
+          let w = c.next_wake-wake.ensures in
+          moment_done _ _ _ _ _ _ _ _ m.can _ _ _ _ _ _ _ _ _ m _ _ _ w.0 w.1 _ c.top_started-i.ensures c.if-i-tasks.false _ (takes (goal.at.loop-head-smaller c).After-reach) _ _ _ _
+          refl
+          c.if-wake-end.false
+          c.next_of-next.ensures
+          c.wake_of.ensures
+          c.work_of.ensures).time,
+      later (goal.at.loop-head-smaller c).After-reach,
+    )

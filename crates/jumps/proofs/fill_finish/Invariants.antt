@@ -1,16 +1,8 @@
 -- Each turn begins at a moment: the state of the run at its tick. The next moment is later, and none is after the largest finish tick.
-use Prim.Native.Nat.{◌+◌, ◌-◌, ◌≤◌}
-use mathlib.Core.Path.{refl, sym}
-use mathlib.Core.Option.{Option}
-use native.Mathlib.Omega.{arith}
-use borrow.Author.Rules.{rules}
-use lib.ListN.{get_or}
-use Rattle.model.specs.Frame.{Frame, ours_in}
-use Rattle.frame.specs.Reached.{Reached}
+use Prim.Native.Nat.{◌-◌}
 use Rattle.frame.specs.WindowColumns.{column_frame}
 use Rattle.queues.specs.Queues.{max_finish}
-use Rattle.queues.proofs.ColumnLaws.{timely}
-use Rattle.jumps.proofs.MomentLaws.{Moment, Front, queued, stops_few, moment_start, moment_wait, moment_cut, moment_done, moment_end, front, some_ticks, end_soon, cut_less}
+use Rattle.jumps.proofs.MomentLaws.{Moment}
 use Rattle.jumps.proofs.fill_finish.Given as goal
 
 abbrev pub invariant-loop-head : goal.invariant-loop-head

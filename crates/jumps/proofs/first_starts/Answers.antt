@@ -1,11 +1,6 @@
-use Prim.Native.Nat.{◌-◌, ◌≤◌}
 use mathlib.Core.Path.{◌≡◌}
-use borrow.Author.Rules.{rules}
 use native.Mathlib.Omega.{arith}
-use lib.ListN.{get_or}
-use Rattle.model.specs.Slots.{Holds}
 use Rattle.model.proofs.SlotLaws.{holds_none, holds_next}
-use Rattle.queues.specs.Queues.{wake_of}
 use Rattle.jumps.proofs.first_starts.Goals as goal
 
 pub loop-i-init : goal.loop-i-init

@@ -1,11 +1,7 @@
 -- The first i slots hold the start ticks of the oldest jobs of the first i tasks.
 use Prim.Native.Nat.{◌-◌, ◌≤◌}
-use mathlib.Core.Path.{◌≡◌}
-use borrow.Author.Rules.{rules}
-use native.Mathlib.Omega.{arith}
 use lib.ListN.{get_or}
 use Rattle.model.specs.Slots.{Holds}
-use Rattle.model.proofs.SlotLaws.{holds_none, holds_next}
 use Rattle.queues.specs.Queues.{wake_of}
 use Rattle.jumps.proofs.first_starts.Given as goal
 

@@ -1,5 +1,4 @@
 -- The task is tested first, then whether the job may run.
-use borrow.Author.Rules.{rules}
 use Rattle.jumps.proofs.WakeLaws.{comes_own, comes_other}
 use Rattle.jumps.proofs.is_coming.Goals as goal
 

@@ -2,7 +2,6 @@
 use Prim.Native.Nat.{◌+◌, ◌-◌}
 use mathlib.Core.Path.{◌≡◌, sym, ap, ◌∙◌}
 use native.Mathlib.Omega.{arith}
-use borrow.Author.Rules.{rules}
 use Rattle.model.specs.Frame.{ours_in, supply}
 use Rattle.model.proofs.SupplyLaws.{supply_from}
 use Rattle.frame.specs.WindowColumns.{column_frame}

@@ -2,7 +2,6 @@
 use Prim.Native.Nat.{◌≤◌}
 use mathlib.Core.Path.{◌≡◌}
 use native.Mathlib.Omega.{arith}
-use borrow.Author.Rules.{rules}
 use lib.ListN.{length}
 use Rattle.jumps.proofs.WakeLaws.{due_next, moved_next, moved_awake}
 use Rattle.jumps.proofs.next_due.Goals.{Start}

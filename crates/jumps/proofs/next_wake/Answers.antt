@@ -1,8 +1,5 @@
-use Prim.Native.Nat.{◌-◌, ◌≤◌, ◌<◌}
 use mathlib.Core.Path.{◌≡◌, sym, ◌∙◌}
 use native.Mathlib.Omega.{arith}
-use borrow.Author.Rules.{rules}
-use Rattle.jumps.specs.Jumps.{Next, Awake}
 use Rattle.jumps.proofs.WakeLaws.{next_none, next_next, next_after}
 use Rattle.jumps.proofs.next_wake.Goals as goal
 
@@ -16,12 +13,11 @@ pub next_due-soon-requires : goal.next_due-soon-requires
 next_due-soon-requires c = (c.requires.0, c.loop-i.invariant.1, c.loop-i-test.true)
 
 pub loop-i-preserved : goal.loop-i-preserved
-loop-i-preserved c =
-    (
-      omega arith,
-      c.next_due-soon.ensures.0,
-      rw c.smaller-least.ensures (next_next _ _ _ _ _ _ _ c.loop-i.invariant.2 c.next_due-soon.ensures.1),
-    )
+loop-i-preserved c = (
+  omega arith,
+  c.next_due-soon.ensures.0,
+  rw c.smaller-least.ensures (next_next _ _ _ _ _ _ _ c.loop-i.invariant.2 c.next_due-soon.ensures.1),
+)
 
 pub shape_of-coming : goal.shape_of-coming
 shape_of-coming c = c.loop-i.invariant.1.long ∙ sym c.requires.1.awake.long

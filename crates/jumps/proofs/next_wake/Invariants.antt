@@ -1,10 +1,6 @@
 -- After i tasks the least of their start ticks after t is known, and their places have gone on.
 use Prim.Native.Nat.{◌-◌, ◌≤◌, ◌<◌}
-use mathlib.Core.Path.{◌≡◌, sym, ◌∙◌}
-use native.Mathlib.Omega.{arith}
-use borrow.Author.Rules.{rules}
 use Rattle.jumps.specs.Jumps.{Next, Awake}
-use Rattle.jumps.proofs.WakeLaws.{next_none, next_next, next_after}
 use Rattle.jumps.proofs.next_wake.Given as goal
 
 abbrev pub invariant-loop-i : goal.invariant-loop-i

@@ -1,6 +1,5 @@
 -- The checks come first, with the ready ticks; the finish ticks are written and the stops counted where they pass.
 use mathlib.Core.Path.{◌≡◌, sym, ap, ◌∙◌}
-use borrow.Author.Rules.{rules}
 use Rattle.model.specs.Checks.{refusal_of}
 use Rattle.model.specs.Calls.{run_inputs}
 use Rattle.taskset.specs.TaskSet.{refusal_in}
@@ -29,9 +28,11 @@ fine : (c : In_default)
     → let a = c.args in
     Cleared (framed_of a.s a.f) a.kept.now a.count a.task.now a.tick.now a.cost.now a.ready.now a.finish.now
 fine c =
-    record { clear = sym (ap refusal_in c.in_default.is) ∙ (let a = c.args in
-    c.check_and_shape-checked.ensures.refusal
-    ∙ run_checks (framed_of a.s a.f) a.kept.now a.count a.task.now a.tick.now a.cost.now a.ready.now a.finish.now) }
+    record {
+      clear = sym (ap refusal_in c.in_default.is) ∙ (let a = c.args in
+          c.check_and_shape-checked.ensures.refusal
+          ∙ run_checks (framed_of a.s a.f) a.kept.now a.count a.task.now a.tick.now a.cost.now a.ready.now a.finish.now);
+    }
 
 pub returns-in-Refused : goal.returns-in-Refused
 returns-in-Refused c =

@@ -1,9 +1,6 @@
-use Prim.Native.Nat.{◌-◌}
 use native.Mathlib.Omega.{arith}
-use lib.ListN.{get_or}
-use lib.Dec.{leb}
 use borrow.Author.Tests.{le-leb, lt-leb}
-use Rattle.queues.proofs.SearchedLaws.{Passed, passed_none, passed_next, passed_here, passed_all}
+use Rattle.queues.proofs.SearchedLaws.{passed_none, passed_next, passed_here, passed_all}
 use Rattle.jumps.proofs.top_started.Goals as goal
 
 pub loop-i-init : goal.loop-i-init

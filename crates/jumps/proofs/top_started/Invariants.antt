@@ -1,10 +1,8 @@
 -- The loop has passed every task whose start tick is after t.
 use Prim.Native.Nat.{◌-◌}
-use native.Mathlib.Omega.{arith}
 use lib.ListN.{get_or}
 use lib.Dec.{leb}
-use borrow.Author.Tests.{le-leb, lt-leb}
-use Rattle.queues.proofs.SearchedLaws.{Passed, passed_none, passed_next, passed_here, passed_all}
+use Rattle.queues.proofs.SearchedLaws.{Passed}
 use Rattle.jumps.proofs.top_started.Given as goal
 
 abbrev pub invariant-loop-i : goal.invariant-loop-i

@@ -1,12 +1,9 @@
-use Prim.Native.Nat.{◌+◌, ◌-◌}
-use borrow.Author.Rules.{rules}
-use mathlib.Core.Option.{Option}
+use Prim.Native.Nat.{◌+◌}
 use native.Mathlib.Omega.{arith}
-use Rattle.model.specs.Frame.{Frame}
 use Rattle.frame.specs.WindowColumns.{column_frame}
 use Rattle.frame.proofs.ColumnLaws.{ruled_columns}
 use Rattle.keeping.specs.Keeping.{WithinIs}
-use Rattle.keeping.proofs.LeastLaws.{Walking, Stepping, walking_start, searched, walking_none, stepped, walking_step}
+use Rattle.keeping.proofs.LeastLaws.{Stepping, walking_start, searched, walking_none, stepped, walking_step}
 use Rattle.keeping.proofs.least_keep.Goals.{In-Within, After-step_at-seen}
 use Rattle.keeping.proofs.least_keep.Goals as goal
 

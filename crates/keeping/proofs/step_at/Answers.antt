@@ -5,7 +5,6 @@ use native.Mathlib.Omega.{arith}
 use Rattle.model.specs.Processor.{pickup}
 use Rattle.keeping.specs.Keeping.{next_high}
 use Rattle.keeping.proofs.ChoiceStepLaws.{step_over, step_keep, step_next}
-use borrow.Author.Rules.{rules}
 use Rattle.keeping.proofs.step_at.Goals.{After-larger-next, After-less-keep}
 use Rattle.keeping.proofs.step_at.Goals as goal
 

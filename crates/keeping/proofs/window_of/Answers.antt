@@ -1,9 +1,7 @@
-use Prim.Native.Nat.{◌+◌, ◌-◌, ◌*◌}
 use native.Mathlib.Omega.{arith}
-use borrow.Author.Rules.{rules}
 use Rattle.frame.proofs.ColumnLaws.{ruled_columns}
 use Rattle.demand.proofs.SeekLaws.{some_start}
-use Rattle.keeping.proofs.WindowOfLaws.{Searching, search_start, search_over, search_within, search_next, search_turn}
+use Rattle.keeping.proofs.WindowOfLaws.{search_start, search_over, search_within, search_next, search_turn}
 use Rattle.keeping.proofs.window_of.Goals as goal
 
 pub overflow_add-need : goal.overflow_add-need

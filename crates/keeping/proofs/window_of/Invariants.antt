@@ -1,10 +1,6 @@
 -- The loop follows the search from start to start: see `Searching`.
 use Prim.Native.Nat.{◌+◌, ◌-◌, ◌*◌}
-use native.Mathlib.Omega.{arith}
-use borrow.Author.Rules.{rules}
-use Rattle.frame.proofs.ColumnLaws.{ruled_columns}
-use Rattle.demand.proofs.SeekLaws.{some_start}
-use Rattle.keeping.proofs.WindowOfLaws.{Searching, search_start, search_over, search_within, search_next, search_turn}
+use Rattle.keeping.proofs.WindowOfLaws.{Searching}
 use Rattle.keeping.proofs.window_of.Given as goal
 
 abbrev pub invariant-loop-t : goal.invariant-loop-t

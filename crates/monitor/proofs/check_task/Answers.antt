@@ -1,5 +1,4 @@
 -- The window is checked first, then the task.
-use borrow.Author.Rules.{rules}
 use mathlib.Core.Path.{sym, ap, ◌∙◌}
 use native.Mathlib.Omega.{arith}
 use Rattle.taskset.specs.TaskSet.{refusal_in}

@@ -1,5 +1,4 @@
 -- Each test is one of the checks, in their order.
-use borrow.Author.Rules.{rules}
 use native.Mathlib.Omega.{arith}
 use Rattle.monitor.proofs.WindowLaws.{window_short, window_empty, window_many, window_fine}
 use Rattle.monitor.proofs.check_window.Goals as goal

@@ -1,7 +1,6 @@
-use Prim.Native.Nat.{◌≤◌, ◌-◌}
 use mathlib.Core.Path.{◌≡◌}
 use native.Mathlib.Omega.{arith}
-use Rattle.monitor.proofs.ColumnLaws.{Cleared, cleared_none, cleared_next, cleared_all}
+use Rattle.monitor.proofs.ColumnLaws.{cleared_none, cleared_next, cleared_all}
 use Rattle.monitor.proofs.clear.Goals as goal
 
 pub loop-i-init : goal.loop-i-init

@@ -1,8 +1,6 @@
 -- The loop has set the slots below i.
 use Prim.Native.Nat.{◌≤◌, ◌-◌}
-use mathlib.Core.Path.{◌≡◌}
-use native.Mathlib.Omega.{arith}
-use Rattle.monitor.proofs.ColumnLaws.{Cleared, cleared_none, cleared_next, cleared_all}
+use Rattle.monitor.proofs.ColumnLaws.{Cleared}
 use Rattle.monitor.proofs.clear.Given as goal
 
 abbrev pub invariant-loop-i : goal.invariant-loop-i

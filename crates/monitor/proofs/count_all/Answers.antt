@@ -1,7 +1,7 @@
-use Prim.Native.Nat.{◌≤◌, ◌-◌}
+use Prim.Native.Nat.{◌≤◌}
 use native.Mathlib.Omega.{arith}
 use Rattle.monitor.specs.Layout.{used_in}
-use Rattle.monitor.proofs.ColumnLaws.{Counting, cleared_self, counting_none, counting_next, counting_jobs, counting_late, counting_largest, jobs_all, late_all, largest_all, column_long}
+use Rattle.monitor.proofs.ColumnLaws.{cleared_self, counting_none, counting_next, counting_jobs, counting_late, counting_largest, jobs_all, late_all, largest_all}
 use Rattle.monitor.proofs.count_all.Goals as goal
 
 pub clear-requires : goal.clear-requires
@@ -41,4 +41,3 @@ returns c =
       late_after = late_all w _ _ _ _ _ e.late_after f.late_is h g;
       largest_after = largest_all w _ _ _ _ _ e.largest_after f.largest_is h g;
     })
-

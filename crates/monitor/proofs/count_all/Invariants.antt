@@ -1,8 +1,6 @@
 -- The loop has counted the jobs at the places below k.
-use Prim.Native.Nat.{◌≤◌, ◌-◌}
-use native.Mathlib.Omega.{arith}
-use Rattle.monitor.specs.Layout.{used_in}
-use Rattle.monitor.proofs.ColumnLaws.{Counting, cleared_self, counting_none, counting_next, counting_jobs, counting_late, counting_largest, jobs_all, late_all, largest_all, column_long}
+use Prim.Native.Nat.{◌-◌}
+use Rattle.monitor.proofs.ColumnLaws.{Counting}
 use Rattle.monitor.proofs.count_all.Given as goal
 
 abbrev pub invariant-loop-k : goal.invariant-loop-k

@@ -1,5 +1,4 @@
 -- Below 256 the count grows, from there it goes round.
-use borrow.Author.Rules.{rules}
 use borrow.Author.Tests.{lt-ltb, le-ltb}
 use Rattle.monitor.specs.Layout.{counted}
 use Rattle.monitor.proofs.counted_on.Goals as goal

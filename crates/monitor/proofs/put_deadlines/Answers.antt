@@ -1,9 +1,7 @@
-use Prim.Native.Nat.{◌-◌}
 use mathlib.Core.Path.{refl, ◌∙◌}
 use native.Mathlib.Omega.{arith}
 use lib.ListN.{set, length-set}
-use Rattle.taskset.specs.TaskSet.{view_of}
-use Rattle.monitor.proofs.OpenLaws.{Opening, opening_none, opening_next, opening_all}
+use Rattle.monitor.proofs.OpenLaws.{opening_none, opening_next, opening_all}
 use Rattle.monitor.proofs.put_deadlines.Goals as goal
 
 pub bounds-window-1 : goal.bounds-window-1

@@ -1,10 +1,7 @@
 -- The loop has written the deadlines of the tasks below i.
 use Prim.Native.Nat.{◌-◌}
-use mathlib.Core.Path.{refl, ◌∙◌}
-use native.Mathlib.Omega.{arith}
-use lib.ListN.{set, length-set}
 use Rattle.taskset.specs.TaskSet.{view_of}
-use Rattle.monitor.proofs.OpenLaws.{Opening, opening_none, opening_next, opening_all}
+use Rattle.monitor.proofs.OpenLaws.{Opening}
 use Rattle.monitor.proofs.put_deadlines.Given as goal
 
 abbrev pub invariant-loop-i : goal.invariant-loop-i

@@ -11,7 +11,6 @@ use Rattle.monitor.specs.Layout.{tasks_in}
 use Rattle.monitor.specs.MonitorCalls.{check_window, columns_lent}
 use Rattle.monitor.proofs.WindowLaws.{usable_of}
 use Rattle.monitor.proofs.ColumnLaws.{columns_of, all_window, all_columns}
-use borrow.Author.Rules.{rules}
 use Rattle.monitor.proofs.show_all.Goals.{In-Fine, In-Fine-lent}
 use Rattle.monitor.proofs.show_all.Goals as goal
 

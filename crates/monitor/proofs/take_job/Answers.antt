@@ -1,5 +1,4 @@
 -- The job goes to the slots of the next place, and the count goes on.
-use borrow.Author.Rules.{rules}
 use mathlib.Core.Path.{sym, ap, ◌∙◌}
 use native.Mathlib.Omega.{arith}
 use lib.ListN.{length-set}

@@ -1,10 +1,8 @@
 -- The loop has counted the jobs at the places below k.
 use Prim.Native.Nat.{◌-◌}
-use mathlib.Core.Path.{subst}
-use native.Mathlib.Omega.{arith}
 use Rattle.monitor.specs.Layout.{deadline_in}
 use Rattle.monitor.specs.MonitorCalls.{tallied}
-use Rattle.monitor.proofs.TallyLaws.{Tallying, tallying_none, tallying_next, tallying_jobs, tallying_late, tallying_all}
+use Rattle.monitor.proofs.TallyLaws.{Tallying}
 use Rattle.monitor.proofs.tally_of.Given as goal
 
 abbrev pub invariant-loop-k : goal.invariant-loop-k

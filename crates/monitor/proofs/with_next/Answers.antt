@@ -1,5 +1,4 @@
 -- A job of another task changes nothing.
-use borrow.Author.Rules.{rules}
 use mathlib.Core.Path.{◌∙◌}
 use Rattle.monitor.proofs.TallyLaws.{next_own, next_other}
 use Rattle.monitor.proofs.with_next.Goals as goal

@@ -1,6 +1,5 @@
 -- Each field by its own function.
 use mathlib.Core.Path.{refl}
-use borrow.Author.Rules.{rules}
 use Rattle.monitor.proofs.with_one.Goals as goal
 
 pub returns : goal.returns

@@ -5,7 +5,6 @@ use Rattle.taskset.specs.TaskSet.{refusal_in}
 use Rattle.frame.specs.FrameView.{framed_of}
 use Rattle.offer.specs.Plans.{ask_first}
 use Rattle.offer.proofs.AskLaws.{ask_stopped, first_few, ask_made}
-use borrow.Author.Rules.{rules}
 use Rattle.offer.proofs.ask.Goals.{In-Fine}
 use Rattle.offer.proofs.ask.Goals as goal
 

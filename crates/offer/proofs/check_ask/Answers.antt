@@ -3,7 +3,6 @@ use mathlib.Core.Path.{sym, ap, ◌∙◌}
 use native.Mathlib.Omega.{arith}
 use Rattle.taskset.specs.TaskSet.{refusal_in}
 use Rattle.offer.proofs.AskLaws.{first_sheet, first_place, first_many, first_none}
-use borrow.Author.Rules.{rules}
 use Rattle.offer.proofs.check_ask.Goals as goal
 
 pub returns-in_default : goal.returns-in_default

@@ -1,10 +1,7 @@
 use Rattle.offer.proofs.AskLaws.{inserted_all}
-use Prim.Native.Nat.{suc, ◌-◌, ◌≤◌, ◌<◌}
 use mathlib.Core.Path.{refl}
 use native.Mathlib.Omega.{arith}
-use Rattle.taskset.specs.TaskSet.{entry_of}
-use Rattle.taskset.proofs.FilledLaws.{Filled, filled_none, filled_next}
-use Rattle.admission.specs.Offers.{inserted}
+use Rattle.taskset.proofs.FilledLaws.{filled_none, filled_next}
 use Rattle.offer.proofs.insert.Goals as goal
 
 pub loop-i-init : goal.loop-i-init

@@ -1,10 +1,7 @@
 -- The loop has filled the entries below i.
-use Rattle.offer.proofs.AskLaws.{inserted_all}
 use Prim.Native.Nat.{suc, ◌-◌, ◌≤◌, ◌<◌}
-use mathlib.Core.Path.{refl}
-use native.Mathlib.Omega.{arith}
 use Rattle.taskset.specs.TaskSet.{entry_of}
-use Rattle.taskset.proofs.FilledLaws.{Filled, filled_none, filled_next}
+use Rattle.taskset.proofs.FilledLaws.{Filled}
 use Rattle.admission.specs.Offers.{inserted}
 use Rattle.offer.proofs.insert.Given as goal
 

@@ -1,7 +1,6 @@
 -- Case by case.
 use mathlib.Core.Path.{sym, ap}
 use Rattle.offer.specs.Plans.{choice_partial}
-use borrow.Author.Rules.{rules}
 use Rattle.offer.proofs.is_partial.Goals as goal
 
 pub returns-in-Refused : goal.returns-in-Refused

@@ -1,7 +1,6 @@
 -- The columns hold the choice.
 use native.Mathlib.Omega.{arith}
 use Rattle.offer.proofs.PlanLaws.{planned}
-use borrow.Author.Rules.{rules}
 use Rattle.offer.proofs.plan_of.Goals as goal
 
 pub returns : goal.returns

@@ -3,7 +3,6 @@ use Rattle.offer.proofs.AskLaws.{inserted_after}
 use mathlib.Core.Path.{sym}
 use native.Mathlib.Omega.{arith}
 use Rattle.admission.proofs.AskedLaws.{inserted_above, inserted_here}
-use borrow.Author.Rules.{rules}
 use Rattle.offer.proofs.shifted.Goals as goal
 
 pub returns-then-i-place : goal.returns-then-i-place

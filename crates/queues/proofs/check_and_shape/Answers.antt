@@ -1,7 +1,6 @@
 -- The sheet with its frame comes first; where it passes, the checks that follow and the ready ticks do not look at the frame.
 use Prim.Native.Nat.{min}
 use mathlib.Core.Path.{refl, sym, ap, ◌∙◌}
-use borrow.Author.Rules.{rules}
 use lib.ListN.{length}
 use Rattle.model.specs.Choice.{column}
 use Rattle.taskset.specs.TaskSet.{view_of, refusal_in}

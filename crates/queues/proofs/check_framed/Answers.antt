@@ -1,6 +1,5 @@
 -- Where there is a frame, the check of the sheet with it.
 use mathlib.Core.Path.{◌∙◌}
-use borrow.Author.Rules.{rules}
 use Rattle.taskset.specs.TaskSet.{view_of}
 use Rattle.frame.specs.FrameView.{windows_of}
 use Rattle.queues.proofs.FramedLaws.{first_absent, first_present}

@@ -1,7 +1,6 @@
 -- The sheet with its frame comes first; where it passes, the checks that follow do not look at the frame.
 use Prim.Native.Nat.{min}
 use mathlib.Core.Path.{sym, ap, ◌∙◌}
-use borrow.Author.Rules.{rules}
 use Rattle.taskset.specs.TaskSet.{view_of, refusal_in}
 use Rattle.frame.specs.FrameView.{frame_of}
 use Rattle.queues.proofs.FramedLaws.{first_refuses, first_passes}

@@ -1,9 +1,6 @@
-use Prim.Native.Nat.{◌-◌, ◌≤◌}
 use mathlib.Core.Path.{◌≡◌}
 use native.Mathlib.Omega.{arith}
-use Rattle.model.specs.Slots.{Holds}
 use Rattle.model.proofs.SlotLaws.{holds_none, holds_next}
-use Rattle.queues.specs.Queues.{next_of}
 use Rattle.queues.proofs.first_jobs.Goals as goal
 
 pub loop-i-init : goal.loop-i-init

@@ -1,9 +1,6 @@
 -- The first i slots hold the oldest jobs of the first i tasks.
 use Prim.Native.Nat.{◌-◌, ◌≤◌}
-use mathlib.Core.Path.{◌≡◌}
-use native.Mathlib.Omega.{arith}
 use Rattle.model.specs.Slots.{Holds}
-use Rattle.model.proofs.SlotLaws.{holds_none, holds_next}
 use Rattle.queues.specs.Queues.{next_of}
 use Rattle.queues.proofs.first_jobs.Given as goal
 

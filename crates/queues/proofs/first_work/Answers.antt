@@ -1,11 +1,6 @@
-use Prim.Native.Nat.{◌-◌, ◌≤◌}
 use mathlib.Core.Path.{◌≡◌}
-use borrow.Author.Rules.{rules}
 use native.Mathlib.Omega.{arith}
-use lib.ListN.{get_or}
-use Rattle.model.specs.Slots.{Holds}
 use Rattle.model.proofs.SlotLaws.{holds_none, holds_next}
-use Rattle.queues.specs.Queues.{work_of}
 use Rattle.queues.proofs.first_work.Goals as goal
 
 pub loop-i-init : goal.loop-i-init

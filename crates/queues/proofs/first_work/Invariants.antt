@@ -1,11 +1,7 @@
 -- The first i slots hold the work of the oldest jobs of the first i tasks.
 use Prim.Native.Nat.{◌-◌, ◌≤◌}
-use mathlib.Core.Path.{◌≡◌}
-use borrow.Author.Rules.{rules}
-use native.Mathlib.Omega.{arith}
 use lib.ListN.{get_or}
 use Rattle.model.specs.Slots.{Holds}
-use Rattle.model.proofs.SlotLaws.{holds_none, holds_next}
 use Rattle.queues.specs.Queues.{work_of}
 use Rattle.queues.proofs.first_work.Given as goal
 

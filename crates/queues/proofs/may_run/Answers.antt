@@ -1,7 +1,6 @@
 -- The test of the start tick, and of NEVER past the list.
 use Prim.Native.Nat.{ℕ}
 use mathlib.Core.Path.{sym, ap, ◌∙◌}
-use borrow.Author.Rules.{rules}
 use lib.Dec.{leb}
 use Rattle.queues.proofs.SearchedLaws.{wake_in, wake_out}
 use Rattle.queues.proofs.may_run.Goals as goal

@@ -1,10 +1,8 @@
 -- The loop has passed every place from the first on that holds another task.
 use Prim.Native.Nat.{◌-◌}
-use native.Mathlib.Omega.{arith}
 use lib.ListN.{get_or}
 use lib.Dec.{eqb}
-use borrow.Author.Tests.{eq-eqb, ne_eqb}
-use Rattle.queues.proofs.SearchedLaws.{Passed, passed_none, passed_next, passed_here, passed_all}
+use Rattle.queues.proofs.SearchedLaws.{Passed}
 use Rattle.queues.proofs.next_of.Given as goal
 
 abbrev pub invariant-loop-p : goal.invariant-loop-p

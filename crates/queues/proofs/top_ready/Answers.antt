@@ -1,11 +1,6 @@
-use Prim.Native.Nat.{◌-◌}
 use mathlib.Core.Path.{sym, ◌∙◌}
-use borrow.Author.Rules.{rules}
 use native.Mathlib.Omega.{arith}
-use lib.ListN.{get_or}
-use lib.Dec.{leb}
-use Rattle.queues.specs.Queues.{wake_of}
-use Rattle.queues.proofs.SearchedLaws.{Passed, passed_none, passed_next, passed_here, passed_all}
+use Rattle.queues.proofs.SearchedLaws.{passed_none, passed_next, passed_here, passed_all}
 use Rattle.queues.proofs.top_ready.Goals as goal
 
 pub loop-i-init : goal.loop-i-init

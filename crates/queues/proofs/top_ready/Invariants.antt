@@ -1,12 +1,9 @@
 -- The loop has passed every task whose oldest unfinished job may not run yet.
 use Prim.Native.Nat.{◌-◌}
-use mathlib.Core.Path.{sym, ◌∙◌}
-use borrow.Author.Rules.{rules}
-use native.Mathlib.Omega.{arith}
 use lib.ListN.{get_or}
 use lib.Dec.{leb}
 use Rattle.queues.specs.Queues.{wake_of}
-use Rattle.queues.proofs.SearchedLaws.{Passed, passed_none, passed_next, passed_here, passed_all}
+use Rattle.queues.proofs.SearchedLaws.{Passed}
 use Rattle.queues.proofs.top_ready.Given as goal
 
 abbrev pub invariant-loop-i : goal.invariant-loop-i

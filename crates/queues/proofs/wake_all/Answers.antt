@@ -1,9 +1,6 @@
-use Prim.Native.Nat.{◌-◌, ◌≤◌}
 use mathlib.Core.Path.{◌≡◌, refl, ◌∙◌}
-use borrow.Author.Rules.{rules}
 use native.Mathlib.Omega.{arith}
-use lib.ListN.{get_or}
-use Rattle.queues.specs.Queues.{wake_of, earliest}
+use Rattle.queues.specs.Queues.{earliest}
 use Rattle.queues.proofs.SearchedLaws.{earliest_next}
 use Rattle.queues.proofs.wake_all.Goals as goal
 
@@ -12,8 +9,7 @@ unfolding earliest
 loop-i-init c = (omega arith, refl)
 
 pub loop-i-preserved : goal.loop-i-preserved
-loop-i-preserved c =
-    (
+loop-i-preserved c = (
   omega arith,
   c.smaller-wake.ensures ∙ rw c.wake_of.ensures (earliest_next _ _ _ c.loop-i.invariant.1),
 )

@@ -1,11 +1,8 @@
 -- The loop has the earliest tick of the first i tasks.
 use Prim.Native.Nat.{◌-◌, ◌≤◌}
-use mathlib.Core.Path.{◌≡◌, refl, ◌∙◌}
-use borrow.Author.Rules.{rules}
-use native.Mathlib.Omega.{arith}
+use mathlib.Core.Path.{◌≡◌}
 use lib.ListN.{get_or}
 use Rattle.queues.specs.Queues.{wake_of, earliest}
-use Rattle.queues.proofs.SearchedLaws.{earliest_next}
 use Rattle.queues.proofs.wake_all.Given as goal
 
 abbrev pub invariant-loop-i : goal.invariant-loop-i

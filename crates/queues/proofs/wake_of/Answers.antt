@@ -1,6 +1,5 @@
 -- A place in the list has its start tick, and one past it has none.
 use mathlib.Core.Path.{sym, ◌∙◌}
-use borrow.Author.Rules.{rules}
 use Rattle.queues.proofs.SearchedLaws.{wake_in, wake_out}
 use Rattle.queues.proofs.wake_of.Goals as goal
 

@@ -1,6 +1,5 @@
 -- A place in the list has its cost and the charge, and one past it 0.
 use mathlib.Core.Path.{sym}
-use borrow.Author.Rules.{rules}
 use native.Mathlib.Omega.{arith}
 use Rattle.queues.proofs.SearchedLaws.{work_in, work_out}
 use Rattle.queues.proofs.work_of.Goals as goal

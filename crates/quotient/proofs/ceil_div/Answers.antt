@@ -1,5 +1,4 @@
 -- The products are below 64 bits, and give the quotient rounded up.
-use borrow.Author.Rules.{rules}
 use native.Mathlib.Omega.{arith}
 use Rattle.quotient.proofs.FactorLaws.{high_product, low_product, ceil_is, ceil_high}
 use Rattle.quotient.proofs.ceil_div.Goals as goal

@@ -1,6 +1,5 @@
 -- The factor is below 64 bits, its parts below 32.
-use mathlib.Core.Path.{◌≡◌, refl}
-use borrow.Author.Rules.{rules}
+use mathlib.Core.Path.{refl}
 use native.Mathlib.Omega.{arith}
 use native.Mathlib.Nat.{div-mul-le_self}
 use Rattle.quotient.specs.Factor.{factor}

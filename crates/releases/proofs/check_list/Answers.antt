@@ -1,14 +1,13 @@
 -- Each check decides where those before it pass.
 use mathlib.Core.Path.{◌≡◌, sym, ap, ◌∙◌}
 use mathlib.Core.Option.{some, none}
-use mathlib.Core.List.{List, [], ◌∷◌}
-use Rattle.model.specs.Checks.{Lent, check_tasks, check_count, check_slots}
+use mathlib.Core.List.{[], ◌∷◌}
+use Rattle.model.specs.Checks.{check_tasks, check_count, check_slots}
 use Rattle.model.proofs.CheckLaws.{valid_of}
 use Rattle.taskset.specs.TaskSet.{view_of, refusal_in}
 use Rattle.model.specs.Calls.{lends}
 use Rattle.model.proofs.OrderLaws.{no_single, no_kept, no_unfit, refused_tasks, refused_count, refused_slots, releases_decide}
 use Rattle.releases.proofs.ReleaseLaws.{columns_of}
-use borrow.Author.Rules.{rules}
 use Rattle.releases.proofs.check_list.Goals.{In-Fine, In-Fine-few, In-Fine-long}
 use Rattle.releases.proofs.check_list.Goals as goal
 

@@ -1,11 +1,9 @@
-use Prim.Native.Nat.{◌-◌}
 use native.Mathlib.Omega.{arith}
 use mathlib.Core.Path.{refl, sym, ap, ◌∙◌}
-use borrow.Author.Rules.{rules}
-use Rattle.taskset.specs.TaskSet.{view_of, refusal_in}
+use Rattle.taskset.specs.TaskSet.{refusal_in}
 use Rattle.model.proofs.TraceLaws.{fault_task}
 use Rattle.model.proofs.CheckLaws.{faulty}
-use Rattle.releases.proofs.ReleaseLaws.{Checking, checking_none, checking_fault, checking_next, checking_all}
+use Rattle.releases.proofs.ReleaseLaws.{checking_none, checking_fault, checking_next, checking_all}
 use Rattle.releases.proofs.check_releases.Goals as goal
 
 pub loop-i-init : goal.loop-i-init

@@ -8,5 +8,5 @@ use Rattle.replay.proofs.main.Goals as goal
 pub slice_bounds-write_all-end : goal.slice_bounds-write_all-end
 slice_bounds-write_all-end c =
     sym
-    (length-take-le c.replay_text-m.result c.replay_text-m.new.1.1.0
-    (omega (arith, c.replay_text-m.ensures.line.small, c.replay_text-m.auto.1.1.0)))
+    (length-take-le c.replay_text-m.result c.replay_text-m.new.out
+    (omega (arith, c.replay_text-m.ensures.line.small, c.replay_text-m.auto.out)))

@@ -1,15 +1,12 @@
-use Prim.Native.Nat.{◌-◌}
 use mathlib.Core.Path.{◌≡◌, refl, sym, ap, ◌∙◌}
 use mathlib.Core.Bool.{true, not}
-use mathlib.Core.Option.{Option}
 use native.Mathlib.Omega.{arith}
-use borrow.Author.Tests.{not-true, not-false}
-use Rattle.model.specs.Frame.{Frame, ours_in}
+use Rattle.model.specs.Frame.{ours_in}
 use Rattle.frame.specs.WindowColumns.{column_frame}
 use Rattle.frame.proofs.ColumnLaws.{ours_absent}
-use Rattle.queues.specs.Queues.{jobs_of, max_finish}
+use Rattle.queues.specs.Queues.{jobs_of}
 use Rattle.queues.proofs.ColumnLaws.{timely}
-use Rattle.schedule.proofs.FinishFillLaws.{Filling, Top, fill_start, fill_sleep, fill_idle, some_soon, fill_off, fill_top, fill_run, fill_done, fill_end}
+use Rattle.schedule.proofs.FinishFillLaws.{Top, fill_start, fill_sleep, fill_idle, some_soon, fill_off, fill_top, fill_run, fill_done, fill_end}
 use Rattle.schedule.proofs.fill_finish.Goals.{Joined-framed, Joined-framed-unread, then-framed+else-not-is_ours, else-framed}
 use Rattle.schedule.proofs.fill_finish.Goals as goal
 
@@ -87,14 +84,17 @@ loop-t-preserved-then-i-tasks c =
 
 pub loop-t-smaller-then-i-tasks : goal.loop-t-smaller-then-i-tasks
 loop-t-smaller-then-i-tasks c =
-    omega (arith, (fill_idle _ _ _ _ _ _ _ _ c.loop-t.invariant.can _ _ _ _ _
-    c.loop-t.invariant.state
-    _
-    _
-    c.top_ready-i.ensures
-    c.if-i-tasks.true
-    c.wake_all-wake.ensures
-    c.if-wake.false).state.time)
+    omega (
+      arith,
+      (fill_idle _ _ _ _ _ _ _ _ c.loop-t.invariant.can _ _ _ _ _
+          c.loop-t.invariant.state
+          _
+          _
+          c.top_ready-i.ensures
+          c.if-i-tasks.true
+          c.wake_all-wake.ensures
+          c.if-wake.false).state.time,
+    )
 
 pub is_ours-requires : goal.is_ours-requires
 is_ours-requires c = c.requires.frame_columns
@@ -110,9 +110,12 @@ loop-t-preserved-then-not-is_ours c =
 
 pub loop-t-smaller-then-not-is_ours : goal.loop-t-smaller-then-not-is_ours
 loop-t-smaller-then-not-is_ours c =
-    omega (arith, (fill_off _ _ _ _ _ _ _ _ c.loop-t.invariant.can _ _ _ _ _ c.loop-t.invariant.state _ c.top_ready-i.ensures c.if-i-tasks.false
-    c.if-t-wake.false
-    (sym c.is_ours.ensures ∙ c.if-not-is_ours.true)).state.time)
+    omega (
+      arith,
+      (fill_off _ _ _ _ _ _ _ _ c.loop-t.invariant.can _ _ _ _ _ c.loop-t.invariant.state _ c.top_ready-i.ensures c.if-i-tasks.false
+          c.if-t-wake.false
+          (sym c.is_ours.ensures ∙ c.if-not-is_ours.true)).state.time,
+    )
 
 pub offset_bounds-left-i : goal.offset_bounds-left-i
 offset_bounds-left-i c = omega (arith, top_unread c)
@@ -144,13 +147,16 @@ loop-t-preserved-then-rest-ne0 c =
 
 pub loop-t-smaller-then-rest-ne0 : goal.loop-t-smaller-then-rest-ne0
 loop-t-smaller-then-rest-ne0 c =
-    omega (arith, (fill_run _ _ _ _ _ _ _ _ c.loop-t.invariant.can _ _ _ _ _ c.loop-t.invariant.state
-    _
-    _
-    (top (goal.at.loop-t-smaller-then-rest-ne0 c).Joined-framed)
-    c.if-t-wake.false
-    refl
-    c.if-rest-ne0.true).state.time)
+    omega (
+      arith,
+      (fill_run _ _ _ _ _ _ _ _ c.loop-t.invariant.can _ _ _ _ _ c.loop-t.invariant.state
+          _
+          _
+          (top (goal.at.loop-t-smaller-then-rest-ne0 c).Joined-framed)
+          c.if-t-wake.false
+          refl
+          c.if-rest-ne0.true).state.time,
+    )
 
 pub offset_bounds-head-i : goal.offset_bounds-head-i
 offset_bounds-head-i c = omega (arith, top (goal.at.offset_bounds-head-i c).Joined-framed)
@@ -204,14 +210,17 @@ loop-t-preserved c =
 
 pub loop-t-smaller : goal.loop-t-smaller
 loop-t-smaller c =
-    omega (arith, (fill_done _ _ _ _ _ _ _ _ c.loop-t.invariant.can _ _ _ _ _ c.loop-t.invariant.state
-    _
-    _
-    _
-    _
-    (top (goal.at.loop-t-smaller c).Joined-framed)
-    c.if-t-wake.false
-    refl
-    c.if-rest-ne0.false
-    c.next_of-next.ensures
-    c.work_of.ensures).state.time)
+    omega (
+      arith,
+      (fill_done _ _ _ _ _ _ _ _ c.loop-t.invariant.can _ _ _ _ _ c.loop-t.invariant.state
+          _
+          _
+          _
+          _
+          (top (goal.at.loop-t-smaller c).Joined-framed)
+          c.if-t-wake.false
+          refl
+          c.if-rest-ne0.false
+          c.next_of-next.ensures
+          c.work_of.ensures).state.time,
+    )

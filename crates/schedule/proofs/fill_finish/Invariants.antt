@@ -1,17 +1,8 @@
 -- At the beginning of tick t the columns hold the state of the run. A tick passes while some job is unfinished, so it is before the largest finish tick.
 use Prim.Native.Nat.{◌-◌}
-use mathlib.Core.Path.{◌≡◌, refl, sym, ap, ◌∙◌}
-use mathlib.Core.Bool.{true, not}
-use mathlib.Core.Logic.{⊎_elim}
-use mathlib.Core.Option.{Option}
-use native.Mathlib.Omega.{arith}
-use borrow.Author.Tests.{not-true, not-false}
-use Rattle.model.specs.Frame.{Frame, ours_in}
 use Rattle.frame.specs.WindowColumns.{column_frame}
-use Rattle.frame.proofs.ColumnLaws.{ours_absent}
-use Rattle.queues.specs.Queues.{jobs_of, max_finish}
-use Rattle.queues.proofs.ColumnLaws.{timely}
-use Rattle.schedule.proofs.FinishFillLaws.{Filling, Top, fill_start, fill_sleep, fill_idle, some_soon, fill_off, fill_top, fill_run, fill_done, fill_end}
+use Rattle.queues.specs.Queues.{max_finish}
+use Rattle.schedule.proofs.FinishFillLaws.{Filling}
 use Rattle.schedule.proofs.fill_finish.Given as goal
 
 abbrev pub invariant-loop-t : goal.invariant-loop-t

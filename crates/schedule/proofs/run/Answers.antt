@@ -1,6 +1,5 @@
 -- The checks come first, with the ready ticks; the finish ticks are written where they pass.
 use mathlib.Core.Path.{◌≡◌, sym, ap, ◌∙◌}
-use borrow.Author.Rules.{rules}
 use Rattle.model.specs.Checks.{refusal_of}
 use Rattle.model.specs.Calls.{run_inputs}
 use Rattle.taskset.specs.TaskSet.{refusal_in}
@@ -28,9 +27,11 @@ fine : (c : In-Fine)
     → let a = c.args in
     Cleared (framed_of a.s a.f) a.kept.now a.count a.task.now a.tick.now a.cost.now a.ready.now a.finish.now
 fine c =
-    record { clear = sym (ap refusal_in c.in-Fine.is) ∙ (let a = c.args in
-    c.check_and_shape-checked.ensures.refusal
-    ∙ run_checks (framed_of a.s a.f) a.kept.now a.count a.task.now a.tick.now a.cost.now a.ready.now a.finish.now) }
+    record {
+      clear = sym (ap refusal_in c.in-Fine.is) ∙ (let a = c.args in
+          c.check_and_shape-checked.ensures.refusal
+          ∙ run_checks (framed_of a.s a.f) a.kept.now a.count a.task.now a.tick.now a.cost.now a.ready.now a.finish.now);
+    }
 
 pub returns-in_default : goal.returns-in_default
 returns-in_default c =
@@ -59,5 +60,5 @@ returns c =
       refusal = e.clear;
       ticks = column_by _ _ _ _ _ c.check_and_shape-checked.ensures.ticks (checks (goal.at.returns c).After-check_and_shape-checked);
       finishes = finish_written _ _ _ _ _ _ _ _ e _ _ (shaped _ _ _ _ _ _ _ _ e _ _ (ap refusal_in c.in-Fine.is) c.check_and_shape-checked.ensures.ticks)
-            (rw (jobs_alike _ _ c.supply_of-supply.ensures.same _ _ _ _ _) at c.fill_finish.ensures);
+          (rw (jobs_alike _ _ c.supply_of-supply.ensures.same _ _ _ _ _) at c.fill_finish.ensures);
     })

@@ -1,10 +1,8 @@
-use Prim.Native.Nat.{◌≤◌, ◌-◌}
 use mathlib.Core.Path.{refl, sym, ap, ◌∙◌}
-use borrow.Author.Rules.{rules}
 use native.Mathlib.Omega.{arith}
-use Rattle.model.proofs.SearchLaws.{Sought, sought_none, sought_next, sought_here, sought_all}
-use Rattle.model.proofs.CheckLaws.{wrong, is_fault_lem, no_fault, fault_of_lem, faultless_of, refuses_none, refuses_many, refuses_entry, passes}
-use Rattle.taskset.specs.TaskSet.{view_of, refusal_in}
+use Rattle.model.proofs.SearchLaws.{sought_none, sought_next, sought_here, sought_all}
+use Rattle.model.proofs.CheckLaws.{is_fault_lem, no_fault, fault_of_lem, faultless_of, refuses_none, refuses_many, refuses_entry, passes}
+use Rattle.taskset.specs.TaskSet.{refusal_in}
 use Rattle.taskset.proofs.check.Goals as goal
 
 pub returns-then-count-eq0 : goal.returns-then-count-eq0
@@ -24,8 +22,7 @@ returns-in_default c =
     (sought_here _ _ _ c.loop-i.invariant.2 c.loop-i-test.true (is_fault_lem _ _ (fault_of_lem _ _ _ told).0)) told)
 
 pub loop-i-preserved : goal.loop-i-preserved
-loop-i-preserved c =
-    (
+loop-i-preserved c = (
   omega arith,
   omega arith,
   sought_next _ _ _ c.loop-i.invariant.2 c.loop-i-test.true

@@ -1,7 +1,6 @@
 -- 6 where the ranges fail; past that the cost is at most 1,000,000, and the load fits 32 bits.
 use mathlib.Core.Path.{◌≡◌, sym, ◌∙◌}
 use mathlib.Core.Bool.{true}
-use borrow.Author.Rules.{rules}
 use borrow.Author.Tests.{not-true, not-false}
 use native.Mathlib.Omega.{arith}
 use Rattle.model.specs.Checks.{in_range}

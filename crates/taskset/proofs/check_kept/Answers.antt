@@ -1,10 +1,6 @@
-use Prim.Native.Nat.{◌-◌}
 use borrow.Author.Tests.{lt-ltb, le-ltb}
-use native.Mathlib.Omega.{arith}
-use Rattle.model.specs.Choice.{column}
-use Rattle.model.proofs.SearchLaws.{Sought, sought_none, sought_next, sought_here, sought_all}
-use Rattle.model.proofs.CheckLaws.{over, refuses_kept, passes_kept}
-use Rattle.taskset.specs.TaskSet.{view_of}
+use Rattle.model.proofs.SearchLaws.{sought_none, sought_next, sought_here, sought_all}
+use Rattle.model.proofs.CheckLaws.{refuses_kept, passes_kept}
 use Rattle.taskset.proofs.check_kept.Goals as goal
 
 pub loop-i-init : goal.loop-i-init

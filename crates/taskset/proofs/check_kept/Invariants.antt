@@ -1,10 +1,8 @@
 -- The loop has passed every task below i: each has K ≤ J.
 use Prim.Native.Nat.{◌-◌}
-use borrow.Author.Tests.{lt-ltb, le-ltb}
-use native.Mathlib.Omega.{arith}
 use Rattle.model.specs.Choice.{column}
-use Rattle.model.proofs.SearchLaws.{Sought, sought_none, sought_next, sought_here, sought_all}
-use Rattle.model.proofs.CheckLaws.{over, refuses_kept, passes_kept}
+use Rattle.model.proofs.SearchLaws.{Sought}
+use Rattle.model.proofs.CheckLaws.{over}
 use Rattle.taskset.specs.TaskSet.{view_of}
 use Rattle.taskset.proofs.check_kept.Given as goal
 

@@ -1,9 +1,6 @@
-use Prim.Native.Nat.{◌+◌, ◌-◌, ◌≤◌}
-use mathlib.Core.Path.{◌≡◌, refl}
+use mathlib.Core.Path.{refl}
 use native.Mathlib.Omega.{arith}
-use borrow.Author.Rules.{rules}
-use lib.ListN.{length, take, length-set}
-use Rattle.text.specs.Text.{Put}
+use lib.ListN.{length-set}
 use Rattle.text.proofs.TextLaws.{put_next, put_whole}
 use Rattle.text.proofs.put_bytes.Goals as goal
 
@@ -11,8 +8,7 @@ pub loop-i-init : goal.loop-i-init
 loop-i-init c = (omega arith, refl, record { holds = refl; next = refl })
 
 pub loop-i-preserved : goal.loop-i-preserved
-loop-i-preserved c =
-    (
+loop-i-preserved c = (
   omega arith,
   simp length-set c.loop-i.invariant.1,
   put_next _ _ _ _ _ c.loop-i.invariant.2 c.loop-i-test.true,

@@ -1,6 +1,5 @@
 use native.Mathlib.Omega.{arith}
 use Rattle.text.proofs.TextLaws.{field_long, put_ended}
-use borrow.Author.Rules.{rules}
 use Rattle.text.proofs.put_ended.Goals as goal
 
 pub put_decimal-next-requires : goal.put_decimal-next-requires

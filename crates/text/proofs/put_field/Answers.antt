@@ -1,7 +1,6 @@
 -- A number of 32 bits is below 10^10.
 use native.Mathlib.Omega.{arith}
 use Rattle.text.proofs.TextLaws.{field_room, field_put}
-use borrow.Author.Rules.{rules}
 use Rattle.text.proofs.put_field.Goals as goal
 
 pub put_ended-requires : goal.put_ended-requires

@@ -9,7 +9,6 @@ use Rattle.taskset.specs.TaskSet.{view_of, refusal_in}
 use Rattle.trace.specs.TraceCalls.{call_inputs}
 use Rattle.model.proofs.OrderLaws.{column_kept}
 use Rattle.trace.proofs.ListCallLaws.{listed_shapable, callable_of, ready_written_lem}
-use borrow.Author.Rules.{rules}
 use Rattle.trace.proofs.check_and_shape.Goals.{In-Fine}
 use Rattle.trace.proofs.check_and_shape.Goals as goal
 

@@ -2,16 +2,14 @@
 use Prim.Native.Nat.{◌≤◌}
 use mathlib.Core.Path.{◌≡◌, sym, ap, ◌∙◌}
 use mathlib.Core.Option.{some, none}
-use mathlib.Core.List.{List}
 use Rattle.model.specs.Limits.{max_tasks}
 use Rattle.model.specs.Choice.{column}
-use Rattle.model.specs.Checks.{Lent, check_tasks, check_count, check_slots, check_kept}
+use Rattle.model.specs.Checks.{check_tasks, check_count, check_slots, check_kept}
 use Rattle.model.proofs.CheckLaws.{valid_of}
 use Rattle.taskset.specs.TaskSet.{view_of, refusal_in}
 use Rattle.model.proofs.OrderLaws.{no_single, no_unfit, refused_tasks, refused_count, refused_slots, refused_kept, releases_decide}
 use Rattle.trace.specs.TraceCalls.{slots_lent}
 use Rattle.trace.proofs.ListCallLaws.{LongEnough, long_enough}
-use borrow.Author.Rules.{rules}
 use Rattle.trace.proofs.check_call.Goals.{In-Fine, In-Fine-few, Start, In-Fine-long, In-Fine-keeps}
 use Rattle.trace.proofs.check_call.Goals as goal
 
@@ -56,8 +54,7 @@ returns-in_default-long c =
     (sym (ap refusal_in c.in_default-long.is) ∙ c.check_slots-long.ensures))
 
 pub check_kept-keeps-requires : goal.check_kept-keeps-requires
-check_kept-keeps-requires c =
-    (
+check_kept-keeps-requires c = (
   few_tasks (goal.at.check_kept-keeps-requires c).In-Fine,
   (long
       (goal.at.check_kept-keeps-requires c).Start (slots_fine (goal.at.check_kept-keeps-requires c).In-Fine-long)).kept_long,

@@ -2,7 +2,6 @@
 use mathlib.Core.Path.{sym, ap, ◌∙◌}
 use Rattle.taskset.specs.TaskSet.{refusal_in}
 use Rattle.trace.proofs.ListCallLaws.{lent_kept, lent_columns, lent_short, lent_fine}
-use borrow.Author.Rules.{rules}
 use Rattle.trace.proofs.check_slots.Goals as goal
 
 pub returns-then-kept-tasks : goal.returns-then-kept-tasks

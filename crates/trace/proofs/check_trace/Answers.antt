@@ -6,7 +6,6 @@ use Rattle.model.specs.Calls.{list_inputs}
 use Rattle.taskset.specs.TaskSet.{view_of, refusal_in}
 use Rattle.releases.proofs.ReleaseLaws.{listed_of}
 use Rattle.trace.proofs.ListCallLaws.{listed_shapable, trace_refused, trace_answered}
-use borrow.Author.Rules.{rules}
 use Rattle.trace.proofs.check_trace.Goals.{In_default}
 use Rattle.trace.proofs.check_trace.Goals as goal
 

@@ -1,6 +1,5 @@
 -- The shorter of the two columns decides.
 use mathlib.Core.Path.{ap, ◌∙◌}
-use borrow.Author.Rules.{rules}
 use Rattle.model.specs.Checks.{refusal_of}
 use Rattle.taskset.specs.TaskSet.{view_of}
 use Rattle.trace.specs.TraceCalls.{call_inputs}

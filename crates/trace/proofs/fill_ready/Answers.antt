@@ -1,13 +1,9 @@
-use Prim.Native.Nat.{◌-◌, ◌<◌}
-use mathlib.Core.List.{[]}
+use Prim.Native.Nat.{◌<◌}
 use lib.ListN.{get_or}
 use native.Mathlib.Omega.{arith}
 use Rattle.model.specs.Limits.{max_tasks}
-use Rattle.model.specs.Tasks.{Tasks}
 use Rattle.model.specs.Choice.{column}
 use Rattle.taskset.specs.TaskSet.{view_of}
-use Rattle.trace.specs.Standing.{Standing}
-use Rattle.trace.specs.TraceCalls.{Shapable}
 use Rattle.trace.proofs.CloseWalkLaws.{walk_small, Step}
 use Rattle.trace.proofs.ReadyFillLaws.{Filling, filling_none, filling_next, filling_all}
 use Rattle.trace.proofs.fill_ready.Goals.{At-loop-p, In-loop-p, After-shape-got}

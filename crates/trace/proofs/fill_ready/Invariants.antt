@@ -1,16 +1,11 @@
 -- The loop has written the ready ticks of every release before p.
-use Prim.Native.Nat.{◌-◌, ◌<◌}
+use Prim.Native.Nat.{◌-◌}
 use mathlib.Core.List.{[]}
-use lib.ListN.{get_or}
-use native.Mathlib.Omega.{arith}
-use Rattle.model.specs.Limits.{max_tasks}
 use Rattle.model.specs.Tasks.{Tasks}
 use Rattle.model.specs.Choice.{column}
-use Rattle.taskset.specs.TaskSet.{view_of}
 use Rattle.trace.specs.Standing.{Standing}
 use Rattle.trace.specs.TraceCalls.{Shapable}
-use Rattle.trace.proofs.CloseWalkLaws.{walk_small, Step}
-use Rattle.trace.proofs.ReadyFillLaws.{Filling, filling_none, filling_next, filling_all}
+use Rattle.trace.proofs.ReadyFillLaws.{Filling}
 use Rattle.trace.proofs.fill_ready.Given as goal
 
 -- for every sheet that the shapers were made for, since the loop does not look at the sheet

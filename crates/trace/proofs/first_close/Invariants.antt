@@ -1,15 +1,10 @@
 -- The loop has passed every release before p: none of them is too close, and the shapers have moved none.
-use Prim.Native.Nat.{◌-◌, ◌<◌}
+use Prim.Native.Nat.{◌-◌}
 use mathlib.Core.List.{[]}
-use lib.ListN.{get_or}
-use native.Mathlib.Omega.{arith}
-use Rattle.model.specs.Limits.{max_tasks}
 use Rattle.model.specs.Tasks.{Tasks}
-use Rattle.taskset.specs.TaskSet.{view_of}
 use Rattle.trace.specs.Standing.{Standing}
 use Rattle.trace.specs.TraceCalls.{Shapable}
-use Rattle.trace.proofs.CloseWalkLaws.{walk_small, Step}
-use Rattle.trace.proofs.CloseLaws.{Tracing, tracing_none, tracing_close, tracing_next, tracing_all}
+use Rattle.trace.proofs.CloseLaws.{Tracing}
 use Rattle.trace.proofs.first_close.Given as goal
 
 -- for every sheet that the shapers were made for, since the loop does not look at the sheet

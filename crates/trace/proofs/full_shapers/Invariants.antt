@@ -1,11 +1,8 @@
 -- The loop has made the shapers of every task before i.
 use Prim.Native.Nat.{◌-◌, ◌≤◌}
 use mathlib.Core.List.{[]}
-use native.Mathlib.Omega.{arith}
-use borrow.Author.Rules.{rules}
 use Rattle.taskset.specs.TaskSet.{view_of}
 use Rattle.trace.specs.Standing.{Standing}
-use Rattle.trace.proofs.StandingLaws.{standing_none, standing_more, standing_all}
 use Rattle.trace.proofs.full_shapers.Given as goal
 
 abbrev pub invariant-loop-i : goal.invariant-loop-i

@@ -1,10 +1,4 @@
-use Prim.Native.Nat.{◌-◌, ◌≤◌}
-use mathlib.Core.List.{[]}
 use native.Mathlib.Omega.{arith}
-use borrow.Author.Rules.{rules}
-use Rattle.model.specs.Choice.{column}
-use Rattle.taskset.specs.TaskSet.{view_of}
-use Rattle.trace.specs.Standing.{Standing}
 use Rattle.trace.proofs.StandingLaws.{standing_none, standing_more, standing_all}
 use Rattle.trace.proofs.kept_shapers.Goals as goal
 
@@ -33,8 +27,7 @@ pub overflow_add-i : goal.overflow_add-i
 overflow_add-i c = omega (arith, c.requires)
 
 pub loop-i-preserved : goal.loop-i-preserved
-loop-i-preserved c =
-    (
+loop-i-preserved c = (
   omega arith,
   standing_more _ _ _ _ _ c.loop-i.invariant.1 (omega (arith, c.requires)) c.new-new.ensures,
 )

@@ -1,12 +1,9 @@
 -- The loop has made the shapers of every task before i.
 use Prim.Native.Nat.{◌-◌, ◌≤◌}
 use mathlib.Core.List.{[]}
-use native.Mathlib.Omega.{arith}
-use borrow.Author.Rules.{rules}
 use Rattle.model.specs.Choice.{column}
 use Rattle.taskset.specs.TaskSet.{view_of}
 use Rattle.trace.specs.Standing.{Standing}
-use Rattle.trace.proofs.StandingLaws.{standing_none, standing_more, standing_all}
 use Rattle.trace.proofs.kept_shapers.Given as goal
 
 abbrev pub invariant-loop-i : goal.invariant-loop-i

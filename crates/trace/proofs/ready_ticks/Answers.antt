@@ -7,7 +7,6 @@ use Rattle.model.specs.Checks.{refusal_of}
 use Rattle.taskset.specs.TaskSet.{view_of, refusal_in}
 use Rattle.trace.specs.TraceCalls.{call_inputs}
 use Rattle.model.proofs.OrderLaws.{column_by}
-use borrow.Author.Rules.{rules}
 use Rattle.trace.proofs.ready_ticks.Goals.{After-check_and_shape}
 use Rattle.trace.proofs.ready_ticks.Goals as goal
 

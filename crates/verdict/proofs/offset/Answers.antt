@@ -1,6 +1,5 @@
 -- The product and the difference fit, so what is read back is the definition's x.
 use mathlib.Core.Path.{◌≡◌, ◌∙◌}
-use borrow.Author.Rules.{rules}
 use native.Mathlib.Omega.{arith}
 use lib.IntN.{◌-ℤ◌, ◌*ℤ◌}
 use mir.Syntax.{w64}

@@ -1,7 +1,6 @@
 -- The checks refuse, or the walk over the columns gives the verdict.
 use mathlib.Core.Path.{◌≡◌, sym, ap, ◌∙◌}
 use mathlib.Core.Option.{none}
-use borrow.Author.Rules.{rules}
 use native.Mathlib.Omega.{arith}
 use Rattle.model.specs.Refusal.{answered}
 use Rattle.model.specs.Checks.{refusal_of}

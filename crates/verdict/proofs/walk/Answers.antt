@@ -1,24 +1,22 @@
-use Prim.Native.Nat.{◌+◌, ◌-◌, ◌*◌, ◌≤◌, max}
-use mathlib.Core.Path.{◌≡◌, refl, sym, ap, ap₂, ◌∙◌}
-use mathlib.Core.Option.{Option, some}
+use Prim.Native.Nat.{◌+◌, ◌*◌, ◌≤◌}
+use mathlib.Core.Path.{◌≡◌, sym, ap, ap₂, ◌∙◌}
+use mathlib.Core.Option.{some}
 use native.Mathlib.Omega.{arith}
 use lib.ListN.{get_or}
 use Rattle.model.specs.Refusal.{answered}
 use Rattle.model.specs.Choice.{column}
 use Rattle.model.specs.Demand.{window}
 use Rattle.model.specs.Evaluations.{counted_at}
-use Rattle.model.specs.Tasks.{Tasks}
 use Rattle.model.specs.Frame as model
 use Rattle.model.proofs.FrameLaws.{Ruled}
 use Rattle.frame.specs.Starts.{starts_of, start_at}
 use Rattle.frame.specs.Reached.{Reached}
-use Rattle.frame.specs.WindowColumns.{column_frame, Begins}
+use Rattle.frame.specs.WindowColumns.{column_frame}
 use Rattle.frame.proofs.ColumnLaws.{ruled_columns}
 use Rattle.demand.specs.Columns.{flat_tasks}
 use Rattle.demand.specs.Seeking.{Counts, tally_of}
 use Rattle.demand.proofs.SeekLaws.{some_start}
 use Rattle.demand.proofs.SeekColumnLaws.{periodic, own_load, own_high, seek_start, seek_next, seek_turn, seek_found, found_counted, seek_over, over_counted, counts_of, counts_by, tally_high}
-use Rattle.verdict.proofs.VerdictWalk.{Walk, Find}
 use Rattle.verdict.proofs.VerdictWalkLaws.{walk_start, says_horizon, says_late, says_fits, walk_on}
 use Rattle.verdict.proofs.WalkableLaws.{met_at}
 use Rattle.verdict.proofs.walk.Goals.{Start, After-wide-in-walk, At-walk, After-reach_from-x, Then-starts-n}
@@ -94,9 +92,9 @@ counted c =
           c.once_each-once.ensures _ _ _ _ _ _ _
           c.find.invariant.0.search
           ((let given = c.args in
-    counts_by ((flat_tasks ((column_frame c.args.framed c.args.ticks c.args.count c.args.first.now c.args.size.now)) c.args.loads.now c.args.periods.now c.args.jitter c.args.deadline)) (tally_of given.framed) _
-    (counts_of given.framed given.ticks given.count given.first.now given.size.now given.loads.now given.periods.now given.jitter given.deadline)
-    c.tally_of-tally.ensures))
+          counts_by ((flat_tasks ((column_frame c.args.framed c.args.ticks c.args.count c.args.first.now c.args.size.now)) c.args.loads.now c.args.periods.now c.args.jitter c.args.deadline)) (tally_of given.framed) _
+          (counts_of given.framed given.ticks given.count given.first.now given.size.now given.loads.now given.periods.now given.jitter given.deadline)
+          c.tally_of-tally.ensures))
           c.above_load.ensures
           c.if-t-gt10000000.false
           ((rw c.find.invariant.2 at c.reach_from-x.ensures.reached))
@@ -137,19 +135,18 @@ start_at-start-requires c =
     })
 
 pub find-init : goal.find-init
-find-init c =
-    (
-      record {
-        tries = 0;
-        counted = omega arith;
-        search =
-            seek_start ((column_frame c.args.framed c.args.ticks c.args.count c.args.first.now c.args.size.now)) _ _ _ _ _ _ c.requires.walkable.search (ruled (goal.at.find-init c).Start) _ _ c.walk.invariant.q_high (own_is (goal.at.find-init c).After-wide-in-walk) _
-            c.once_each-once.ensures _
-            c.start_at-start.ensures.reach.reached;
-      },
-      c.start_at-start.ensures.begins,
-      c.start_at-start.ensures.place,
-    )
+find-init c = (
+  record {
+    tries = 0;
+    counted = omega arith;
+    search =
+        seek_start ((column_frame c.args.framed c.args.ticks c.args.count c.args.first.now c.args.size.now)) _ _ _ _ _ _ c.requires.walkable.search (ruled (goal.at.find-init c).Start) _ _ c.walk.invariant.q_high (own_is (goal.at.find-init c).After-wide-in-walk) _
+        c.once_each-once.ensures _
+        c.start_at-start.ensures.reach.reached;
+  },
+  c.start_at-start.ensures.begins,
+  c.start_at-start.ensures.place,
+)
 
 pub overflow_add-evaluations : goal.overflow_add-evaluations
 overflow_add-evaluations c =
@@ -186,8 +183,7 @@ reach_from-x-requires c =
 
 pub find-preserved-then-t-x : goal.find-preserved-then-t-x
 find-preserved-then-t-x c =
-    let so_far = c.find.invariant in
-    (
+    let so_far = c.find.invariant in (
       record {
         tries = so_far.0.tries + c.tally_of-tally.result;
         counted = omega (arith, so_far.0.counted);
@@ -222,8 +218,7 @@ start_at-next-requires c =
 
 pub find-preserved : goal.find-preserved
 find-preserved c =
-    let so_far = c.find.invariant in
-    (
+    let so_far = c.find.invariant in (
       record {
         tries = so_far.0.tries + c.tally_of-tally.result;
         counted = omega (arith, so_far.0.counted);

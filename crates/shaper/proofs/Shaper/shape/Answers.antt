@@ -3,7 +3,6 @@ use Prim.Native.Nat.{◌-◌, max}
 use mathlib.Core.Path.{◌≡◌, ap, ◌∙◌}
 use Rattle.shaper.specs.Shaper.{ready_by}
 use Rattle.shaper.proofs.ShaperLaws.{shapes_by}
-use borrow.Author.Rules.{rules}
 use Rattle.shaper.proofs.Shaper.shape.Goals.{After-larger-ready}
 use Rattle.shaper.proofs.Shaper.shape.Goals as goal
 

@@ -4,11 +4,7 @@ use mir.ValLaws.{to_z-of_z}
 use lib.IntN.{pos}
 use lib.Signed.{lt_z}
 use Rattle.choose_csv.proofs.TurnLaws.{failure_below}
-use Rattle.choose_csv.proofs.is_failure.Statement.{statement}
-use Rattle.choose_csv.proofs.is_failure.Tie as tie
+use Rattle.choose_csv.proofs.is_failure.Goals as goal
 
-returns : tie.Need-returns
+pub returns : goal.returns
 returns c = ap (λ z. lt_z z (pos 0)) (to_z-of_z w64 _ c.ranges.got) ∙ failure_below _
-
-pub is-failure-spec : {M : Type 1} → statement M
-is-failure-spec = tie.close (tie.spec returns)

@@ -1,0 +1,12 @@
+-- The slots of the call, and its refusal as a code.
+use borrow.Author.Rules.{rules}
+use mathlib.Core.Path.{ap, ◌∙◌}
+use Rattle.interface.specs.Interface.{code_of}
+use Rattle.nolkrada.proofs.nolkrada_monitor_take.Goals as goal
+
+pub returns : goal.returns
+returns c =
+    let e = c.take_job-checked.ensures in (record {
+      code = c.code_of.ensures ∙ ap code_of e.code;
+      slots = e.slots;
+    })
