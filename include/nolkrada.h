@@ -1,8 +1,8 @@
 /*
  * Nolkrada for C: kept jitters and verdicts for a fixed-priority sheet.
  *
- * ./install puts this header and libnolkrada.a in place: cc main.c -lnolkrada (x86-64 Linux). Without installing, `rt staticlib
- * nolkrada` writes target/staticlib/libnolkrada.a. Of the C library the archive calls memcpy and memset alone; it allocates nothing
+ * ./install puts this header and libnolkrada.a in place: cc main.c -lnolkrada (x86-64 Linux). Without installing, `tools/prove
+ * staticlib nolkrada` writes target/staticlib/libnolkrada.a. Of the C library the archive calls memcpy and memset alone; it allocates nothing
  * and has no writable data, so any number of threads may call it. A read or a load takes below 4096 bytes of stack, a commit below
  * 40960, any other call below 12288; what memcpy and memset take is counted, what the dynamic linker takes when it looks them up is not.
  *

@@ -3,7 +3,7 @@
 #   build library     leaves target/built/libnolkrada.a
 # It says on standard error how far the proving is. Where something fails it says what, with the log, and ends the script with 3.
 #
-# Beside what was built stands a sum of crates.txt and of every file below crates/, names and bytes. While the sum is the same,
+# Beside what was built stands a sum of crates.txt and of every file below crates/ but those of rt (out/), names and bytes. While the sum is the same,
 # nothing is proved and rt is not called. The times of files play no part, and a file that was removed changes the sum.
 # A file is copied under another name and moved to its own, so no call meets half of it. One call proves at a time: it holds a lock
 # on the repository's folder through an open file, as do rt and its children; the lock ends with them, however they end.
@@ -18,7 +18,7 @@ fail() {
     exit 3
 }
 
-sum_now() { (cd "$here" && find crates crates.txt -type f -exec sha256sum {} + | LC_ALL=C sort | sha256sum); }
+sum_now() { (cd "$here" && find crates crates.txt -type f ! -path 'crates/*/out/*' -exec sha256sum {} + | LC_ALL=C sort | sha256sum); }
 
 files_of() { # PART
     case $1 in

@@ -31,7 +31,7 @@ use Rattle.smallcalls.specs.SmallWords.{words_last, small_answer}
 use Rattle.nolkrada.specs.Files.{read_lent, read_within, read_answer, write_answer}
 use Rattle.nolkrada.specs.Texts.{load_lent, load_within, load_answer}
 use Rattle.nolkrada.specs.Runs.{jump_answer, choice_answer}
-use Rattle.nolkrada.specs.Codes.{told, refusal_from, Tells, TellsOf, CodesTell}
+use Rattle.nolkrada.specs.Codes.{told, refusal_from, Tells, TellsOf, CodesTell, SmallCodesTell}
 
 -- the largest place that a code holds
 abbrev top : ℕ
@@ -142,7 +142,7 @@ load_slots text (answered ts) sheet answer r d e =
 
 -- the code of every call for C tells its refusal
 pub codes_tell : CodesTell
-unfolding arrival_call verdict_call trace_call jump_call choice_call jump_answer choice_answer read_answer load_answer write_answer small_answer
+unfolding arrival_call verdict_call trace_call jump_call choice_call jump_answer choice_answer read_answer load_answer write_answer
 codes_tell = record {
   arrival = λ sheet count charge task kept t answer h.
       words_told 1 (length answer) one_word _ (omega arith)
@@ -189,6 +189,11 @@ codes_tell = record {
       (λ r. ask_within top (framed_from sheet count charge frame) (task_entry (task_at task 0)) place r (omega arith) (omega arith));
   board_commit = λ board offer sheet count charge frame n task tick cost at.
       words_told board_numbers (length board) board_row _ (omega arith) (λ r e. within_more max_releases top r (omega arith) (commit_within _ _ r e));
+}
+
+pub small_codes_tell : SmallCodesTell
+unfolding small_answer
+small_codes_tell = record {
   small_trace = λ sheet count charge releases ticks position task tick cost answer h k.
       last_told 2 (length answer) _ (omega arith)
       (λ r. small_within top (view_of (sheet_from sheet count charge)) releases ticks (omega arith) (omega arith) (omega arith) position task tick cost r);

@@ -80,6 +80,9 @@ pub record CodesTell : Type 0 where
       (with_slots board_numbers (length board)
       (as_words board_row
       (commit_call (board_view (board_from board)) (commit_of (plan_from offer) (sheet_from sheet count charge) (frame_from frame) n task tick cost at))))
+
+-- the same of the calls on the small traces. proofs/CodeLaws.antt proves it (`small_codes_tell`).
+pub record SmallCodesTell : Type 0 where
   pub small_trace
       : (sheet : List ℕ) (count charge releases ticks position : ℕ) (task tick cost answer : List ℕ)
       → releases < 4294967296

@@ -8,7 +8,7 @@ use Rattle.model.specs.Tasks.{Release, no_release}
 use Rattle.model.specs.Refusal.{Refusal, Answer, refused, answered}
 use Rattle.taskset.specs.declared.Checked.{Checked}
 use Rattle.taskset.specs.declared.Checked.TheVariants.{Fine, Refused}
-use Rattle.fileformat.specs.Records.{Width, long, Record, broken, wrong_mark, task_record, release_record, charge_record, end_record, record_of, size_of}
+use Rattle.fileformat.specs.Records.{Width, Record, broken, wrong_mark, task_record, release_record, charge_record, end_record, record_of, size_of}
 use Rattle.fileformat.specs.File.{File, decode}
 use Rattle.taskset.specs.declared.TaskSet.{TaskSet}
 use Rattle.taskset.specs.TaskSet.{view_of}

@@ -1,6 +1,5 @@
-use Prim.Native.Nat.{◌-◌}
 use native.Mathlib.Omega.{arith}
-use Rattle.board.proofs.OverLaws.{Passing, passing_none, passing_next, passing_here, passing_all}
+use Rattle.board.proofs.OverLaws.{passing_none, passing_next, passing_here, passing_all}
 use Rattle.board.proofs.any_over.Goals as goal
 
 pub loop-i-init : goal.loop-i-init

@@ -1,7 +1,6 @@
 -- The loop has passed the ticks below i.
 use Prim.Native.Nat.{◌-◌}
-use native.Mathlib.Omega.{arith}
-use Rattle.board.proofs.OverLaws.{Passing, passing_none, passing_next, passing_here, passing_all}
+use Rattle.board.proofs.OverLaws.{Passing}
 use Rattle.board.proofs.any_over.Given as goal
 
 abbrev pub invariant-loop-i : goal.invariant-loop-i

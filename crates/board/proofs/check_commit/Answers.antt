@@ -6,7 +6,6 @@ use Rattle.admission.specs.Boards.{stale}
 use Rattle.plan.specs.PlanView.{board_view}
 use Rattle.board.specs.BoardCalls.{commit_of, list_refusal}
 use Rattle.board.proofs.CommitLaws.{listed_valid, commit_list, commit_stale, commit_soon, commit_passes}
-use borrow.Author.Rules.{rules}
 use Rattle.board.proofs.check_commit.Goals.{In-Fine}
 use Rattle.board.proofs.check_commit.Goals as goal
 

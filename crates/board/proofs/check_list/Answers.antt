@@ -15,7 +15,6 @@ use Rattle.frame.specs.FrameView.{frame_of, framed_of}
 use Rattle.releases.proofs.ReleaseLaws.{columns_of}
 use Rattle.plan.specs.PlanView.{board_view}
 use Rattle.board.proofs.CommitLaws.{kept_check, list_sheet, list_count, list_slots, list_kept, list_releases}
-use borrow.Author.Rules.{rules}
 use Rattle.board.proofs.check_list.Goals.{In-Fine, In-Fine-few, In-Fine-long, After-check_kept-within}
 use Rattle.board.proofs.check_list.Goals as goal
 

@@ -4,7 +4,6 @@ use Rattle.taskset.specs.TaskSet.{refusal_in}
 use Rattle.plan.specs.PlanView.{board_view}
 use Rattle.board.specs.BoardCalls.{commit_of}
 use Rattle.board.proofs.CommitLaws.{commit_refused, commit_accepted}
-use borrow.Author.Rules.{rules}
 use Rattle.board.proofs.commit.Goals as goal
 
 pub returns-in_default : goal.returns-in_default

@@ -6,7 +6,6 @@ use lib.ListN.{length, replicate, length-replicate}
 use Rattle.plan.specs.PlanView.{board_view}
 use Rattle.board.proofs.OverLaws.{column_kept}
 use Rattle.board.proofs.CommitLaws.{listed_valid, finish_long, finishes, soon_before, soon_over}
-use borrow.Author.Rules.{rules}
 use Rattle.board.proofs.is_too_soon.Goals.{Start}
 use Rattle.board.proofs.is_too_soon.Goals as goal
 

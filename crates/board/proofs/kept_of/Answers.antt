@@ -1,8 +1,5 @@
-use Prim.Native.Nat.{◌-◌, ◌≤◌}
 use mathlib.Core.Path.{refl}
 use native.Mathlib.Omega.{arith}
-use Rattle.model.specs.Slots.{Holds}
-use Rattle.model.specs.Choice.{column}
 use Rattle.model.proofs.SlotLaws.{holds_none, holds_next}
 use Rattle.board.proofs.OverLaws.{holds_at}
 use Rattle.board.proofs.kept_of.Goals as goal

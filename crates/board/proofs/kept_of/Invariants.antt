@@ -1,11 +1,7 @@
 -- The first i slots hold the first i kept jitters.
 use Prim.Native.Nat.{◌-◌, ◌≤◌}
-use mathlib.Core.Path.{refl}
-use native.Mathlib.Omega.{arith}
 use Rattle.model.specs.Slots.{Holds}
 use Rattle.model.specs.Choice.{column}
-use Rattle.model.proofs.SlotLaws.{holds_none, holds_next}
-use Rattle.board.proofs.OverLaws.{holds_at}
 use Rattle.board.proofs.kept_of.Given as goal
 
 abbrev pub invariant-loop-i : goal.invariant-loop-i

@@ -1,6 +1,5 @@
 -- The board holds what was planned.
 use Rattle.board.proofs.CommitLaws.{opened}
-use borrow.Author.Rules.{rules}
 use Rattle.board.proofs.open.Goals as goal
 
 pub returns : goal.returns

@@ -5,7 +5,6 @@ use native.Mathlib.Omega.{arith}
 use lib.ListN.{length}
 use borrow.Author.Tests.{lt-ltb, eq-eqb, ne_eqb}
 use Rattle.frame.specs.declared.Frame.{Frame}
-use borrow.Author.Rules.{rules}
 use Rattle.cases.proofs.frame_in.Goals as goal
 
 pub returns-then-head-eq0 : goal.returns-then-head-eq0

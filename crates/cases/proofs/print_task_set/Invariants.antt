@@ -1,6 +1,5 @@
 -- The loop stays within the 32 entries.
 use Prim.Native.Nat.{◌-◌, ◌≤◌}
-use borrow.Author.Rules.{rules}
 use Rattle.cases.proofs.print_task_set.Given as goal
 
 abbrev pub invariant-loop-i : goal.invariant-loop-i

@@ -1,9 +1,8 @@
-use Prim.Native.Nat.{◌-◌, ◌≤◌}
-use mathlib.Core.Path.{◌≡◌, refl}
+use mathlib.Core.Path.{refl}
 use native.Mathlib.Omega.{arith}
-use lib.ListN.{length, length-set}
+use lib.ListN.{length-set}
 use Rattle.taskset.specs.TaskSet.{no_task}
-use Rattle.cases.specs.Cases.{entry_of, Filled}
+use Rattle.cases.specs.Cases.{entry_of}
 use Rattle.cases.proofs.CaseLaws.{filled_next}
 use borrow.Author.Rules.{rules}
 use Rattle.cases.proofs.task_set.Goals as goal
@@ -22,7 +21,7 @@ loop-i-preserved c =
 pub returns : goal.returns
 returns c =
     record {
-  count = c.index.ensures;
-  charge = search rules;
-  entries = λ i h. c.loop-i.invariant.2 i (omega arith);
-}
+      count = c.index.ensures;
+      charge = search rules;
+      entries = λ i h. c.loop-i.invariant.2 i (omega arith);
+    }

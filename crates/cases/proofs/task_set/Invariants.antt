@@ -1,12 +1,9 @@
 -- The loop has filled the first i of the 32 entries.
 use Prim.Native.Nat.{◌-◌, ◌≤◌}
-use mathlib.Core.Path.{◌≡◌, refl}
-use native.Mathlib.Omega.{arith}
-use lib.ListN.{length, length-set}
+use mathlib.Core.Path.{◌≡◌}
+use lib.ListN.{length}
 use Rattle.taskset.specs.TaskSet.{no_task}
 use Rattle.cases.specs.Cases.{entry_of, Filled}
-use Rattle.cases.proofs.CaseLaws.{filled_next}
-use borrow.Author.Rules.{rules}
 use Rattle.cases.proofs.task_set.Given as goal
 
 abbrev pub invariant-loop-i : goal.invariant-loop-i

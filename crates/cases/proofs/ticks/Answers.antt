@@ -1,9 +1,7 @@
-use Prim.Native.Nat.{◌-◌}
 use native.Mathlib.Omega.{arith}
-use borrow.Author.Rules.{rules}
 use Rattle.io.proofs.Counting.{prefix_len_of_le}
 use Rattle.cases.specs.Cases.{tick_at}
-use Rattle.cases.proofs.CaseLaws.{Filling, filling_start, filling_next, filling_end}
+use Rattle.cases.proofs.CaseLaws.{filling_start, filling_next, filling_end}
 use Rattle.cases.proofs.ticks.Goals as goal
 
 pub loop-i-init : goal.loop-i-init

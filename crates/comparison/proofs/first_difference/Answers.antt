@@ -1,11 +1,6 @@
-use Prim.Native.Nat.{◌-◌}
 use mathlib.Core.Path.{sym, ap, ◌∙◌}
 use mathlib.Core.Bool.{not}
-use native.Mathlib.Omega.{arith}
-use borrow.Author.Rules.{rules}
-use Rattle.model.proofs.SearchLaws.{Sought, sought_none, sought_next}
-use Rattle.taskset.specs.TaskSet.{view_of}
-use Rattle.admission.specs.Boards.{differs}
+use Rattle.model.proofs.SearchLaws.{sought_none, sought_next}
 use Rattle.comparison.proofs.CompareLaws.{ends_here, ends_all}
 use Rattle.comparison.proofs.first_difference.Goals as goal
 

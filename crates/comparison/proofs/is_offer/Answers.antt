@@ -6,7 +6,6 @@ use Rattle.frame.specs.FrameView.{framed_of}
 use Rattle.admission.specs.Boards.{differs}
 use Rattle.plan.specs.PlanView.{plan_view}
 use Rattle.comparison.proofs.OfferTestLaws.{end_most, full_none, offer_refused, offer_few, offer_planned}
-use borrow.Author.Rules.{rules}
 use Rattle.comparison.proofs.is_offer.Goals as goal
 
 pub returns-then-s-ge32 : goal.returns-then-s-ge32

@@ -2,12 +2,11 @@
 use mathlib.Core.Path.{sym, ap, ◌∙◌}
 use mathlib.Core.Bool.{not}
 use native.Mathlib.Omega.{arith}
-use borrow.Author.Tests.{not-true, not-false}
+use borrow.Author.Tests.{not-false}
 use Rattle.taskset.specs.TaskSet.{view_of}
 use Rattle.frame.specs.FrameView.{frame_of}
 use Rattle.admission.proofs.SameLaws.{tasks_of_lem}
 use Rattle.comparison.proofs.SheetTestLaws.{stale_sheet, stale_frame, offer_decides}
-use borrow.Author.Rules.{rules}
 use Rattle.comparison.proofs.is_stale.Goals as goal
 
 pub returns-then-not-same_sheet : goal.returns-then-not-same_sheet

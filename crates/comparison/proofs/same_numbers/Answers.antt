@@ -1,8 +1,7 @@
-use Prim.Native.Nat.{◌-◌}
 use mathlib.Core.Path.{◌∙◌}
 use native.Mathlib.Omega.{arith}
-use Rattle.model.proofs.SearchLaws.{Sought, sought_none, sought_next}
-use Rattle.comparison.proofs.CompareLaws.{unlike_in, unlike_yes, unlike_no, nowhere_here, nowhere_all, column_test}
+use Rattle.model.proofs.SearchLaws.{sought_none, sought_next}
+use Rattle.comparison.proofs.CompareLaws.{unlike_yes, unlike_no, nowhere_here, nowhere_all, column_test}
 use Rattle.comparison.proofs.same_numbers.Goals as goal
 
 pub loop-i-init : goal.loop-i-init

@@ -1,13 +1,12 @@
 -- The sheets, the kept jitters, the worst values, then which of the two choices.
 use mathlib.Core.Path.{sym, ◌∙◌}
 use mathlib.Core.Path.{◌≡◌}
-use lib.ListN.{length, length-map}
+use lib.ListN.{length}
 use native.Mathlib.Omega.{arith}
-use borrow.Author.Tests.{not-true, not-false}
+use borrow.Author.Tests.{not-false}
 use Rattle.taskset.specs.TaskSet.{view_of}
 use Rattle.frame.specs.FrameView.{frame_of}
 use Rattle.comparison.proofs.SheetTestLaws.{sheets_differ, kept_differ, worst_differ, scope_decides}
-use borrow.Author.Rules.{rules}
 use Rattle.comparison.proofs.same_plan.Goals.{Start}
 use Rattle.comparison.proofs.same_plan.Goals as goal
 

@@ -1,7 +1,6 @@
 -- The counts, the charges, then the tasks.
 use native.Mathlib.Omega.{arith}
 use Rattle.comparison.proofs.SheetTestLaws.{count_differs, charge_differs, tasks_decide, none_same}
-use borrow.Author.Rules.{rules}
 use Rattle.comparison.proofs.same_sheet.Goals as goal
 
 pub returns-then-a-b : goal.returns-then-a-b

@@ -2,7 +2,6 @@
 use mathlib.Core.Path.{◌∙◌}
 use native.Mathlib.Omega.{arith}
 use Rattle.comparison.proofs.CompareLaws.{period_differs, jitter_differs, cost_differs, deadline_differs, mark_decides}
-use borrow.Author.Rules.{rules}
 use Rattle.comparison.proofs.same_task.Goals as goal
 
 pub returns-then-a-b : goal.returns-then-a-b

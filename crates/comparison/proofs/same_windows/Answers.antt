@@ -1,10 +1,6 @@
-use Prim.Native.Nat.{◌-◌}
 use mathlib.Core.Path.{sym, ap, ◌∙◌}
 use mathlib.Core.Bool.{not}
-use native.Mathlib.Omega.{arith}
-use borrow.Author.Rules.{rules}
-use Rattle.model.proofs.SearchLaws.{Sought, sought_none, sought_next}
-use Rattle.frame.specs.FrameView.{windows_of}
+use Rattle.model.proofs.SearchLaws.{sought_none, sought_next}
 use Rattle.admission.specs.Boards.{window_differs}
 use Rattle.comparison.proofs.CompareLaws.{nowhere_here, nowhere_all}
 use Rattle.comparison.proofs.same_windows.Goals as goal

@@ -3,7 +3,6 @@ use native.Mathlib.Omega.{arith}
 use Rattle.model.specs.Checks.{fault_at}
 use Rattle.model.proofs.CheckLaws.{faulty}
 use Rattle.fileformat.proofs.StepLaws.{task_after, task_over, task_numbers_lem}
-use borrow.Author.Rules.{rules}
 use Rattle.entries.proofs.check_task.Goals as goal
 
 pub returns-then-releases-gt0 : goal.returns-then-releases-gt0

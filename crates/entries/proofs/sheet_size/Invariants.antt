@@ -1,14 +1,8 @@
-use Prim.Native.Nat.{ℕ, ◌+◌, ◌-◌, ◌*◌, ◌≤◌, ◌<◌}
-use mathlib.Core.Path.{◌≡◌, ap, ◌∙◌}
-use native.Mathlib.Omega.{arith}
-use native.Mathlib.Numerals.{add-one}
-use borrow.Author.Rules.{rules}
+use Prim.Native.Nat.{ℕ, ◌+◌, ◌-◌, ◌≤◌}
+use mathlib.Core.Path.{◌≡◌}
 use Rattle.taskset.specs.declared.TaskSet.{TaskSet}
 use Rattle.taskset.specs.TaskSet.{view_of}
-use Rattle.fileformat.specs.Records.{task_size}
-use Rattle.fileformat.specs.FileCalls.{charge_bytes, tasks_bytes, sheet_bytes}
-use Rattle.fileformat.proofs.TaskSizeLaws.{task_size_high, tasks_bytes_none, tasks_bytes_more, tasks_bytes_high}
-use Rattle.fileformat.proofs.RoundTrips.{charge_bytes_high}
+use Rattle.fileformat.specs.FileCalls.{charge_bytes, tasks_bytes}
 use Rattle.entries.proofs.sheet_size.Given as goal
 
 -- the bytes of the charge and of the first i tasks

@@ -2,7 +2,6 @@
 use mathlib.Core.Path.{sym, ap, ◌∙◌}
 use Rattle.taskset.specs.TaskSet.{refusal_in}
 use Rattle.interface.specs.Interface.{code_of}
-use borrow.Author.Rules.{rules}
 use Rattle.interface.proofs.code_of.Goals as goal
 
 pub returns-in-Fine : goal.returns-in-Fine

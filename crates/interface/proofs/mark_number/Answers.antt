@@ -1,5 +1,4 @@
 -- Both marks.
-use mathlib.Core.Path.{◌≡◌, sym, ap}
 use Rattle.interface.specs.TaskNumbers.{mark_number}
 use Rattle.interface.proofs.mark_number.Goals as goal
 

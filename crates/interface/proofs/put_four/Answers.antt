@@ -3,7 +3,6 @@ use mathlib.Core.List.{[], ◌∷◌}
 use Rattle.interface.proofs.InterfaceLaws.{put_few, put_words, four_set}
 use native.Mathlib.Omega.{arith}
 use lib.ListN.{set, length-set}
-use borrow.Author.Rules.{rules}
 use Rattle.interface.proofs.put_four.Goals as goal
 
 pub returns-then-answer-lt4 : goal.returns-then-answer-lt4

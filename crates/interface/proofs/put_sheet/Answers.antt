@@ -1,7 +1,4 @@
-use Prim.Native.Nat.{◌-◌}
-use native.Mathlib.Omega.{arith}
-use borrow.Author.Rules.{rules}
-use Rattle.interface.proofs.TaskNumberLaws.{Put, put_none, put_next, put_all}
+use Rattle.interface.proofs.TaskNumberLaws.{put_none, put_next, put_all}
 use Rattle.interface.proofs.put_sheet.Goals as goal
 
 pub loop-i-init : goal.loop-i-init

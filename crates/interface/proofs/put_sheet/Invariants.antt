@@ -1,8 +1,6 @@
 -- The loop has written the numbers of the entries below i.
 use Prim.Native.Nat.{◌-◌}
-use native.Mathlib.Omega.{arith}
-use borrow.Author.Rules.{rules}
-use Rattle.interface.proofs.TaskNumberLaws.{Put, put_none, put_next, put_all}
+use Rattle.interface.proofs.TaskNumberLaws.{Put}
 use Rattle.interface.proofs.put_sheet.Given as goal
 
 abbrev pub invariant-loop-i : goal.invariant-loop-i

@@ -2,7 +2,6 @@
 use native.Mathlib.Omega.{arith}
 use lib.ListN.{length-set}
 use Rattle.interface.proofs.TaskNumberLaws.{five_set}
-use borrow.Author.Rules.{rules}
 use Rattle.interface.proofs.put_task.Goals as goal
 
 pub bounds-sheet-at-2 : goal.bounds-sheet-at-2

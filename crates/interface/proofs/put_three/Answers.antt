@@ -3,7 +3,6 @@ use mathlib.Core.List.{[], ◌∷◌}
 use Rattle.interface.proofs.InterfaceLaws.{put_few, put_words, three_set}
 use native.Mathlib.Omega.{arith}
 use lib.ListN.{length-set}
-use borrow.Author.Rules.{rules}
 use Rattle.interface.proofs.put_three.Goals as goal
 
 pub returns-then-answer-lt3 : goal.returns-then-answer-lt3

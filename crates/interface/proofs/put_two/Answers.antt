@@ -1,7 +1,6 @@
 -- The words stand in front, one after the other, or are too few.
 use mathlib.Core.List.{[], ◌∷◌}
 use Rattle.interface.proofs.InterfaceLaws.{put_few, put_words, two_set}
-use borrow.Author.Rules.{rules}
 use Rattle.interface.proofs.put_two.Goals as goal
 
 pub returns-then-answer-lt2 : goal.returns-then-answer-lt2

@@ -1,7 +1,6 @@
 -- The code is the definition as it stands.
 use mathlib.Core.Path.{refl}
 use Rattle.interface.specs.Interface.{refusal_code}
-use borrow.Author.Rules.{rules}
 use Rattle.interface.proofs.refusal_code.Goals as goal
 
 pub returns : goal.returns

@@ -1,8 +1,6 @@
-use Prim.Native.Nat.{◌-◌}
 use mathlib.Core.Path.{refl}
 use native.Mathlib.Omega.{arith}
-use borrow.Author.Rules.{rules}
-use Rattle.interface.proofs.InterfaceLaws.{Entries, entries_none, entries_next, entries_sheet}
+use Rattle.interface.proofs.InterfaceLaws.{entries_none, entries_next, entries_sheet}
 use Rattle.interface.proofs.sheet_from.Goals as goal
 
 pub loop-i-init : goal.loop-i-init

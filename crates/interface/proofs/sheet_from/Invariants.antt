@@ -1,9 +1,6 @@
 -- The loop has filled the entries below i.
 use Prim.Native.Nat.{◌-◌}
-use mathlib.Core.Path.{refl}
-use native.Mathlib.Omega.{arith}
-use borrow.Author.Rules.{rules}
-use Rattle.interface.proofs.InterfaceLaws.{Entries, entries_none, entries_next, entries_sheet}
+use Rattle.interface.proofs.InterfaceLaws.{Entries}
 use Rattle.interface.proofs.sheet_from.Given as goal
 
 abbrev pub invariant-loop-i : goal.invariant-loop-i

@@ -4,7 +4,6 @@ use mathlib.Core.Option.{some}
 use Rattle.model.specs.Refusal.{Refusal}
 use Rattle.interface.proofs.InterfaceLaws.{kept_enough, kept_before, few_before}
 use Rattle.interface.specs.Interface.{code_of}
-use borrow.Author.Rules.{rules}
 use Rattle.interface.proofs.slots_code.Goals as goal
 
 pub returns-then-needed-slots : goal.returns-then-needed-slots

@@ -1,6 +1,5 @@
 -- Five numbers make an entry.
 use Rattle.interface.specs.Interface.{task_at}
-use borrow.Author.Rules.{rules}
 use Rattle.interface.proofs.task_at.Goals as goal
 
 pub returns : goal.returns

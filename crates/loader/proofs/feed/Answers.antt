@@ -1,14 +1,13 @@
-use Prim.Native.Nat.{◌-◌, ◌<◌}
+use Prim.Native.Nat.{◌<◌}
 use mathlib.Core.Path.{◌≡◌, sym, ap, ◌∙◌}
 use native.Mathlib.Omega.{arith}
-use borrow.Author.Rules.{rules}
-use lib.ListN.{length, get_or, length-map}
+use lib.ListN.{length, get_or}
 use Rattle.model.specs.Limits.{max_tasks}
 use Rattle.taskset.specs.declared.Checked.TheVariants.{Fine}
 use Rattle.taskset.specs.TaskSet.{refusal_in}
 use Rattle.loader.specs.declared.Taken.{Taken}
 use Rattle.loader.specs.Loader.{taken}
-use Rattle.loader.proofs.FeedLaws.{going, refused_fed, Feeding, feeding_starts, going_fed, feeding_goes, feeding_broken, feeding_stops, feeding_few, feeding_pushes, feeding_ends}
+use Rattle.loader.proofs.FeedLaws.{refused_fed, feeding_starts, going_fed, feeding_goes, feeding_broken, feeding_stops, feeding_few, feeding_pushes, feeding_ends}
 use Rattle.loader.proofs.feed.Goals.{In_default, After-take_byte-took, In_default-k}
 use Rattle.loader.proofs.feed.Goals as goal
 
@@ -72,13 +71,19 @@ overflow_add-tasks c = omega (arith, few c)
 
 pub overflow_add-i-in-Ends : goal.overflow_add-i-in-Ends
 overflow_add-i-in-Ends c =
-    omega (arith, (feeding_pushes _ _ _ _ _ c.loop-i.invariant _ (taken_here (goal.at.overflow_add-i-in-Ends c).After-take_byte-took) (there (goal.at.overflow_add-i-in-Ends c).After-take_byte-took _ c.in-Ends.is)
-    (sym (ap refusal_in c.in_default-k.is) ∙ c.check_task-k.ensures) _ c.no_line-line.ensures).within)
+    omega (
+      arith,
+      (feeding_pushes _ _ _ _ _ c.loop-i.invariant _ (taken_here (goal.at.overflow_add-i-in-Ends c).After-take_byte-took) (there (goal.at.overflow_add-i-in-Ends c).After-take_byte-took _ c.in-Ends.is)
+          (sym (ap refusal_in c.in_default-k.is) ∙ c.check_task-k.ensures) _ c.no_line-line.ensures).within,
+    )
 
 pub loop-i-smaller : goal.loop-i-smaller
 loop-i-smaller c =
-    omega (arith, (feeding_pushes _ _ _ _ _ c.loop-i.invariant _ (taken_here (goal.at.loop-i-smaller c).After-take_byte-took) (there (goal.at.loop-i-smaller c).After-take_byte-took _ c.in-Ends.is)
-    (sym (ap refusal_in c.in_default-k.is) ∙ c.check_task-k.ensures) _ c.no_line-line.ensures).within)
+    omega (
+      arith,
+      (feeding_pushes _ _ _ _ _ c.loop-i.invariant _ (taken_here (goal.at.loop-i-smaller c).After-take_byte-took) (there (goal.at.loop-i-smaller c).After-take_byte-took _ c.in-Ends.is)
+          (sym (ap refusal_in c.in_default-k.is) ∙ c.check_task-k.ensures) _ c.no_line-line.ensures).within,
+    )
 
 pub returns-in-Broken : goal.returns-in-Broken
 returns-in-Broken c =

@@ -3,7 +3,6 @@ use native.Mathlib.Omega.{arith}
 use Rattle.taskset.specs.declared.Checked.TheVariants.{Fine}
 use Rattle.loader.specs.Loader.{begun}
 use Rattle.loader.proofs.LoadLaws.{closed_refused, closed_open, closed_none, closed_fine, finishes}
-use borrow.Author.Rules.{rules}
 use Rattle.loader.proofs.finish.Goals.{In_default, After-has_begun}
 use Rattle.loader.proofs.finish.Goals as goal
 

@@ -1,5 +1,4 @@
 use Rattle.loader.specs.Loader.{decided}
-use borrow.Author.Rules.{rules}
 use Rattle.loader.proofs.is_decided.Goals as goal
 
 pub returns-in-Fine : goal.returns-in-Fine

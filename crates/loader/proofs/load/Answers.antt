@@ -1,6 +1,5 @@
 use mathlib.Core.Path.{ap, ◌∙◌}
 use Rattle.loader.specs.Loader.{fed}
-use borrow.Author.Rules.{rules}
 use Rattle.loader.proofs.load.Goals as goal
 
 pub returns : goal.returns

@@ -8,7 +8,6 @@ use Rattle.textformat.proofs.NumeralLaws.{digit_of}
 use Rattle.loader.specs.declared.Taken.TheVariants.{Goes}
 use Rattle.loader.specs.Loader.{with_digit}
 use Rattle.loader.proofs.TakenLaws.{taken_leading, taken_digit, taken_early, taken_comma_over, taken_comma, taken_other, taken_short, taken_end}
-use borrow.Author.Rules.{rules}
 use Rattle.loader.proofs.take_byte.Goals.{Then-is_digit, Else-is_digit}
 use Rattle.loader.proofs.take_byte.Goals as goal
 

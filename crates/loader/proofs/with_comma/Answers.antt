@@ -1,6 +1,5 @@
 use mathlib.Core.Path.{refl}
 use Rattle.loader.specs.Loader.{with_comma}
-use borrow.Author.Rules.{rules}
 use Rattle.loader.proofs.with_comma.Goals as goal
 
 pub returns : goal.returns

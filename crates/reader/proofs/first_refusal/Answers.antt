@@ -1,6 +1,5 @@
 -- The first refusal decides; without it the second is the answer.
 use mathlib.Core.Path.{sym, ap}
-use borrow.Author.Rules.{rules}
 use Rattle.taskset.specs.TaskSet.{refusal_in}
 use Rattle.reader.proofs.ReadColumnLaws.{first_of_two, second_of_two}
 use Rattle.reader.proofs.first_refusal.Goals as goal

@@ -1,5 +1,4 @@
 -- The short records, then the others.
-use borrow.Author.Rules.{rules}
 use Rattle.reader.proofs.ReadColumnLaws.{putting_here, putting_then}
 use Rattle.reader.proofs.put_columns.Goals as goal
 

@@ -1,9 +1,6 @@
-use Prim.Native.Nat.{◌-◌}
 use mathlib.Core.Path.{ap}
 use Rattle.fileformat.specs.Records.{body_size}
 use native.Mathlib.Omega.{arith}
-use borrow.Author.Rules.{rules}
-use Rattle.reader.specs.Reader.{Putting}
 use Rattle.reader.proofs.ReadColumnLaws.{Reading, reading, putting_next, putting_all}
 use Rattle.reader.proofs.put_rest.Goals.{In-loop-i}
 use Rattle.reader.proofs.put_rest.Goals as goal

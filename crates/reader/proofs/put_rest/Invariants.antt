@@ -1,11 +1,6 @@
 -- The releases below i are written, the first of them before the loop.
 use Prim.Native.Nat.{◌-◌}
-use mathlib.Core.Path.{ap}
-use Rattle.fileformat.specs.Records.{body_size}
-use native.Mathlib.Omega.{arith}
-use borrow.Author.Rules.{rules}
 use Rattle.reader.specs.Reader.{Putting}
-use Rattle.reader.proofs.ReadColumnLaws.{Reading, reading, putting_next, putting_all}
 use Rattle.reader.proofs.put_rest.Given as goal
 
 abbrev pub invariant-loop-i : goal.invariant-loop-i

@@ -1,8 +1,6 @@
-use Prim.Native.Nat.{◌-◌, ◌+◌, ◌*◌}
+use Prim.Native.Nat.{◌+◌, ◌*◌}
 use mathlib.Core.Path.{refl}
 use native.Mathlib.Omega.{arith}
-use borrow.Author.Rules.{rules}
-use Rattle.reader.specs.Reader.{Putting}
 use Rattle.reader.proofs.ReadColumnLaws.{Reading, short_room, putting_none, reading, putting_short}
 use Rattle.reader.proofs.put_shorts.Goals.{In-loop-i}
 use Rattle.reader.proofs.put_shorts.Goals as goal

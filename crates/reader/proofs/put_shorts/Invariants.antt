@@ -1,10 +1,6 @@
 -- The releases below i are written, and their records are short.
 use Prim.Native.Nat.{◌-◌, ◌+◌, ◌*◌}
-use mathlib.Core.Path.{refl}
-use native.Mathlib.Omega.{arith}
-use borrow.Author.Rules.{rules}
 use Rattle.reader.specs.Reader.{Putting}
-use Rattle.reader.proofs.ReadColumnLaws.{Reading, short_room, putting_none, reading, putting_short}
 use Rattle.reader.proofs.put_shorts.Given as goal
 
 abbrev pub invariant-loop-i : goal.invariant-loop-i

@@ -9,7 +9,6 @@ use Rattle.taskset.specs.TaskSet.{refusal_in}
 use Rattle.taskset.specs.declared.Checked.TheVariants.{Fine}
 use Rattle.releases.proofs.ReleaseLaws.{columns_of}
 use Rattle.reader.proofs.ReadColumnLaws.{slots, reads_halted, reads_passed, reads_fine}
-use borrow.Author.Rules.{rules}
 use Rattle.reader.proofs.read.Goals.{After-first_refusal-k, In_default}
 use Rattle.reader.proofs.read.Goals as goal
 

@@ -1,4 +1,4 @@
-use Prim.Native.Nat.{◌-◌, ◌<◌}
+use Prim.Native.Nat.{◌<◌}
 use mathlib.Core.Path.{◌≡◌, refl, sym, ap, ◌∙◌}
 use mathlib.Core.Option.{none}
 use Rattle.model.specs.Limits.{max_tasks}
@@ -12,9 +12,8 @@ use native.Mathlib.Omega.{arith}
 use Rattle.model.proofs.TraceLaws.{fault_task}
 use Rattle.model.proofs.CheckLaws.{faulty}
 use Rattle.fileformat.proofs.StepLaws.{list_early, list_fault_lem}
-use borrow.Author.Rules.{rules}
 use lib.ListN.{length, drop}
-use Rattle.reader.proofs.ScanLaws.{Scanning, scan_begins, scan_broken, scan_mark, scan_charge_stops, scan_charge_next}
+use Rattle.reader.proofs.ScanLaws.{scan_begins, scan_broken, scan_mark, scan_charge_stops, scan_charge_next}
 use Rattle.reader.proofs.ScanLaws.{scan_task_stops, scan_task_next, scan_task_room}
 use Rattle.reader.proofs.ScanLaws.{scan_job_stops, scan_job_next, scan_end_stops, scan_end_more, scan_says, scan_refuses}
 use Rattle.reader.proofs.scan.Goals.{After-record_at-r, In_default}
@@ -99,19 +98,29 @@ returns-in-Refused-k c =
 
 pub overflow_add-releases : goal.overflow_add-releases
 overflow_add-releases c =
-    omega (arith, (scan_job_next _ _ _ _ _ _ c.loop-number.invariant short _ (there (goal.at.overflow_add-releases c).After-record_at-r _ c.in-OfRelease.is)
-    (sym (ap refusal_in c.in_default-k.is) ∙ c.check_job-k.ensures _ (omega arith) refl)).far, (scan_job_next _ _ _ _ _ _ c.loop-number.invariant short _ (there (goal.at.overflow_add-releases c).After-record_at-r _ c.in-OfRelease.is)
-    (sym (ap refusal_in c.in_default-k.is) ∙ c.check_job-k.ensures _ (omega arith) refl)).within)
+    omega (
+      arith,
+      (scan_job_next _ _ _ _ _ _ c.loop-number.invariant short _ (there (goal.at.overflow_add-releases c).After-record_at-r _ c.in-OfRelease.is)
+          (sym (ap refusal_in c.in_default-k.is) ∙ c.check_job-k.ensures _ (omega arith) refl)).far,
+      (scan_job_next _ _ _ _ _ _ c.loop-number.invariant short _ (there (goal.at.overflow_add-releases c).After-record_at-r _ c.in-OfRelease.is)
+          (sym (ap refusal_in c.in_default-k.is) ∙ c.check_job-k.ensures _ (omega arith) refl)).within,
+    )
 
 pub overflow_add-at-in-OfRelease : goal.overflow_add-at-in-OfRelease
 overflow_add-at-in-OfRelease c =
-    omega (arith, (scan_job_next _ _ _ _ _ _ c.loop-number.invariant short _ (there (goal.at.overflow_add-at-in-OfRelease c).After-record_at-r _ c.in-OfRelease.is)
-    (sym (ap refusal_in c.in_default-k.is) ∙ c.check_job-k.ensures _ (omega arith) refl)).within)
+    omega (
+      arith,
+      (scan_job_next _ _ _ _ _ _ c.loop-number.invariant short _ (there (goal.at.overflow_add-at-in-OfRelease c).After-record_at-r _ c.in-OfRelease.is)
+          (sym (ap refusal_in c.in_default-k.is) ∙ c.check_job-k.ensures _ (omega arith) refl)).within,
+    )
 
 pub loop-number-smaller-in-OfRelease : goal.loop-number-smaller-in-OfRelease
 loop-number-smaller-in-OfRelease c =
-    omega (arith, (scan_job_next _ _ _ _ _ _ c.loop-number.invariant short _ (there (goal.at.loop-number-smaller-in-OfRelease c).After-record_at-r _ c.in-OfRelease.is)
-    (sym (ap refusal_in c.in_default-k.is) ∙ c.check_job-k.ensures _ (omega arith) refl)).within)
+    omega (
+      arith,
+      (scan_job_next _ _ _ _ _ _ c.loop-number.invariant short _ (there (goal.at.loop-number-smaller-in-OfRelease c).After-record_at-r _ c.in-OfRelease.is)
+          (sym (ap refusal_in c.in_default-k.is) ∙ c.check_job-k.ensures _ (omega arith) refl)).within,
+    )
 
 pub returns-then-tasks-eq0-2 : goal.returns-then-tasks-eq0-2
 returns-then-tasks-eq0-2 c =
@@ -132,19 +141,29 @@ returns-in-Refused-k-2 c =
 
 pub overflow_add-releases-in-OfLongRelease : goal.overflow_add-releases-in-OfLongRelease
 overflow_add-releases-in-OfLongRelease c =
-    omega (arith, (scan_job_next _ _ _ _ _ _ c.loop-number.invariant long _ (there (goal.at.overflow_add-releases-in-OfLongRelease c).After-record_at-r _ c.in-OfLongRelease.is)
-    (sym (ap refusal_in c.in_default-k-2.is) ∙ c.check_job-k-in-OfLongRelease.ensures _ (omega arith) refl)).far, (scan_job_next _ _ _ _ _ _ c.loop-number.invariant long _ (there (goal.at.overflow_add-releases-in-OfLongRelease c).After-record_at-r _ c.in-OfLongRelease.is)
-    (sym (ap refusal_in c.in_default-k-2.is) ∙ c.check_job-k-in-OfLongRelease.ensures _ (omega arith) refl)).within)
+    omega (
+      arith,
+      (scan_job_next _ _ _ _ _ _ c.loop-number.invariant long _ (there (goal.at.overflow_add-releases-in-OfLongRelease c).After-record_at-r _ c.in-OfLongRelease.is)
+          (sym (ap refusal_in c.in_default-k-2.is) ∙ c.check_job-k-in-OfLongRelease.ensures _ (omega arith) refl)).far,
+      (scan_job_next _ _ _ _ _ _ c.loop-number.invariant long _ (there (goal.at.overflow_add-releases-in-OfLongRelease c).After-record_at-r _ c.in-OfLongRelease.is)
+          (sym (ap refusal_in c.in_default-k-2.is) ∙ c.check_job-k-in-OfLongRelease.ensures _ (omega arith) refl)).within,
+    )
 
 pub overflow_add-at-in-OfLongRelease : goal.overflow_add-at-in-OfLongRelease
 overflow_add-at-in-OfLongRelease c =
-    omega (arith, (scan_job_next _ _ _ _ _ _ c.loop-number.invariant long _ (there (goal.at.overflow_add-at-in-OfLongRelease c).After-record_at-r _ c.in-OfLongRelease.is)
-    (sym (ap refusal_in c.in_default-k-2.is) ∙ c.check_job-k-in-OfLongRelease.ensures _ (omega arith) refl)).within)
+    omega (
+      arith,
+      (scan_job_next _ _ _ _ _ _ c.loop-number.invariant long _ (there (goal.at.overflow_add-at-in-OfLongRelease c).After-record_at-r _ c.in-OfLongRelease.is)
+          (sym (ap refusal_in c.in_default-k-2.is) ∙ c.check_job-k-in-OfLongRelease.ensures _ (omega arith) refl)).within,
+    )
 
 pub loop-number-smaller-in-OfLongRelease : goal.loop-number-smaller-in-OfLongRelease
 loop-number-smaller-in-OfLongRelease c =
-    omega (arith, (scan_job_next _ _ _ _ _ _ c.loop-number.invariant long _ (there (goal.at.loop-number-smaller-in-OfLongRelease c).After-record_at-r _ c.in-OfLongRelease.is)
-    (sym (ap refusal_in c.in_default-k-2.is) ∙ c.check_job-k-in-OfLongRelease.ensures _ (omega arith) refl)).within)
+    omega (
+      arith,
+      (scan_job_next _ _ _ _ _ _ c.loop-number.invariant long _ (there (goal.at.loop-number-smaller-in-OfLongRelease c).After-record_at-r _ c.in-OfLongRelease.is)
+          (sym (ap refusal_in c.in_default-k-2.is) ∙ c.check_job-k-in-OfLongRelease.ensures _ (omega arith) refl)).within,
+    )
 
 -- a charge record that passes its check is taken
 pub loop-number-preserved : goal.loop-number-preserved
@@ -160,13 +179,19 @@ returns-in-Refused-k-3 c =
 
 pub overflow_add-at-in-OfCharge : goal.overflow_add-at-in-OfCharge
 overflow_add-at-in-OfCharge c =
-    omega (arith, (scan_charge_next _ _ _ _ _ _ c.loop-number.invariant _ (there (goal.at.overflow_add-at-in-OfCharge c).After-record_at-r _ c.in-OfCharge.is)
-    (sym (ap refusal_in c.in_default-k-3.is) ∙ c.check_charge-k.ensures)).within)
+    omega (
+      arith,
+      (scan_charge_next _ _ _ _ _ _ c.loop-number.invariant _ (there (goal.at.overflow_add-at-in-OfCharge c).After-record_at-r _ c.in-OfCharge.is)
+          (sym (ap refusal_in c.in_default-k-3.is) ∙ c.check_charge-k.ensures)).within,
+    )
 
 pub loop-number-smaller : goal.loop-number-smaller
 loop-number-smaller c =
-    omega (arith, (scan_charge_next _ _ _ _ _ _ c.loop-number.invariant _ (there (goal.at.loop-number-smaller c).After-record_at-r _ c.in-OfCharge.is)
-    (sym (ap refusal_in c.in_default-k-3.is) ∙ c.check_charge-k.ensures)).within)
+    omega (
+      arith,
+      (scan_charge_next _ _ _ _ _ _ c.loop-number.invariant _ (there (goal.at.loop-number-smaller c).After-record_at-r _ c.in-OfCharge.is)
+          (sym (ap refusal_in c.in_default-k-3.is) ∙ c.check_charge-k.ensures)).within,
+    )
 
 pub returns-then-tasks-eq0-3 : goal.returns-then-tasks-eq0-3
 returns-then-tasks-eq0-3 c = scan_refuses _ _ _ _ _ _ c.loop-number.invariant _ _ _ c.halted-then-tasks-eq0-3.ensures (scan_end_stops _ _ _ _ _ _ c.loop-number.invariant (there (goal.at.returns-then-tasks-eq0-3 c).After-record_at-r _ c.in-End.is) (omega arith))

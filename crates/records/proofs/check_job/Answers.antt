@@ -11,7 +11,6 @@ use Rattle.fileformat.proofs.StepLaws.{list_over, list_fine}
 use Rattle.fileformat.specs.Records.{width_in}
 use Rattle.records.specs.RecordIn.{release_of}
 use Rattle.records.proofs.ReleaseRecordLaws.{list_refused}
-use borrow.Author.Rules.{rules}
 use Rattle.records.proofs.check_job.Goals.{After-check_release-k}
 use Rattle.records.proofs.check_job.Goals as goal
 

@@ -4,7 +4,6 @@ use lib.ListN.{drop}
 use Rattle.fileformat.specs.Records.{width_in, short, long, body_size, release_from}
 use Rattle.fileformat.proofs.NumberLaws.{field_one}
 use Rattle.fileformat.proofs.OffsetLaws.{release_fields}
-use borrow.Author.Rules.{rules}
 use Rattle.records.proofs.job_at.Goals.{Then-long, Else-long}
 use Rattle.records.proofs.job_at.Goals as goal
 

@@ -1,7 +1,6 @@
 use mathlib.Core.Path.{sym, ap, ◌∙◌}
 use Rattle.fileformat.specs.File.{low_tick}
 use Rattle.fileformat.specs.Records.{width_in}
-use borrow.Author.Rules.{rules}
 use Rattle.records.proofs.low_tick.Goals as goal
 
 pub returns-then-long : goal.returns-then-long

@@ -1,7 +1,6 @@
 use mathlib.Core.Path.{sym, ◌∙◌}
 use native.Mathlib.Omega.{arith}
 use Rattle.fileformat.proofs.NumberLaws.{field_four}
-use borrow.Author.Rules.{rules}
 use Rattle.records.proofs.number_at.Goals as goal
 
 pub returns : goal.returns

@@ -4,7 +4,6 @@ use native.Mathlib.Omega.{arith}
 use Rattle.fileformat.specs.Records.{short, long}
 use Rattle.fileformat.proofs.OffsetLaws.{at_due, at_task_cut, at_task, at_low_task, at_wrong_mark}
 use Rattle.fileformat.proofs.OffsetLaws.{at_release_cut, at_release, at_charge_cut, at_charge, at_end, at_unknown}
-use borrow.Author.Rules.{rules}
 use Rattle.records.proofs.record_at.Goals as goal
 
 pub returns-then-left-eq0 : goal.returns-then-left-eq0

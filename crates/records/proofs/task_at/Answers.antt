@@ -1,5 +1,4 @@
 use Rattle.fileformat.proofs.OffsetLaws.{task_fields}
-use borrow.Author.Rules.{rules}
 use Rattle.records.proofs.task_at.Goals as goal
 
 pub returns : goal.returns

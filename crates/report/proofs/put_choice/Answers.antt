@@ -1,6 +1,4 @@
-use native.Mathlib.Omega.{arith}
 use Rattle.report.proofs.ReportLaws.{choice_page}
-use borrow.Author.Rules.{rules}
 use Rattle.report.proofs.put_choice.Goals as goal
 
 pub returns : goal.returns

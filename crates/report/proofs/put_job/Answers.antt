@@ -1,6 +1,4 @@
-use native.Mathlib.Omega.{arith}
 use Rattle.report.proofs.ReportLaws.{job_line_lem}
-use borrow.Author.Rules.{rules}
 use Rattle.report.proofs.put_job.Goals as goal
 
 pub returns : goal.returns

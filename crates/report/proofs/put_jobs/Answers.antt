@@ -1,10 +1,7 @@
-use Prim.Native.Nat.{◌+◌, ◌-◌, ◌≤◌}
 use mathlib.Core.Path.{◌≡◌}
 use native.Mathlib.Omega.{arith}
-use borrow.Author.Rules.{rules}
-use lib.ListN.{length}
 use Rattle.report.specs.Report.{run_line}
-use Rattle.report.proofs.ReportLaws.{PutLines, lines_none, lines_next, lines_all}
+use Rattle.report.proofs.ReportLaws.{lines_none, lines_next, lines_all}
 use Rattle.report.proofs.put_jobs.Goals as goal
 
 pub loop-p-init : goal.loop-p-init
@@ -15,8 +12,7 @@ put_job-at-requires c = omega (arith, c.loop-p.invariant)
 
 pub loop-p-preserved : goal.loop-p-preserved
 unfolding run_line
-loop-p-preserved c =
-    (
+loop-p-preserved c = (
   omega arith,
   omega arith,
   lines_next _ _ _ _ _ _ _ _ _ c.loop-p.invariant.2

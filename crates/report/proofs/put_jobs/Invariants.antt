@@ -1,11 +1,8 @@
 -- The loop has written the lines of the first p releases.
 use Prim.Native.Nat.{◌+◌, ◌-◌, ◌≤◌}
-use mathlib.Core.Path.{◌≡◌}
-use native.Mathlib.Omega.{arith}
-use borrow.Author.Rules.{rules}
 use lib.ListN.{length}
 use Rattle.report.specs.Report.{run_line}
-use Rattle.report.proofs.ReportLaws.{PutLines, lines_none, lines_next, lines_all}
+use Rattle.report.proofs.ReportLaws.{PutLines}
 use Rattle.report.proofs.put_jobs.Given as goal
 
 abbrev pub invariant-loop-p : goal.invariant-loop-p

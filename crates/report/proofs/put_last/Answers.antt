@@ -1,5 +1,4 @@
 use Rattle.report.proofs.ReportLaws.{high_last, plain_last}
-use borrow.Author.Rules.{rules}
 use Rattle.report.proofs.put_last.Goals as goal
 
 pub returns-then-high_only : goal.returns-then-high_only

@@ -1,6 +1,4 @@
-use native.Mathlib.Omega.{arith}
 use Rattle.report.proofs.ReportLaws.{refusal_line}
-use borrow.Author.Rules.{rules}
 use Rattle.report.proofs.put_refusal.Goals as goal
 
 pub returns : goal.returns

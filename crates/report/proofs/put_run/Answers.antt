@@ -1,6 +1,4 @@
-use native.Mathlib.Omega.{arith}
 use Rattle.report.proofs.ReportLaws.{run_page}
-use borrow.Author.Rules.{rules}
 use Rattle.report.proofs.put_run.Goals as goal
 
 pub returns : goal.returns

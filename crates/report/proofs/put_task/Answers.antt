@@ -1,6 +1,4 @@
-use native.Mathlib.Omega.{arith}
 use Rattle.report.proofs.ReportLaws.{task_line}
-use borrow.Author.Rules.{rules}
 use Rattle.report.proofs.put_task.Goals as goal
 
 pub returns : goal.returns

@@ -1,10 +1,7 @@
-use Prim.Native.Nat.{◌+◌, ◌-◌, ◌≤◌}
 use mathlib.Core.Path.{◌≡◌}
 use native.Mathlib.Omega.{arith}
-use lib.ListN.{length}
-use Rattle.taskset.specs.TaskSet.{view_of}
 use Rattle.report.specs.Report.{choice_line}
-use Rattle.report.proofs.ReportLaws.{PutLines, lines_none, lines_next, lines_all}
+use Rattle.report.proofs.ReportLaws.{lines_none, lines_next, lines_all}
 use Rattle.report.proofs.put_tasks.Goals as goal
 
 pub loop-i-init : goal.loop-i-init
@@ -15,8 +12,7 @@ put_task-at-requires c = omega (arith, c.loop-i.invariant)
 
 pub loop-i-preserved : goal.loop-i-preserved
 unfolding choice_line
-loop-i-preserved c =
-    (
+loop-i-preserved c = (
   omega arith,
   omega arith,
   omega arith,

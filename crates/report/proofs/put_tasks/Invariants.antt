@@ -1,11 +1,9 @@
 -- The loop has written the lines of the first i tasks.
 use Prim.Native.Nat.{◌+◌, ◌-◌, ◌≤◌}
-use mathlib.Core.Path.{◌≡◌}
-use native.Mathlib.Omega.{arith}
 use lib.ListN.{length}
 use Rattle.taskset.specs.TaskSet.{view_of}
 use Rattle.report.specs.Report.{choice_line}
-use Rattle.report.proofs.ReportLaws.{PutLines, lines_none, lines_next, lines_all}
+use Rattle.report.proofs.ReportLaws.{PutLines}
 use Rattle.report.proofs.put_tasks.Given as goal
 
 abbrev pub invariant-loop-i : goal.invariant-loop-i

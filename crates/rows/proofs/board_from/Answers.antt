@@ -1,5 +1,4 @@
 -- The parts of a board.
-use borrow.Author.Rules.{rules}
 use Rattle.rows.proofs.FillLaws.{board_made}
 use Rattle.rows.proofs.board_from.Goals as goal
 

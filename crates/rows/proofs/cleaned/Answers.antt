@@ -1,8 +1,6 @@
-use Prim.Native.Nat.{◌-◌, ◌≤◌}
 use mathlib.Core.Path.{refl}
 use native.Mathlib.Omega.{arith}
-use Rattle.taskset.specs.TaskSet.{entry_of}
-use Rattle.taskset.proofs.FilledLaws.{Filled, filled_none, filled_next}
+use Rattle.taskset.proofs.FilledLaws.{filled_none, filled_next}
 use Rattle.rows.proofs.RowLaws.{cleaned_all}
 use Rattle.rows.proofs.cleaned.Goals as goal
 

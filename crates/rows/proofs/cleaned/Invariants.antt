@@ -1,10 +1,7 @@
 -- The loop has copied the entries below i.
 use Prim.Native.Nat.{◌-◌, ◌≤◌}
-use mathlib.Core.Path.{refl}
-use native.Mathlib.Omega.{arith}
 use Rattle.taskset.specs.TaskSet.{entry_of}
-use Rattle.taskset.proofs.FilledLaws.{Filled, filled_none, filled_next}
-use Rattle.rows.proofs.RowLaws.{cleaned_all}
+use Rattle.taskset.proofs.FilledLaws.{Filled}
 use Rattle.rows.proofs.cleaned.Given as goal
 
 abbrev pub invariant-loop-i : goal.invariant-loop-i

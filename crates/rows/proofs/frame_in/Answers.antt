@@ -1,5 +1,4 @@
 -- Three numbers and the windows make a frame.
-use borrow.Author.Rules.{rules}
 use Rattle.rows.proofs.FillLaws.{frame_made}
 use Rattle.rows.proofs.frame_in.Goals as goal
 

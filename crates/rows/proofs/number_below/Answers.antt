@@ -1,7 +1,6 @@
 -- A number below the count, else 0.
 use mathlib.Core.Path.{◌∙◌}
 use Rattle.rows.proofs.RowLaws.{below_count, past_count}
-use borrow.Author.Rules.{rules}
 use Rattle.rows.proofs.number_below.Goals as goal
 
 pub returns-then-i-count : goal.returns-then-i-count

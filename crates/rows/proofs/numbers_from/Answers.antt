@@ -1,9 +1,5 @@
-use Prim.Native.Nat.{◌+◌, ◌-◌}
 use mathlib.Core.Path.{refl}
-use native.Mathlib.Omega.{arith}
-use borrow.Author.Rules.{rules}
-use lib.ListN.{get_or}
-use Rattle.rows.proofs.FillLaws.{Read, read_none, read_next, read_all}
+use Rattle.rows.proofs.FillLaws.{read_none, read_next, read_all}
 use Rattle.rows.proofs.numbers_from.Goals as goal
 
 pub loop-i-init : goal.loop-i-init

@@ -1,10 +1,7 @@
 -- The loop has read the numbers below i.
 use Prim.Native.Nat.{◌+◌, ◌-◌}
-use mathlib.Core.Path.{refl}
-use native.Mathlib.Omega.{arith}
-use borrow.Author.Rules.{rules}
 use lib.ListN.{get_or}
-use Rattle.rows.proofs.FillLaws.{Read, read_none, read_next, read_all}
+use Rattle.rows.proofs.FillLaws.{Read}
 use Rattle.rows.proofs.numbers_from.Given as goal
 
 abbrev pub invariant-loop-i : goal.invariant-loop-i

@@ -1,5 +1,4 @@
 -- The blocks of an offer, each at its place.
-use borrow.Author.Rules.{rules}
 use Rattle.rows.proofs.FillLaws.{plan_made}
 use Rattle.rows.proofs.plan_from.Goals as goal
 

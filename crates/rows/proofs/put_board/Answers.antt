@@ -1,5 +1,4 @@
 -- The blocks of a board, one after the other.
-use borrow.Author.Rules.{rules}
 use Rattle.rows.proofs.RowLaws.{board_put}
 use Rattle.rows.proofs.put_board.Goals as goal
 

@@ -6,7 +6,6 @@ use lib.Seq.{length-sets}
 use Rattle.frame.specs.FrameView.{frame_of}
 use Rattle.rows.specs.Rows.{frame_row}
 use Rattle.rows.proofs.RowLaws.{frame_blocks}
-use borrow.Author.Rules.{rules}
 use Rattle.rows.proofs.put_frame.Goals as goal
 
 pub bounds-row-228 : goal.bounds-row-228

@@ -1,7 +1,6 @@
 -- Three stores, one after the other.
 use native.Mathlib.Omega.{arith}
 use lib.ListN.{length-set}
-use borrow.Author.Rules.{rules}
 use Rattle.rows.proofs.put_head.Goals as goal
 
 pub bounds-row-161 : goal.bounds-row-161

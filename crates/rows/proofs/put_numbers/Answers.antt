@@ -1,8 +1,6 @@
-use Prim.Native.Nat.{◌-◌}
 use native.Mathlib.Omega.{arith}
-use borrow.Author.Rules.{rules}
-use Rattle.rows.proofs.BlockLaws.{Written, written_none}
-use Rattle.rows.proofs.RowLaws.{cut_number, numbers_next, numbers_all}
+use Rattle.rows.proofs.BlockLaws.{written_none}
+use Rattle.rows.proofs.RowLaws.{numbers_next, numbers_all}
 use Rattle.rows.proofs.put_numbers.Goals as goal
 
 pub loop-i-init : goal.loop-i-init

@@ -1,9 +1,7 @@
 -- The loop has written the numbers below i.
 use Prim.Native.Nat.{◌-◌}
-use native.Mathlib.Omega.{arith}
-use borrow.Author.Rules.{rules}
-use Rattle.rows.proofs.BlockLaws.{Written, written_none}
-use Rattle.rows.proofs.RowLaws.{cut_number, numbers_next, numbers_all}
+use Rattle.rows.proofs.BlockLaws.{Written}
+use Rattle.rows.proofs.RowLaws.{cut_number}
 use Rattle.rows.proofs.put_numbers.Given as goal
 
 abbrev pub invariant-loop-i : goal.invariant-loop-i

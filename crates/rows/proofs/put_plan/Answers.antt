@@ -1,5 +1,4 @@
 -- The blocks of an offer, one after the other.
-use borrow.Author.Rules.{rules}
 use Rattle.rows.proofs.RowLaws.{plan_put}
 use Rattle.rows.proofs.put_plan.Goals as goal
 

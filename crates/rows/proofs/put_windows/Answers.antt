@@ -1,9 +1,7 @@
-use Prim.Native.Nat.{◌-◌}
 use lib.ListN.{length-set}
 use native.Mathlib.Omega.{arith}
-use borrow.Author.Rules.{rules}
-use Rattle.rows.proofs.BlockLaws.{Written, written_none}
-use Rattle.rows.proofs.RowLaws.{cut_window, windows_next, windows_all}
+use Rattle.rows.proofs.BlockLaws.{written_none}
+use Rattle.rows.proofs.RowLaws.{windows_next, windows_all}
 use Rattle.rows.proofs.put_windows.Goals as goal
 
 pub loop-k-init : goal.loop-k-init

@@ -1,10 +1,7 @@
 -- The loop has written the windows below k.
 use Prim.Native.Nat.{◌-◌}
-use lib.ListN.{length-set}
-use native.Mathlib.Omega.{arith}
-use borrow.Author.Rules.{rules}
-use Rattle.rows.proofs.BlockLaws.{Written, written_none}
-use Rattle.rows.proofs.RowLaws.{cut_window, windows_next, windows_all}
+use Rattle.rows.proofs.BlockLaws.{Written}
+use Rattle.rows.proofs.RowLaws.{cut_window}
 use Rattle.rows.proofs.put_windows.Given as goal
 
 abbrev pub invariant-loop-k : goal.invariant-loop-k

@@ -1,6 +1,5 @@
 -- A window below the count, else 0.
 use Rattle.rows.proofs.RowLaws.{below_count, past_count}
-use borrow.Author.Rules.{rules}
 use Rattle.rows.proofs.window_below.Goals as goal
 
 pub returns-then-k-count : goal.returns-then-k-count

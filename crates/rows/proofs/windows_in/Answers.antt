@@ -1,8 +1,5 @@
-use Prim.Native.Nat.{◌-◌}
 use mathlib.Core.Path.{refl}
-use native.Mathlib.Omega.{arith}
-use Rattle.rows.specs.Rows.{window_in}
-use Rattle.rows.proofs.FillLaws.{Read, read_none, read_next, read_all}
+use Rattle.rows.proofs.FillLaws.{read_none, read_next, read_all}
 use Rattle.rows.proofs.windows_in.Goals as goal
 
 pub loop-k-init : goal.loop-k-init

@@ -1,9 +1,7 @@
 -- The loop has read the windows below k.
 use Prim.Native.Nat.{◌-◌}
-use mathlib.Core.Path.{refl}
-use native.Mathlib.Omega.{arith}
 use Rattle.rows.specs.Rows.{window_in}
-use Rattle.rows.proofs.FillLaws.{Read, read_none, read_next, read_all}
+use Rattle.rows.proofs.FillLaws.{Read}
 use Rattle.rows.proofs.windows_in.Given as goal
 
 abbrev pub invariant-loop-k : goal.invariant-loop-k

@@ -1,6 +1,5 @@
 -- One part, then the other.
 use Rattle.vectors_monitor.proofs.CallLaws.{slots_then}
-use borrow.Author.Rules.{rules}
 use Rattle.vectors_monitor.proofs.case_calls.Goals as goal
 
 pub returns : goal.returns

@@ -1,6 +1,5 @@
 -- The opening by its contract, or none.
 use Rattle.vectors_monitor.proofs.CallLaws.{opened_yes, opened_no}
-use borrow.Author.Rules.{rules}
 use Rattle.vectors_monitor.proofs.open_call.Goals as goal
 
 pub returns-then-opened : goal.returns-then-opened

@@ -1,6 +1,5 @@
 -- An opening or none, then the jobs.
 use Rattle.vectors_monitor.proofs.CallLaws.{slots_then}
-use borrow.Author.Rules.{rules}
 use Rattle.vectors_monitor.proofs.part_calls.Goals as goal
 
 pub returns : goal.returns

@@ -1,7 +1,5 @@
 -- The loop stays within both windows.
 use Prim.Native.Nat.{◌-◌, ◌≤◌}
-use native.Mathlib.Omega.{arith}
-use borrow.Author.Rules.{rules}
 use Rattle.vectors_monitor.proofs.print_changes.Given as goal
 
 abbrev pub invariant-loop-i : goal.invariant-loop-i

@@ -1,7 +1,5 @@
 -- The loop stays within the column.
 use Prim.Native.Nat.{◌-◌, ◌≤◌}
-use native.Mathlib.Omega.{arith}
-use borrow.Author.Rules.{rules}
 use lib.ListN.{length}
 use Rattle.vectors_monitor.proofs.print_responses.Given as goal
 

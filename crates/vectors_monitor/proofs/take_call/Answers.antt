@@ -1,6 +1,5 @@
 -- The job by its contract.
 use Rattle.vectors_monitor.proofs.CallLaws.{job_of}
-use borrow.Author.Rules.{rules}
 use Rattle.vectors_monitor.proofs.take_call.Goals as goal
 
 pub returns : goal.returns

@@ -1,7 +1,5 @@
-use Prim.Native.Nat.{◌-◌}
 use native.Mathlib.Omega.{arith}
-use borrow.Author.Rules.{rules}
-use Rattle.vectors_monitor.proofs.CallLaws.{Brought, brought_none, brought_next, brought_all}
+use Rattle.vectors_monitor.proofs.CallLaws.{brought_none, brought_next, brought_all}
 use Rattle.vectors_monitor.proofs.take_calls.Goals as goal
 
 pub loop-i-init : goal.loop-i-init

@@ -1,8 +1,6 @@
 -- The loop has brought the jobs before i.
 use Prim.Native.Nat.{◌-◌}
-use native.Mathlib.Omega.{arith}
-use borrow.Author.Rules.{rules}
-use Rattle.vectors_monitor.proofs.CallLaws.{Brought, brought_none, brought_next, brought_all}
+use Rattle.vectors_monitor.proofs.CallLaws.{Brought}
 use Rattle.vectors_monitor.proofs.take_calls.Given as goal
 
 abbrev pub invariant-loop-i : goal.invariant-loop-i

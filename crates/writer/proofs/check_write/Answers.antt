@@ -2,11 +2,9 @@
 use Prim.Native.Nat.{◌≤◌}
 use mathlib.Core.Path.{◌≡◌, sym, ap, ◌∙◌}
 use mathlib.Core.Option.{some, none}
-use mathlib.Core.List.{List, [], ◌∷◌}
+use mathlib.Core.List.{[], ◌∷◌}
 use native.Mathlib.Omega.{arith}
-use borrow.Author.Rules.{rules}
-use Rattle.model.specs.Tasks.{Release}
-use Rattle.model.specs.Checks.{Lent, check_tasks, check_count, check_slots}
+use Rattle.model.specs.Checks.{check_tasks, check_count, check_slots}
 use Rattle.model.specs.Calls.{lends, releases_of}
 use Rattle.model.proofs.CheckLaws.{valid_of, count_of, slots_first, slots_rest}
 use Rattle.model.proofs.OrderLaws.{no_single, no_kept, no_unfit, refused_tasks, refused_count, refused_slots, releases_decide}

@@ -1,9 +1,7 @@
-use Prim.Native.Nat.{◌-◌}
 use mathlib.Core.Path.{sym, ap, ◌∙◌}
 use native.Mathlib.Omega.{arith}
 use Rattle.fileformat.specs.Records.{release_size}
-use Rattle.writer.proofs.PartLaws.{Sized, sized_none, sized_next, sized_all}
-use borrow.Author.Rules.{rules}
+use Rattle.writer.proofs.PartLaws.{sized_none, sized_next, sized_all}
 use Rattle.writer.proofs.counted_size.Goals as goal
 
 pub loop-i-init : goal.loop-i-init

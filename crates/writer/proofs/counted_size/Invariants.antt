@@ -1,10 +1,6 @@
 -- The bytes of the releases below i are counted.
 use Prim.Native.Nat.{◌-◌}
-use mathlib.Core.Path.{sym, ap, ◌∙◌}
-use native.Mathlib.Omega.{arith}
-use Rattle.fileformat.specs.Records.{release_size}
-use Rattle.writer.proofs.PartLaws.{Sized, sized_none, sized_next, sized_all}
-use borrow.Author.Rules.{rules}
+use Rattle.writer.proofs.PartLaws.{Sized}
 use Rattle.writer.proofs.counted_size.Given as goal
 
 abbrev pub invariant-loop-i : goal.invariant-loop-i

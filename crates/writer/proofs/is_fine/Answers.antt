@@ -1,8 +1,7 @@
 use Prim.Native.Nat.{ℕ}
-use mathlib.Core.Path.{◌≡◌, sym, ap, ◌∙◌}
+use mathlib.Core.Path.{◌≡◌, ap}
 use native.Mathlib.Omega.{arith}
 use Rattle.taskset.specs.TaskSet.{refusal_in}
-use borrow.Author.Rules.{rules}
 use Rattle.writer.proofs.is_fine.Goals as goal
 
 pub returns-in-Fine : goal.returns-in-Fine

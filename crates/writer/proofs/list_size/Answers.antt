@@ -1,5 +1,4 @@
 use native.Mathlib.Omega.{arith}
-use borrow.Author.Rules.{rules}
 use Rattle.writer.proofs.PartLaws.{cut_bytes}
 use Rattle.writer.proofs.list_size.Goals as goal
 

@@ -1,5 +1,4 @@
 use native.Mathlib.Omega.{arith}
-use borrow.Author.Rules.{rules}
 use lib.ListN.{length-set}
 use Rattle.fileformat.proofs.RoundTrips.{some_charge_bytes}
 use Rattle.writer.proofs.StoreLaws.{put_no_charge, put_charge_bytes}

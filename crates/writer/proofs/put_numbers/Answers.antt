@@ -3,7 +3,6 @@ use mathlib.Core.Path.{◌≡◌, ◌∙◌}
 use native.Mathlib.Omega.{arith}
 use lib.ListN.{length, length-set}
 use Rattle.writer.proofs.StoreLaws.{stored_long, put_number_bytes}
-use borrow.Author.Rules.{rules}
 use Rattle.writer.proofs.put_numbers.Goals.{After-put_number, After-put_number-2, After-put_number-3}
 use Rattle.writer.proofs.put_numbers.Goals as goal
 

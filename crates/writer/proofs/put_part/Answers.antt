@@ -1,10 +1,6 @@
-use Prim.Native.Nat.{◌-◌}
-use mathlib.Core.Path.{sym, ap, ◌∙◌}
-use borrow.Author.Rules.{rules}
 use native.Mathlib.Omega.{arith}
-use Rattle.fileformat.specs.Records.{width_in}
 use Rattle.writer.proofs.StoreLaws.{stored_long}
-use Rattle.writer.proofs.PartLaws.{PartPut, put_none, next_alike, next_room, put_next, put_all, put_end}
+use Rattle.writer.proofs.PartLaws.{put_none, next_alike, next_room, put_next, put_all, put_end}
 use Rattle.writer.proofs.put_part.Goals as goal
 
 pub loop-i-init : goal.loop-i-init

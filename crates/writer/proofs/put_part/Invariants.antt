@@ -1,11 +1,7 @@
 -- The releases below i are written.
 use Prim.Native.Nat.{◌-◌}
-use mathlib.Core.Path.{sym, ap, ◌∙◌}
-use borrow.Author.Rules.{rules}
-use native.Mathlib.Omega.{arith}
 use Rattle.fileformat.specs.Records.{width_in}
-use Rattle.writer.proofs.StoreLaws.{stored_long}
-use Rattle.writer.proofs.PartLaws.{PartPut, put_none, next_alike, next_room, put_next, put_all, put_end}
+use Rattle.writer.proofs.PartLaws.{PartPut}
 use Rattle.writer.proofs.put_part.Given as goal
 
 abbrev pub invariant-loop-i : goal.invariant-loop-i

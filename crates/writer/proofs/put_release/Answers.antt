@@ -1,11 +1,10 @@
 use mathlib.Core.Path.{◌≡◌, sym, ap, ◌∙◌}
 use native.Mathlib.Omega.{arith}
 use Rattle.releases.specs.Releases.{release}
-use Rattle.fileformat.specs.Records.{short, long, width_in, release_bytes, release_size, width_for}
+use Rattle.fileformat.specs.Records.{short, long, width_in, release_bytes, release_size}
 use Rattle.fileformat.proofs.WidthLaws.{short_tick}
 use Rattle.writer.specs.Writer.{stored}
 use Rattle.writer.proofs.StoreLaws.{stored_long, put_release_bytes}
-use borrow.Author.Rules.{rules}
 use Rattle.writer.proofs.put_release.Goals.{Then-long, Else-long}
 use Rattle.writer.proofs.put_release.Goals as goal
 

@@ -1,6 +1,5 @@
 use mathlib.Core.Path.{ap, ◌∙◌}
 use native.Mathlib.Omega.{arith}
-use borrow.Author.Rules.{rules}
 use Rattle.fileformat.specs.FileCalls.{tasks_in}
 use Rattle.fileformat.proofs.RoundTrips.{charge_part, task_part, length_charge_part}
 use Rattle.writer.proofs.StoreLaws.{stored_at, stored_long}

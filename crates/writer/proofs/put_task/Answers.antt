@@ -2,7 +2,6 @@ use mathlib.Core.Path.{◌≡◌, ap}
 use native.Mathlib.Omega.{arith}
 use Rattle.fileformat.specs.Records.{task_size}
 use Rattle.writer.proofs.StoreLaws.{stored_long, put_low_bytes, put_high_bytes}
-use borrow.Author.Rules.{rules}
 use Rattle.writer.proofs.put_task.Goals.{Then-t, Else-t}
 use Rattle.writer.proofs.put_task.Goals as goal
 

@@ -1,10 +1,9 @@
-use Prim.Native.Nat.{◌+◌, ◌-◌, ◌≤◌}
-use borrow.Author.Rules.{rules}
+use Prim.Native.Nat.{◌+◌, ◌≤◌}
 use native.Mathlib.Omega.{arith}
 use lib.ListN.{length, get_or}
 use Rattle.taskset.specs.TaskSet.{no_task}
 use Rattle.fileformat.specs.Records.{task_size}
-use Rattle.writer.proofs.StoreLaws.{stored_long, TasksPut, tasks_none, tasks_room, tasks_next, tasks_all, tasks_end}
+use Rattle.writer.proofs.StoreLaws.{stored_long, tasks_none, tasks_room, tasks_next, tasks_all, tasks_end}
 use Rattle.writer.proofs.put_tasks.Goals.{In-loop-i}
 use Rattle.writer.proofs.put_tasks.Goals as goal
 

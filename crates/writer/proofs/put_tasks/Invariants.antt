@@ -1,10 +1,5 @@
-use Prim.Native.Nat.{◌+◌, ◌-◌, ◌≤◌}
-use borrow.Author.Rules.{rules}
-use native.Mathlib.Omega.{arith}
-use lib.ListN.{length, get_or}
-use Rattle.taskset.specs.TaskSet.{no_task}
-use Rattle.fileformat.specs.Records.{task_size}
-use Rattle.writer.proofs.StoreLaws.{stored_long, TasksPut, tasks_none, tasks_room, tasks_next, tasks_all, tasks_end}
+use Prim.Native.Nat.{◌-◌}
+use Rattle.writer.proofs.StoreLaws.{TasksPut}
 use Rattle.writer.proofs.put_tasks.Given as goal
 
 abbrev pub invariant-loop-i : goal.invariant-loop-i

@@ -1,6 +1,5 @@
 use native.Mathlib.Omega.{arith}
-use borrow.Author.Rules.{rules}
-use Rattle.writer.proofs.PartLaws.{Seeking, seeking_none, seeking_next, seeking_found, seeking_all}
+use Rattle.writer.proofs.PartLaws.{seeking_none, seeking_next, seeking_found, seeking_all}
 use Rattle.writer.proofs.short_count.Goals as goal
 
 pub loop-k-init : goal.loop-k-init

@@ -1,7 +1,5 @@
 -- From k on every tick is over the short limit.
-use native.Mathlib.Omega.{arith}
-use borrow.Author.Rules.{rules}
-use Rattle.writer.proofs.PartLaws.{Seeking, seeking_none, seeking_next, seeking_found, seeking_all}
+use Rattle.writer.proofs.PartLaws.{Seeking}
 use Rattle.writer.proofs.short_count.Given as goal
 
 abbrev pub invariant-loop-k : goal.invariant-loop-k

@@ -3,8 +3,7 @@ use Prim.Native.Nat.{◌+◌, ◌≤◌}
 use mathlib.Core.Path.{◌≡◌, sym, ap, ◌∙◌}
 use mathlib.Core.Option.{none}
 use native.Mathlib.Omega.{arith}
-use borrow.Author.Rules.{rules}
-use lib.ListN.{length, length-set, length-map}
+use lib.ListN.{length, length-set}
 use Rattle.model.specs.Checks.{refusal_of}
 use Rattle.model.specs.Calls.{releases_of}
 use Rattle.taskset.specs.TaskSet.{view_of, refusal_in}

@@ -1,5 +1,5 @@
 -- A sheet with a charge is the sheet with E + S for E; one without a charge is document 01's.
-use Prim.Native.Nat.{ℕ, ◌+◌}
+use Prim.Native.Nat.{ℕ}
 use mathlib.Core.Path.{◌≡◌, refl, ap, ◌∙◌}
 use mathlib.Core.Bool.{Bool, true, false, not}
 use mathlib.Core.Option.{Option, some, none}
@@ -9,7 +9,7 @@ use native.Mathlib.Nat.{add-zero}
 use lib.Dec.{ltb, eqb}
 use Rattle.model.specs.Search.{first}
 use Rattle.model.specs.Limits.{max_tasks}
-use Rattle.model.specs.Tasks.{Tasks, Valid, load}
+use Rattle.model.specs.Tasks.{Tasks, load}
 use Rattle.model.specs.Refusal.{Refusal, refuse, first_refusal}
 use Rattle.model.specs.Checks.{in_range, entry_fault, fault_of, fault_at, is_fault, refuse_at, refuse_if, refuse_by, check_entries, check_frame, check_tasks}
 use Rattle.model.specs.Charge.{old_check_tasks, UnchargedIsChecked, UnchargedIsCost}

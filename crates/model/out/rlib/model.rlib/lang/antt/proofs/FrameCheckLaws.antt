@@ -13,7 +13,7 @@ use Rattle.model.specs.Limits.{max_frame, max_windows}
 use Rattle.model.specs.Frame.{Frame, InRules}
 use Rattle.model.specs.Refusal.{Refusal, refuse, first_refusal}
 use Rattle.model.specs.Checks.{refuse_at, refuse_if, floor_of, allowed, is_outside, check_windows, check_frame}
-use Rattle.model.proofs.SeriesLaws.{and_left, and_right, le_by, clash}
+use Rattle.model.proofs.SeriesLaws.{and_left, and_right, le_by}
 use Rattle.model.proofs.SearchLaws.{first_none, first_nothing, first_eq}
 use Rattle.model.specs.SameTasks.{SameWindows, SameFrame}
 use Rattle.model.proofs.FrameLaws.{Ruled, unframed_ruled}

@@ -5,13 +5,13 @@ use mathlib.Core.Bool.{Bool, true, false, ◌&&◌, ◌||◌}
 use mathlib.Core.Logic.{◌⊎◌, inl, inr}
 use mathlib.Core.Option.{Option, some, none}
 use native.Mathlib.Omega.{arith}
-use native.Mathlib.Nat.{mod-lt, mod-eq_of_lt, add-mod_right, mod-add-mod, mod-one}
+use native.Mathlib.Nat.{mod-eq_of_lt, add-mod_right, mod-add-mod}
 use borrow.Author.Tests.{lt-ltb, le-leb}
 use lib.Dec.{leb, ltb}
 use Rattle.model.specs.Frame.{Frame, InRules, in_window, in_some, ours_in, turn_of, supply}
 use Rattle.model.specs.SameTasks.{SameWindows, SameFrame}
 use Rattle.model.proofs.SeriesLaws.{below_suc, and_both}
-use Rattle.model.proofs.SupplyLaws.{supply_same, supply_from, supply_some, supply_none}
+use Rattle.model.proofs.SupplyLaws.{supply_same, supply_from, supply_some}
 
 -- the rules of a frame, where there is one
 abbrev pub Ruled : Option Frame → Type 0

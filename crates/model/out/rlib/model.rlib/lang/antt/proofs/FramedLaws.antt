@@ -1,6 +1,6 @@
 -- A sheet with a frame and without: its check is that without and then 18, and where both pass, the checks that follow do not look at the frame.
 use Prim.Native.Nat.{ℕ, suc}
-use mathlib.Core.Path.{◌≡◌, refl, sym, ap, ◌∙◌}
+use mathlib.Core.Path.{◌≡◌, refl, sym, ◌∙◌}
 use mathlib.Core.Option.{Option, some, none}
 use mathlib.Core.List.{List, [], ◌∷◌}
 use native.Mathlib.Omega.{arith}
@@ -8,7 +8,7 @@ use Rattle.model.specs.Limits.{max_tick}
 use Rattle.model.specs.Frame.{Frame}
 use Rattle.model.specs.Tasks.{Tasks, with_frame, Release, Valid}
 use Rattle.model.specs.Refusal.{Refusal, first_refusal}
-use Rattle.model.specs.Checks.{Lent, Inputs, check_entries, check_frame, check_tasks, check_task, check_count, check_slots, check_kept, release_fault, check_releases, check_choice, refusal_of}
+use Rattle.model.specs.Checks.{Lent, check_entries, check_frame, check_tasks, check_task, check_count, check_slots, check_kept, release_fault, check_releases, check_choice, refusal_of}
 use Rattle.model.proofs.FrameLaws.{unframed_ruled}
 
 -- a valid sheet is valid without its frame

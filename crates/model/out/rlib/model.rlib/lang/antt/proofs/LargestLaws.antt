@@ -1,12 +1,12 @@
 -- Laws of the largest of some numbers that may be missing.
-use Prim.Native.Nat.{ℕ, zero, suc, ◌≤◌, ◌<◌, max}
+use Prim.Native.Nat.{ℕ, zero, suc, ◌≤◌, ◌<◌}
 use mathlib.Core.Path.{◌≡◌, refl, sym, ap, ◌∙◌}
 use mathlib.Core.Logic.{◌⊎◌, inl, inr}
 use mathlib.Core.Option.{Option, some, none}
 use native.Mathlib.Omega.{arith}
 use Rattle.model.specs.Series.{most}
 use Rattle.model.specs.Demand.{larger, largest}
-use Rattle.model.proofs.SeriesLaws.{below_suc, le_or_lt, most_ge, most_is}
+use Rattle.model.proofs.SeriesLaws.{below_suc, most_ge, most_is}
 
 larger_none : (o : Option ℕ) → larger o none ≡ none
 unfolding larger

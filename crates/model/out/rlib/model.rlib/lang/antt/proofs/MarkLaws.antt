@@ -1,16 +1,16 @@
 -- Laws of marks: which choice is document 01's, and that nothing but the choice looks at them.
-use Prim.Native.Nat.{ℕ, zero, suc, ◌≤◌, ◌<◌}
-use mathlib.Core.Path.{◌≡◌, refl, sym, ap, ◌∙◌}
-use mathlib.Core.Bool.{Bool, false}
+use Prim.Native.Nat.{ℕ, zero, suc, ◌<◌}
+use mathlib.Core.Path.{◌≡◌, refl, ap, ◌∙◌}
+use mathlib.Core.Bool.{false}
 use mathlib.Core.Option.{some, none}
 use mathlib.Core.List.{List, [], ◌∷◌, ◌++◌}
 use native.Mathlib.Omega.{arith}
 use Rattle.model.specs.Tasks.{Tasks}
 use Rattle.model.specs.Ready.{ready_at, ready_list}
 use Rattle.model.specs.Run.{finish_at, finish_list}
-use Rattle.model.specs.Checks.{fault_of, check_entries, check_tasks}
+use Rattle.model.specs.Checks.{check_entries, check_tasks}
 use Rattle.model.specs.Choice.{Choice, unfit, chosen, Scope, ordinary, high_only, judges, keep_for, worst_for, choice_next, choice_of, scope_after, scope}
-use Rattle.model.specs.Marks.{old_next, old_choice_of, old_choice, HighIsChosen, FittingIsChosen, remarked, MarksAreNotChecked, MarksAreNotJudged, MarksAreNotReady, MarksAreNotRun}
+use Rattle.model.specs.Marks.{old_next, old_choice_of, HighIsChosen, FittingIsChosen, remarked, MarksAreNotChecked, MarksAreNotJudged, MarksAreNotReady, MarksAreNotRun}
 use Rattle.model.proofs.FrameLaws.{frame_itself}
 use Rattle.model.proofs.SameVerdict.{judged_same}
 

@@ -26,7 +26,7 @@ use Rattle.model.specs.Refusal.{first_refusal}
 use Rattle.model.specs.Checks.{in_range, carries, entry_fault, fault_at, is_fault, refuse_if, refuse_at, refuse_by, floor_of, allowed, is_outside, check_windows, check_entries, check_frame, check_tasks}
 use Rattle.model.proofs.SearchLaws.{first_hit, first_none}
 use Rattle.model.proofs.SupplyLaws.{supply_all}
-use Rattle.model.specs.Sums.{AllRows, AllSums, busy, charge_verdicts, charge_run, charge_checks, tried_lists, evaluation_counts, marked_choices, frame_verdicts, frame_choice, frame_run, frame_checks, pad, sheet, task}
+use Rattle.model.specs.Sums.{AllRows, AllSums, busy, charge_verdicts, charge_run, charge_checks, tried_lists, evaluation_counts, marked_choices, frame_verdicts, frame_choice, frame_run, frame_checks, pad, sheet}
 
 -- sum 11: below a task that takes every tick no demand is ever met
 never : (t : ℕ) → 1 ≤ t → meets (sheet (busy ∷ busy ∷ [])) (column (0 ∷ 0 ∷ [])) 1 0 0 t ≡ false

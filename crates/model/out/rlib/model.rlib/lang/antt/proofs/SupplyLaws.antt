@@ -1,11 +1,11 @@
 -- Laws of our ticks among some, whatever ticks are ours.
 use Prim.Native.Nat.{ℕ, zero, suc, ◌+◌, ◌*◌, ◌≤◌, ◌<◌}
 use mathlib.Core.Path.{◌≡◌, refl, ap}
-use mathlib.Core.Bool.{Bool, true, false}
+use mathlib.Core.Bool.{Bool, true}
 use native.Mathlib.Omega.{arith}
 use Rattle.model.specs.Series.{on, sum}
 use Rattle.model.specs.Frame.{supply}
-use Rattle.model.proofs.SeriesLaws.{sum_eq, sum_append, sum_longer, sum_ge, on_true, on_false, on_le}
+use Rattle.model.proofs.SeriesLaws.{sum_eq, sum_append, sum_longer, sum_ge, on_true, on_le}
 
 -- ticks that are ours alike
 pub supply_same : (f g : ℕ → Bool) (u v t : ℕ) → ((n : ℕ) → f (u + n) ≡ g (v + n)) → supply f u t ≡ supply g v t

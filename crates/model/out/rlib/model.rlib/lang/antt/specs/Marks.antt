@@ -6,7 +6,7 @@ use Rattle.model.specs.Tasks.{Tasks, Release}
 use Rattle.model.specs.Ready.{ready_list}
 use Rattle.model.specs.Run.{finish_list}
 use Rattle.model.specs.Verdict.{verdict}
-use Rattle.model.specs.Evaluations.{Judged, judged}
+use Rattle.model.specs.Evaluations.{judged}
 use Rattle.model.specs.Choice.{and_keep, least_keep, worst_of, Choice, unfit, chosen, ordinary, scope, choice}
 use Rattle.model.specs.Checks.{check_tasks}
 
