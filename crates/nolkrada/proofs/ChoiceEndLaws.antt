@@ -3,10 +3,9 @@ use Prim.Native.Nat.{ℕ, ◌≤◌, ◌<◌}
 use mathlib.Core.Path.{◌≡◌, refl, sym, ap, ◌∙◌}
 use mathlib.Core.Option.{some, none}
 use mathlib.Core.List.{List}
-use native.Mathlib.Omega.{arith}
 use lib.ListN.{length}
 use Rattle.model.specs.Tasks.{Tasks}
-use Rattle.model.specs.Choice.{Choice, unfit, chosen, Scope, scope, choice}
+use Rattle.model.specs.Choice.{Choice, unfit, chosen, Scope, choice}
 use Rattle.model.specs.Refusal.{Refusal, refused, answered}
 use Rattle.model.specs.Checks.{Inputs, refusal_of}
 use Rattle.model.specs.Calls.{column_after, choice_inputs, choice_call, kept_column, worst_column}

@@ -144,6 +144,7 @@ fn no_plan(s: TaskSet) -> Plan {
 
 // Ask: the new sheet with its choice, or a refusal of the sheet held and its frame (5, 4, 6, 17, 18), of the place (14), or of the new sheet (4, 6, 17, 15). The record
 // says what the definition says; entries past its count are 0.
+#[inline(always)]
 pub fn ask(s: TaskSet, f: Frame, t: Task, place: usize) -> Asked
     ensures { admission_offers.SameAnswer (plan_in f result) (admission_offers.ask_call (framed_of s f) (task_entry t) place) }
 {

@@ -6,7 +6,6 @@ use lib.ListN.{length}
 use Rattle.io.specs.Counts.{clamp_len}
 use Rattle.choose_csv.specs.Turn.{is_failure}
 use Rattle.choose_csv.proofs.TurnLaws.{turn_fails, turn_ends, turn_prints, turn_reads}
-use borrow.Author.Rules.{rules}
 use Rattle.choose_csv.proofs.after_read.Goals.{Start, After-is_failure, After-count-n}
 use Rattle.choose_csv.proofs.after_read.Goals as goal
 

@@ -1,7 +1,5 @@
-use mathlib.Core.Path.{◌≡◌, refl, sym, subst}
+use mathlib.Core.Path.{refl, sym, subst}
 use native.Mathlib.Omega.{arith}
-use borrow.Author.Rules.{rules}
-use lib.ListN.{length}
 use Rattle.loader.specs.Pieces.{Fed}
 use Rattle.loader.proofs.PieceLaws.{fed_nothing}
 use Rattle.choose_csv.proofs.TurnLaws.{turn_fed}

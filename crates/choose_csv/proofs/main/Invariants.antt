@@ -1,11 +1,7 @@
 -- From turn to turn the loader holds what was fed to it.
-use mathlib.Core.Path.{◌≡◌, refl, sym, subst}
-use native.Mathlib.Omega.{arith}
-use borrow.Author.Rules.{rules}
+use mathlib.Core.Path.{◌≡◌}
 use lib.ListN.{length}
 use Rattle.loader.specs.Pieces.{Fed}
-use Rattle.loader.proofs.PieceLaws.{fed_nothing}
-use Rattle.choose_csv.proofs.TurnLaws.{turn_fed}
 use Rattle.choose_csv.proofs.main.Given as goal
 
 abbrev pub invariant-loop-turns : goal.invariant-loop-turns

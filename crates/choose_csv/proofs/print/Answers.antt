@@ -4,7 +4,6 @@ use mathlib.Core.Path.{sym}
 use native.Mathlib.Omega.{arith}
 use lib.ListN.{length}
 use lib.Seq.{length-take-le}
-use borrow.Author.Rules.{rules}
 use Rattle.choose_csv.proofs.print.Goals.{After-choose_csv_text-m}
 use Rattle.choose_csv.proofs.print.Goals as goal
 

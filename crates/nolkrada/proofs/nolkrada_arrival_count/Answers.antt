@@ -3,7 +3,6 @@ use Rattle.interface.specs.Interface.{one_word}
 use mathlib.Core.Path.{sym, ap, ◌∙◌}
 use Rattle.demand.specs.ArrivalAnswer.{arrival_in}
 use Rattle.interface.proofs.InterfaceLaws.{ends_refused, ends_answered}
-use borrow.Author.Rules.{rules}
 use Rattle.nolkrada.proofs.nolkrada_arrival_count.Goals as goal
 
 pub returns-in-Refused : goal.returns-in-Refused

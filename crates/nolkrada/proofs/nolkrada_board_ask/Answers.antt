@@ -1,5 +1,4 @@
 -- The call on the sheet, frame and task that the numbers give.
-use borrow.Author.Rules.{rules}
 use Rattle.nolkrada.proofs.nolkrada_board_ask.Goals as goal
 
 pub returns : goal.returns

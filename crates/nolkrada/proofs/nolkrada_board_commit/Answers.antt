@@ -1,5 +1,4 @@
 -- The call on the offer, sheet and frame that the numbers give.
-use borrow.Author.Rules.{rules}
 use Rattle.nolkrada.proofs.nolkrada_board_commit.Goals as goal
 
 pub returns : goal.returns

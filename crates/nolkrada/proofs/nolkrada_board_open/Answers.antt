@@ -1,5 +1,4 @@
 -- The call on the sheet and frame that the numbers give.
-use borrow.Author.Rules.{rules}
 use Rattle.nolkrada.proofs.nolkrada_board_open.Goals as goal
 
 pub returns : goal.returns

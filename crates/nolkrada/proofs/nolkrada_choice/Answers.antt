@@ -6,7 +6,6 @@ use Rattle.choice.specs.Choices.{room_inputs, scope_told}
 use lib.ListN.{length}
 use Rattle.interface.specs.Interface.{framed_from, scope_word}
 use Rattle.nolkrada.proofs.ChoiceEndLaws.{choice_stopped, choice_no_words, choice_refused, choice_made}
-use borrow.Author.Rules.{rules}
 use Rattle.nolkrada.proofs.nolkrada_choice.Goals.{After-check_room-checked}
 use Rattle.nolkrada.proofs.nolkrada_choice.Goals as goal
 

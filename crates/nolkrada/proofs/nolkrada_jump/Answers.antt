@@ -7,7 +7,6 @@ use Rattle.trace.proofs.ListCallLaws.{run_checks}
 use Rattle.jumps.specs.Jumps.{jump_in}
 use Rattle.interface.specs.Interface.{framed_from}
 use Rattle.nolkrada.proofs.JumpEndLaws.{jump_stopped, jump_no_words, jump_refused, jump_ran}
-use borrow.Author.Rules.{rules}
 use Rattle.nolkrada.proofs.nolkrada_jump.Goals.{After-check_two-checked}
 use Rattle.nolkrada.proofs.nolkrada_jump.Goals as goal
 

@@ -5,7 +5,6 @@ use Rattle.fileformat.specs.FileCalls.{tasks_in, set_of}
 use Rattle.textformat.specs.TextSheet.{load}
 use Rattle.loader.proofs.LoadLaws.{said_refused, said_tasks, said_sheet}
 use Rattle.nolkrada.proofs.LoadEndLaws.{load_refused, load_no_sheet, load_no_word, load_answered}
-use borrow.Author.Rules.{rules}
 use Rattle.nolkrada.proofs.nolkrada_load.Goals.{In_default}
 use Rattle.nolkrada.proofs.nolkrada_load.Goals as goal
 

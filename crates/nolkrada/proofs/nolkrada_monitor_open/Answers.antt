@@ -1,5 +1,4 @@
 -- The slots of the call, and its refusal as a code.
-use borrow.Author.Rules.{rules}
 use mathlib.Core.Path.{ap, ◌∙◌}
 use Rattle.interface.specs.Interface.{code_of}
 use Rattle.nolkrada.proofs.nolkrada_monitor_open.Goals as goal

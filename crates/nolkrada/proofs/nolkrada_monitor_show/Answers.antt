@@ -1,5 +1,4 @@
 -- The answer of the call goes to the first words, where they are enough.
-use borrow.Author.Rules.{rules}
 use mathlib.Core.Path.{sym, ap, ◌∙◌}
 use Rattle.monitor.specs.MonitorCalls.{shown_in}
 use Rattle.interface.proofs.InterfaceLaws.{ends_refused, ends_answered}

@@ -4,7 +4,6 @@ use Rattle.reader.specs.Reader.{outcome_in}
 use Rattle.nolkrada.proofs.ReadLaws.{sheet_halts, answer_halts}
 use Rattle.nolkrada.specs.Files.{read_answer}
 use Rattle.nolkrada.proofs.ReadEndLaws.{read_halted, read_refused, read_answered}
-use borrow.Author.Rules.{rules}
 use Rattle.nolkrada.proofs.nolkrada_read.Goals as goal
 
 pub returns-then-sheet-lt160 : goal.returns-then-sheet-lt160

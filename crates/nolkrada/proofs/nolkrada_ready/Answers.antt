@@ -1,7 +1,6 @@
 -- The column of the call, and its refusal as a code.
 use mathlib.Core.Path.{ap, ◌∙◌}
 use Rattle.interface.specs.Interface.{code_of}
-use borrow.Author.Rules.{rules}
 use Rattle.nolkrada.proofs.nolkrada_ready.Goals as goal
 
 pub returns : goal.returns

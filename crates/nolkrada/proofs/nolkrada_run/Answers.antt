@@ -1,7 +1,6 @@
 -- The columns of the call, and its refusal as a code.
 use mathlib.Core.Path.{ap, ◌∙◌}
 use Rattle.interface.specs.Interface.{code_of}
-use borrow.Author.Rules.{rules}
 use Rattle.nolkrada.proofs.nolkrada_run.Goals as goal
 
 pub returns : goal.returns

@@ -1,5 +1,4 @@
 -- The call on the sheet that the numbers give.
-use borrow.Author.Rules.{rules}
 use Rattle.nolkrada.proofs.nolkrada_small_trace.Goals as goal
 
 pub returns : goal.returns

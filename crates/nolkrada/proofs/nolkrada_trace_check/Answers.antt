@@ -3,7 +3,6 @@ use mathlib.Core.Path.{sym, ap, ◌∙◌}
 use Rattle.trace.specs.TraceCalls.{trace_in}
 use Rattle.interface.proofs.InterfaceLaws.{ends_refused, ends_answered}
 use Rattle.interface.specs.Interface.{trace_words}
-use borrow.Author.Rules.{rules}
 use Rattle.nolkrada.proofs.nolkrada_trace_check.Goals as goal
 
 pub returns-in-Refused : goal.returns-in-Refused

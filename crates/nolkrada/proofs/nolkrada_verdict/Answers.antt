@@ -3,7 +3,6 @@ use mathlib.Core.Path.{sym, ap, ◌∙◌}
 use Rattle.verdict.specs.VerdictAnswer.{verdict_in}
 use Rattle.interface.proofs.InterfaceLaws.{ends_refused, ends_answered}
 use Rattle.interface.specs.Interface.{verdict_words}
-use borrow.Author.Rules.{rules}
 use Rattle.nolkrada.proofs.nolkrada_verdict.Goals as goal
 
 pub returns-in-Refused : goal.returns-in-Refused

@@ -3,7 +3,6 @@ use mathlib.Core.Path.{sym, ap, ◌∙◌}
 use Rattle.taskset.specs.TaskSet.{refusal_in}
 use Rattle.writer.specs.Writer.{answer_in}
 use Rattle.nolkrada.proofs.WriteEndLaws.{write_stopped, write_no_words, write_refused, write_written}
-use borrow.Author.Rules.{rules}
 use Rattle.nolkrada.proofs.nolkrada_write.Goals as goal
 
 pub returns-in-Refused : goal.returns-in-Refused

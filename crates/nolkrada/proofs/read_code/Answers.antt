@@ -4,7 +4,6 @@ use mathlib.Core.Path.{refl, sym, ap, ◌∙◌}
 use Rattle.reader.specs.Reader.{outcome_in}
 use Rattle.interface.specs.Interface.{code_of}
 use Rattle.nolkrada.proofs.ReadLaws.{code_refused, code_slots}
-use borrow.Author.Rules.{rules}
 use Rattle.nolkrada.proofs.read_code.Goals as goal
 
 pub returns-then-sheet-lt160 : goal.returns-then-sheet-lt160

@@ -3,7 +3,6 @@ use mathlib.Core.Path.{sym, ap, ◌∙◌}
 use native.Mathlib.Omega.{arith}
 use Rattle.reader.specs.Reader.{outcome_in}
 use Rattle.nolkrada.proofs.ReadLaws.{count_read, count_few, count_refused}
-use borrow.Author.Rules.{rules}
 use Rattle.nolkrada.proofs.releases_in.Goals as goal
 
 pub returns-then-number-eq13 : goal.returns-then-number-eq13

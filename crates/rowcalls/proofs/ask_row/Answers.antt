@@ -9,7 +9,6 @@ use Rattle.frame.specs.FrameView.{framed_of}
 use Rattle.admission.specs.Offers.{ask_call}
 use Rattle.plan.specs.PlanView.{task_entry}
 use Rattle.rowcalls.proofs.RowEndLaws.{ask_short, ask_refused, ask_few, ask_written}
-use borrow.Author.Rules.{rules}
 use Rattle.rowcalls.proofs.ask_row.Goals.{In_default}
 use Rattle.rowcalls.proofs.ask_row.Goals as goal
 

@@ -12,7 +12,6 @@ use Rattle.plan.specs.PlanView.{board_view}
 use Rattle.board.specs.BoardCalls.{board_in, commit_of}
 use Rattle.rows.specs.Rows.{board_from}
 use Rattle.rowcalls.proofs.RowEndLaws.{board_is, board_refused, board_few, board_written}
-use borrow.Author.Rules.{rules}
 use Rattle.rowcalls.proofs.commit_row.Goals.{After-commit-got, In_default}
 use Rattle.rowcalls.proofs.commit_row.Goals as goal
 

@@ -10,7 +10,6 @@ use Rattle.admission.specs.Boards.{open_call}
 use Rattle.plan.specs.PlanView.{board_view}
 use Rattle.admission.proofs.AcceptedLaws.{planned_valid, opens_well}
 use Rattle.rowcalls.proofs.RowEndLaws.{board_is, board_refused, board_few, board_written}
-use borrow.Author.Rules.{rules}
 use Rattle.rowcalls.proofs.open_row.Goals.{In_default}
 use Rattle.rowcalls.proofs.open_row.Goals as goal
 

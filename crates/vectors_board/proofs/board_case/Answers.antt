@@ -1,5 +1,3 @@
-use native.Mathlib.Omega.{arith}
-use borrow.Author.Rules.{rules}
 use Rattle.vectors_board.proofs.board_case.Goals as goal
 
 pub loop-left-init : goal.loop-left-init

@@ -1,6 +1,4 @@
 -- The measure is the number of steps that are left. Nothing has to hold from step to step.
-use native.Mathlib.Omega.{arith}
-use borrow.Author.Rules.{rules}
 use Rattle.vectors_board.proofs.board_case.Given as goal
 
 abbrev pub invariant-loop-left : goal.invariant-loop-left

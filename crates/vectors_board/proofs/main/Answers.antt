@@ -1,4 +1,3 @@
-use native.Mathlib.Omega.{arith}
 use Rattle.vectors_board.proofs.main.Goals as goal
 
 pub loop-turns-init : goal.loop-turns-init

@@ -1,7 +1,5 @@
 -- The loop stays below the count and within the 32 numbers.
 use Prim.Native.Nat.{◌-◌, ◌≤◌}
-use native.Mathlib.Omega.{arith}
-use borrow.Author.Rules.{rules}
 use Rattle.vectors_board.proofs.print_below.Given as goal
 
 abbrev pub invariant-loop-i : goal.invariant-loop-i

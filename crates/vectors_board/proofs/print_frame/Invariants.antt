@@ -1,7 +1,5 @@
 -- The loop stays below the count and within the 16 windows.
 use Prim.Native.Nat.{◌-◌, ◌≤◌}
-use native.Mathlib.Omega.{arith}
-use borrow.Author.Rules.{rules}
 use Rattle.vectors_board.proofs.print_frame.Given as goal
 
 abbrev pub invariant-loop-k : goal.invariant-loop-k

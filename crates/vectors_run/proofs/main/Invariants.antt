@@ -1,5 +1,4 @@
 -- The measure is the number of turns that are left. Nothing has to hold from turn to turn.
-use native.Mathlib.Omega.{arith}
 use Rattle.vectors_run.proofs.main.Given as goal
 
 abbrev pub invariant-loop-turns : goal.invariant-loop-turns
