@@ -10,7 +10,7 @@ use Rattle.model.specs.Gap.{gap}
 use Rattle.shaper.proofs.GapLaws.{gap_le}
 use Rattle.trace.proofs.PositionLaws.{Held}
 use Rattle.processor.specs.ProcessorClaims.{MissedOn}
-use Rattle.witness.specs.LateList.{lead_of, lead_in, base_of, first_refusal, late_list, LateShown}
+use Rattle.witness.specs.LateList.{lead_of, lead_in, base_of, first_own, late_list, LateShown}
 use Rattle.witness.proofs.ScenarioLaws.{scenario_trace, scenario_legal, scenario_ticks, last_job, last_release}
 use Rattle.witness.proofs.LateRun.{not_finished}
 
@@ -42,7 +42,7 @@ missed_on m r s periods costs k kept i hi d = (late, refl)
     base = base_of r.pickup d.from
 
     first : ℕ
-    first = first_refusal s k i base (lead_in s k i d.q)
+    first = first_own s k i base (lead_in s k i d.q)
 
     -- the place of the last own job
     last : ℕ

@@ -21,13 +21,13 @@ abbrev pub base_of : ℕ → ℕ → ℕ
 base_of pickup from = from - pickup
 
 -- the first own release: own job n is ready with theirs
-abbrev pub first_refusal : Tasks → (ℕ → ℕ) → ℕ → ℕ → ℕ → ℕ
-first_refusal s k i base n = base - gap (s.period i) (k i) n
+abbrev pub first_own : Tasks → (ℕ → ℕ) → ℕ → ℕ → ℕ → ℕ
+first_own s k i base n = base - gap (s.period i) (k i) n
 
 -- the list for a q of task i, in a window of w ticks that begins at `from`
 abbrev pub late_list : ℕ → Tasks → (ℕ → ℕ) → ℕ → ℕ → ℕ → ℕ → List Release
 late_list pickup s k i q w from =
-    scenario s k i (base_of pickup from) (first_refusal s k i (base_of pickup from) (lead_in s k i q)) (lead_in s k i q + q) w
+    scenario s k i (base_of pickup from) (first_own s k i (base_of pickup from) (lead_in s k i q)) (lead_in s k i q + q) w
 
 -- a late q has this list: every task's releases are legal, no tick is after the given one, and in its run a job of task i is not finished D ticks after its release.
 -- Periods and costs are at least 1 and the kept jitters at most J; no other limit of the task set is used
