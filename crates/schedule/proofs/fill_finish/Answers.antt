@@ -31,8 +31,8 @@ ours_unread : (c : Joined-framed-unread) → ours_in ((column_frame c.args.frame
 ours_unread c =
     let a = c.args in
     elim c.if-framed.branch [
-      | then-framed+else-not-is_ours w ↦ sym w.is_ours.ensures ∙ w.if-not-is_ours.false
-      | else-framed w ↦ ours_absent a.framed a.ticks a.windows a.first.now a.size.now (ap not w.if-framed.false) c.loop-t.t
+      | then-framed+else-not-is_ours v ↦ sym v.is_ours.ensures ∙ v.if-not-is_ours.false
+      | else-framed v ↦ ours_absent a.framed a.ticks a.windows a.first.now a.size.now (ap not v.if-framed.false) c.loop-t.t
     ]
 
 top_unread : (c : Joined-framed-unread)
