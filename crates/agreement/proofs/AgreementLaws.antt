@@ -1,39 +1,40 @@
 -- The contracts of both runs over columns that held the same give the same.
 use Prim.Native.Nat.{ℕ}
+use Rattle.std.specs.Prelude.{Result, Ok, Err}
 use mathlib.Core.Path.{◌≡◌, refl, sym, ap, ◌∙◌}
 use mathlib.Core.Option.{Option, some, none}
 use mathlib.Core.List.{List}
 use native.Mathlib.Omega.{arith}
 use Rattle.model.specs.Tasks.{Tasks}
-use Rattle.model.specs.Refusal.{Refusal, Answer, refused, answered}
+use Rattle.model.specs.Refusal as model
+use Rattle.model.specs.Refusal.{Answer, refused, answered}
 use Rattle.model.specs.Checks.{Inputs, refusal_of, answer_of}
 use Rattle.model.specs.Calls.{run_inputs, jump_call}
 use Rattle.model.proofs.OrderLaws.{answers, refuses}
-use Rattle.taskset.specs.declared.Checked.{Checked}
-use Rattle.jumps.specs.declared.JumpAnswer.{JumpAnswer}
-use Rattle.jumps.specs.declared.JumpAnswer.TheVariants.{Ran, Refused}
+use Rattle.refusal.specs.declared.Refusal.{Refusal}
+use Rattle.refusal.specs.Refusal.{number_of, refusal_in}
 use Rattle.jumps.specs.Jumps.{jump_in}
-use Rattle.agreement.specs.Agreement.{refusal_of_jump, Ticked, Jumped, SameEnds}
+use Rattle.agreement.specs.Agreement.{Ticked, Jumped, SameEnds}
 
 -- an answer that is a call's answer has the call's refusal
-same_refusal : (r : JumpAnswer) (c : Inputs) (a : ℕ) → jump_in r ≡ answer_of c a → refusal_of_jump r ≡ refusal_of c
+same_refusal : (r : Result ℕ Refusal) (c : Inputs) (a : ℕ) → jump_in r ≡ answer_of c a → refusal_in r ≡ refusal_of c
 same_refusal r c a h = go r (refusal_of c) refl h
   where
-    go : (x : JumpAnswer) (o : Option Refusal) → refusal_of c ≡ o → jump_in x ≡ answer_of c a → refusal_of_jump x ≡ refusal_of c
-    go (Ran n) none e g = sym e
-    go (Ran n) (some q) e g =
+    go : (x : Result ℕ Refusal) (o : Option model.Refusal) → refusal_of c ≡ o → jump_in x ≡ answer_of c a → refusal_in x ≡ refusal_of c
+    go (Ok n) none e g = sym e
+    go (Ok n) (some q) e g =
         let f : answered n ≡ refused q = g ∙ sym (refuses c a q (sym e)) in
         let z : ◌≡◌ {A = ℕ} 0 1 = cc in absurd (omega arith)
-    go (Refused n p) none e g =
-        let f : refused (record { number = n; place = p }) ≡ answered a = g ∙ sym (answers c a (sym e)) in
+    go (Err r) none e g =
+        let f : refused (record { number = number_of r.reason; place = r.place }) ≡ answered a = g ∙ sym (answers c a (sym e)) in
         let z : ◌≡◌ {A = ℕ} 0 1 = cc in absurd (omega arith)
-    go (Refused n p) (some q) e g =
-        let f : ◌≡◌ {A = Answer ℕ} (refused (record { number = n; place = p })) (refused q) = g ∙ sym (refuses c a q (sym e)) in
-        let y : record { number = n; place = p } ≡ q = cc in
+    go (Err r) (some q) e g =
+        let f : ◌≡◌ {A = Answer ℕ} (refused (record { number = number_of r.reason; place = r.place })) (refused q) = g ∙ sym (refuses c a q (sym e)) in
+        let y : record { number = number_of r.reason; place = r.place } ≡ q = cc in
         ap some y ∙ sym e
 
 module _ (s : Tasks) (kept : List ℕ) (n : ℕ) (task tick cost ready finish readies finishes : List ℕ) where
-  pub same_ends : (ticked : Checked) (jumped : JumpAnswer) (a b c d : List ℕ)
+  pub same_ends : (ticked : Result Unit Refusal) (jumped : Result ℕ Refusal) (a b c d : List ℕ)
       → Ticked s kept n task tick cost ready finish ticked a b
       → Jumped s kept n task tick cost readies finishes jumped c d
       → ready ≡ readies

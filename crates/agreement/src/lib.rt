@@ -6,21 +6,21 @@ ghost use Rattle.frame.specs.FrameView.{framed_of};
 ghost use Rattle.agreement.specs.Agreement.{Ticked, Jumped, SameEnds};
 
 use frame::Frame;
-use jumps::JumpAnswer;
-use taskset::{Checked, TaskSet};
+use refusal::Refusal;
+use taskset::TaskSet;
 
 // What the ticking run and the run that jumps answered.
 #[derive(Clone, Copy)]
 pub struct BothAnswers {
-    pub ticked: Checked,
-    pub jumped: JumpAnswer,
+    pub ticked: Result<(), Refusal>,
+    pub jumped: Result<u32, Refusal>,
 }
 
 // Both runs of a list in a frame, if any, the ticking one with the first two columns and the one that jumps with the other two: what each
 // answers and leaves in its columns. Where the columns held the same before, the refusals are the same, and so are the columns, slot by slot.
 pub fn both_runs(
     s: TaskSet,
-    f: Frame,
+    f: Option<Frame>,
     kept: &[u32],
     count: usize,
     task: &[u32],
@@ -40,8 +40,5 @@ pub fn both_runs(
 {
     let ticked = schedule::run(s, f, kept, count, task, tick, cost, ready, finish);
     let jumped = jumps::run(s, f, kept, count, task, tick, cost, readies, finishes);
-    BothAnswers {
-        ticked: ticked,
-        jumped: jumped,
-    }
+    BothAnswers { ticked, jumped }
 }

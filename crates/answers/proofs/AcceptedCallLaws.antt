@@ -1,5 +1,5 @@
 -- What the calls say when their inputs come from an accepted file.
-use Prim.Native.Nat.{ℕ, ◌≤◌, ◌<◌}
+use Prim.Native.Nat.{ℕ, ◌≤◌}
 use mathlib.Core.Path.{◌≡◌, sym, ◌∙◌}
 use mathlib.Core.Option.{some, none}
 use mathlib.Core.List.{List, [], ◌++◌}
@@ -13,23 +13,18 @@ use Rattle.model.specs.Choice.{column, unfit, chosen, scope, choice}
 use Rattle.model.specs.Calls.{lends, choice_inputs, run_inputs}
 use Rattle.model.proofs.CheckLaws.{kept_passes, count_few, slots_next, slots_none, unfit_of_lem, Chosen, chosen_of}
 use Rattle.model.proofs.OrderLaws.{no_single, no_unfit, accepted_of, accepts}
-use Rattle.response.proofs.ChoiceLaws.{choice_length, choice_keeps, choice_unfit}
+use Rattle.response.proofs.ChoiceLaws.{choice_length, choice_keeps}
 use Rattle.choice.proofs.ChoiceCallLaws.{room_enough, choice_decides}
 use Rattle.answers.specs.Listed.{Listed, Kept}
 
--- a refused choice is 15 at a task that fits at no K
-pub record Unfit (s : Tasks) (n p : ℕ) : Type 0 where
-  pub number : n ≡ 15
-  pub is : choice s ≡ unfit p
-  pub small : p < s.count
-
 module _ (s : Tasks) (kept worst : List ℕ) where
+  -- a refused choice is 15 at a task that fits at no K
   pub choice_refused
       : none ≡ check_tasks s → s.count ≤ length kept → s.count ≤ length worst
-      → (n p : ℕ) → refuse n p ≡ refusal_of (choice_inputs s kept worst) → Unfit s n p
+      → (n p : ℕ) → refuse n p ≡ refusal_of (choice_inputs s kept worst) → (15 ≡ n) × (choice s ≡ unfit p)
   choice_refused ok hk hw n p e =
       let u = unfit_of_lem (choice s) n p (e ∙ sym (choice_decides s kept worst (room_enough s (length kept) (length worst) ok hk hw))) in
-      record { number = u.0; is = u.1; small = (choice_unfit (scope s) s p u.1).0 }
+      (sym u.0, u.1)
 
   -- an answered choice
   pub choice_fine : none ≡ refusal_of (choice_inputs s kept worst) → Chosen (choice s)

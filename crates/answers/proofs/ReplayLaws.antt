@@ -15,19 +15,12 @@ use Rattle.model.specs.Choice.{column, Choice, unfit, chosen, choice}
 use Rattle.model.specs.Stops.{stop_count}
 use Rattle.model.specs.Calls.{releases_of, column_after, run_inputs, jump_call}
 use Rattle.model.proofs.OrderLaws.{answers}
-use Rattle.jumps.specs.declared.JumpAnswer.{JumpAnswer}
-use Rattle.jumps.specs.declared.JumpAnswer.TheVariants.{Refused}
-use Rattle.jumps.specs.Jumps.{jump_in}
 use Rattle.taskset.specs.declared.TaskSet.{TaskSet}
 use Rattle.taskset.specs.TaskSet.{view_of}
 use Rattle.fileformat.specs.File.{File, sheet_in, decode, ValidFile}
 use Rattle.fileformat.specs.FileCalls.{read_call, read_count, read_sheet, read_column}
 use Rattle.fileformat.proofs.RoundTrips.{decode_valid}
 use Rattle.fileformat.proofs.RoundTripCalls.{view_set, releases_of_columns}
-use Rattle.fileformat.proofs.FilePlaces.{decode_within}
-use Rattle.reader.specs.declared.ReadOutcome.{ReadOutcome}
-use Rattle.reader.specs.declared.ReadOutcome.TheVariants.{Read, Refused as Halted}
-use Rattle.reader.specs.Reader.{outcome_in}
 use Rattle.model.proofs.TableLaws.{length_table}
 use Rattle.report.specs.Report.{run_text, refusal_text}
 use Rattle.answers.specs.Answers.{tasks_of, ticks_of, costs_of, sheet_text, choose_text, list_text, replay_text}
@@ -49,11 +42,11 @@ module _ (s : Tasks) (kept : List ℕ) (n : ℕ) (task tick cost ready finish : 
   accepted = sym (run_accepted s kept n task tick cost ready finish l k hr hf)
 
   -- such a run is not refused
-  pub never_refused : (r : JumpAnswer) (m p : ℕ) → r ≡ Refused m p → jump_in r ≡ jump_call s kept n task tick cost ready finish → ⊥
+  pub never_refused : (m p : ℕ) → refused (record { number = m; place = p }) ≡ jump_call s kept n task tick cost ready finish → ⊥
   unfolding jump_call
-  never_refused r m p e h =
+  never_refused m p h =
       let f : refused (record { number = m; place = p }) ≡ answered (stop_count s (column kept) (releases_of n task tick cost)) =
-      sym (ap jump_in e) ∙ h ∙ sym (answers (run_inputs s kept n task tick cost ready finish) _ (sym accepted))
+      h ∙ sym (answers (run_inputs s kept n task tick cost ready finish) _ (sym accepted))
       in
       let z : ◌≡◌ {A = ℕ} 0 1 = cc in
       omega arith
@@ -80,23 +73,22 @@ module _ (s : Tasks) (kept : List ℕ) (n : ℕ) (task tick cost ready finish : 
 module _ (f a b c : List ℕ) (ha : max_releases ≤ length a) (hb : max_releases ≤ length b) (hc : max_releases ≤ length c) where
   -- a file that was refused
   pub record Halts (n p : ℕ) : Type 0 where
-    pub small : p ≤ 14915
     pub choose : refusal_text n p ≡ choose_text f
     pub replay : refusal_text n p ≡ replay_text f
 
-  pub halts : (o : ReadOutcome) (n p : ℕ) → o ≡ Halted n p → outcome_in o ≡ read_count (read_call f a b c) → Halts n p
+  pub halts : (n p : ℕ) → refused (record { number = n; place = p }) ≡ read_count (read_call f a b c) → Halts n p
   unfolding read_count choose_text replay_text
-  halts o n p e h = go (decode f) refl
+  halts n p h = go (decode f) refl
     where
       said : refused (record { number = n; place = p }) ≡ read_count (decode f)
-      said = sym (ap outcome_in e) ∙ h ∙ ap read_count (read_roomy f a b c ha hb hc)
+      said = h ∙ ap read_count (read_roomy f a b c ha hb hc)
 
       go : (d : Answer File) → decode f ≡ d → Halts n p
       go (refused q) g =
           let i : refused (record { number = n; place = p }) ≡ refused q = said ∙ ap read_count g in
           let q' : ◌≡◌ {A = Refusal} (record { number = n; place = p }) q = cc in
           let j : decode f ≡ refused (record { number = n; place = p }) = g ∙ ap refused (sym q') in
-          record { small = (decode_within f (record { number = n; place = p }) j).place_high; choose = rw (choose_text, j); replay = rw (replay_text, j) }
+          record { choose = rw (choose_text, j); replay = rw (replay_text, j) }
       go (answered x) g =
           let i : refused (record { number = n; place = p }) ≡ answered (length x.releases) = said ∙ ap read_count g in let z : ◌≡◌ {A = ℕ} 0 1 = cc in absurd
           (omega arith)
@@ -146,17 +138,17 @@ module _ (f a b c : List ℕ) (ha : max_releases ≤ length a) (hb : max_release
       short = rw back
 
   pub holds
-      : (o : ReadOutcome) (n : ℕ) (t : TaskSet) (p q r : List ℕ) → o ≡ Read n → outcome_in o ≡ read_count (read_call f a b c) → t ≡ read_sheet (read_call f a b c)
+      : (n : ℕ) (t : TaskSet) (p q r : List ℕ) → answered n ≡ read_count (read_call f a b c) → t ≡ read_sheet (read_call f a b c)
       → p ≡ read_column (λ x. x.task) (read_call f a b c) a → q ≡ read_column (λ x. x.tick) (read_call f a b c) b
       → r ≡ read_column (λ x. x.cost) (read_call f a b c) c → Holds n t p q r
   unfolding read_count read_sheet read_column column_after choose_text replay_text
-  holds o n t p q r e h et ep eq er = go (decode f) refl
+  holds n t p q r h et ep eq er = go (decode f) refl
     where
       roomy : read_call f a b c ≡ decode f
       roomy = read_roomy f a b c ha hb hc
 
       said : answered n ≡ read_count (decode f)
-      said = sym (ap outcome_in e) ∙ h ∙ ap read_count roomy
+      said = h ∙ ap read_count roomy
 
       build : (x : File) → decode f ≡ answered x → n ≡ length x.releases → view_of t ≡ sheet_in x
           → p ≡ tasks_of x.releases ++ drop (length (tasks_of x.releases)) a

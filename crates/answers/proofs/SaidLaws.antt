@@ -1,5 +1,5 @@
 -- The text that follows from what the calls say.
-use Prim.Native.Nat.{ℕ, zero, suc, ◌+◌, ◌≤◌, ◌<◌}
+use Prim.Native.Nat.{ℕ, zero, suc, ◌+◌, ◌≤◌}
 use mathlib.Core.Path.{◌≡◌, refl, sym, ap, ◌∙◌}
 use mathlib.Core.Option.{none}
 use mathlib.Core.List.{List, [], ◌∷◌, ◌++◌, map}
@@ -9,24 +9,20 @@ use lib.Seq.{get_or-drop}
 use lib.IntN.{nat_abs}
 use Rattle.model.specs.Tasks.{Tasks}
 use Rattle.model.specs.Checks.{check_tasks, refusal_of}
-use Rattle.model.specs.Refusal.{answered}
-use Rattle.model.specs.Choice.{column, Scope, scope, choice}
+use Rattle.model.specs.Refusal.{answered, refused}
+use Rattle.model.specs.Choice.{unfit, column, scope, choice}
 use Rattle.model.specs.Calls.{column_after, choice_inputs, choice_call, kept_column, worst_column}
 use Rattle.model.proofs.CheckLaws.{Chosen}
 use Rattle.model.proofs.OrderLaws.{answered_of, refused_of}
-use Rattle.taskset.specs.declared.TaskSet.{TaskSet}
-use Rattle.taskset.specs.TaskSet.{view_of}
-use Rattle.frame.specs.declared.Frame.{Frame}
-use Rattle.frame.specs.FrameView.{framed_of, no_frame}
-use Rattle.choice.specs.declared.ChoiceAnswer.{ChoiceAnswer}
-use Rattle.choice.specs.declared.ChoiceAnswer.TheVariants.{Refused}
-use Rattle.choice.specs.Choices.{scope_told}
+use Rattle.choice.specs.Choices.{extent_in}
 use Rattle.response.proofs.ChoiceLaws.{choice_length, chosen_to}
 use Rattle.report.specs.Report.{choice_text, refusal_text}
 use Rattle.answers.specs.Answers.{chosen_text, sheet_text, list_text}
 use Rattle.answers.proofs.AnswerColumnLaws.{choice_text_same}
-use Rattle.answers.proofs.AcceptedCallLaws.{Unfit, choice_refused, choice_fine, keeps_pass}
-use Rattle.answers.specs.Listed.{Kept, kept_text}
+use Rattle.answers.proofs.AcceptedCallLaws.{choice_refused, choice_fine, keeps_pass}
+use Rattle.answers.specs.Listed.{kept_text}
+use Rattle.answers.specs.declared.Chosen.{Chosen as Columns}
+use Rattle.answers.specs.Tried.{Made}
 
 -- a column of 0s, as far as it goes
 abbrev pub Zeros : List ℕ → Type 0
@@ -49,84 +45,56 @@ pad_zeros (x ∷ l) z h (suc i) = pad_zeros l z h i
 same_column_lem : (l z : List ℕ) → Zeros z → column (l ++ z) ≡ column l
 same_column_lem l z h = λ t i. pad_zeros l z h i t
 
--- what a call of the choice says of a sheet, its columns being k and w afterwards
-pub record Told (s : Tasks) (kept worst : List ℕ) (r : ChoiceAnswer) (k w : List ℕ) : Type 0 where
-  pub answer : scope_told r ≡ choice_call s kept worst
-  pub keeps : k ≡ column_after (refusal_of (choice_inputs s kept worst)) (kept_column (choice s)) kept
-  pub worsts : w ≡ column_after (refusal_of (choice_inputs s kept worst)) (worst_column (choice s)) worst
-
--- without a frame it is said of the task set as it is
-pub told_bare
-    : (s : TaskSet) (f : Frame) (kept worst : List ℕ) (r : ChoiceAnswer) (k w : List ℕ) → f ≡ no_frame → Told (framed_of s f) kept worst r k w
-    → Told (view_of s) kept worst r k w
-told_bare s f kept worst r k w e t = rw e at t
-
 module _ (s : Tasks) (kept worst : List ℕ) (ok : none ≡ check_tasks s) (hk : s.count ≤ length kept) (hw : s.count ≤ length worst) where
   -- a refused choice
-  pub record Refusing (n p : ℕ) : Type 0 where
-    pub small : p < s.count
-    pub text : refusal_text n p ≡ sheet_text s
-    pub list_text_lem : (m : ℕ) (a b c : List ℕ) → refusal_text n p ≡ list_text s m a b c (choice s)
+  pub not_chosen
+      : (n p : ℕ) → refused (record { number = n; place = p }) ≡ choice_call s kept worst → (15 ≡ n) × (choice s ≡ unfit p)
+  unfolding choice_call
+  not_chosen n p h =
+      choice_refused s kept worst ok hk hw n p (refused_of (choice_inputs s kept worst) (scope s) (record { number = n; place = p }) (sym h))
 
-  pub refusing : (r : ChoiceAnswer) (n p : ℕ) → r ≡ Refused n p → scope_told r ≡ choice_call s kept worst → Refusing n p
-  unfolding chosen_text list_text scope_told choice_call
-  refusing r n p e h =
-      let q = refused_of (choice_inputs s kept worst) (scope s) (record { number = n; place = p }) (sym (sym (ap scope_told e) ∙ h)) in
-      let u : Unfit s n p = choice_refused s kept worst ok hk hw n p q in
-      record {
-        small = u.small;
-        text = rw u.number (ap (chosen_text (scope s) s) (sym u.is));
-        list_text_lem = λ m a b c. rw (u.number, u.is);
-      }
+  -- a choice that was made
+  pub made
+      : (c : Columns) → answered (extent_in c.extent) ≡ choice_call s kept worst
+      → c.keep ≡ column_after (refusal_of (choice_inputs s kept worst)) (kept_column (choice s)) kept
+      → c.worst ≡ column_after (refusal_of (choice_inputs s kept worst)) (worst_column (choice s)) worst
+      → Zeros (drop (length (kept_column (choice s))) kept) → Made s c
+  unfolding choice_call chosen_text list_text kept_text column_after kept_column worst_column
+  made c h ek ew z = go (choice_fine s kept worst fine)
+    where
+      both : (none ≡ refusal_of (choice_inputs s kept worst)) × (scope s ≡ extent_in c.extent)
+      both = answered_of (choice_inputs s kept worst) (scope s) (extent_in c.extent) (sym h)
 
-  module _ (r : ChoiceAnswer) (c : Scope) (k w : List ℕ) (e : scope_told r ≡ answered c) (h : scope_told r ≡ choice_call s kept worst) where
-    made : (none ≡ refusal_of (choice_inputs s kept worst)) × (scope s ≡ c)
-    unfolding choice_call
-    made = answered_of (choice_inputs s kept worst) (scope s) c (sym h ∙ e)
+      fine : none ≡ refusal_of (choice_inputs s kept worst)
+      fine = both.0
 
-    fine : none ≡ refusal_of (choice_inputs s kept worst)
-    fine = made.0
+      go : Chosen (choice s) → Made s c
+      go d =
+          let ks : List ℕ = d.keeps in
+          let ws : List ℕ = map nat_abs d.worsts in
+          let ak : c.keep ≡ ks ++ drop (length ks) kept = rw (← fine, d.is) at ek in
+          let aw : c.worst ≡ ws ++ drop (length ws) worst = rw (← fine, d.is) at ew in
+          let zs : Zeros (drop (length ks) kept) = rw d.is at z in
+          let long : s.count ≤ length ks = omega (arith, choice_length (scope s) s ks d.worsts d.is) in
+          let first : choice_text (extent_in c.extent) s c.keep c.worst ≡ choice_text (extent_in c.extent) s ks ws =
+          rw (ak, aw)
+          (choice_text_same (extent_in c.extent) s ks ws (drop (length ks) kept) (drop (length ws) worst) long
+          (omega (arith, length-map d.worsts nat_abs, (chosen_to (scope s) s s.count ks d.worsts d.is).long_worst))) in
+          let same : column c.keep ≡ column ks = ap column ak ∙ same_column_lem ks (drop (length ks) kept) zs in
+          record {
+            text = first ∙ ap (λ x. choice_text x s ks ws) (sym both.1) ∙ ap (chosen_text (scope s) s) (sym d.is);
+            kept = record {
+              long = omega (arith, ap length ak, length-append ks (drop (length ks) kept), long);
+              within = rw same (rw (same_column_lem ks (drop (length ks) kept) zs) at (keeps_pass s ks d.worsts (drop (length ks) kept) d.is));
+            };
+            list = λ m x y v. rw (same, d.is);
+          }
 
-    -- a choice that was made
-    pub chosen_said
-        : k ≡ column_after (refusal_of (choice_inputs s kept worst)) (kept_column (choice s)) kept
-        → w ≡ column_after (refusal_of (choice_inputs s kept worst)) (worst_column (choice s)) worst → choice_text c s k w ≡ sheet_text s
-    unfolding chosen_text column_after kept_column worst_column
-    chosen_said ek ew = go (choice_fine s kept worst fine)
-      where
-        go : Chosen (choice s) → choice_text c s k w ≡ sheet_text s
-        go d =
-            let ks : List ℕ = d.keeps in
-            let ws : List ℕ = map nat_abs d.worsts in
-            let ak : k ≡ ks ++ drop (length ks) kept = rw (← fine, d.is) at ek in
-            let aw : w ≡ ws ++ drop (length ws) worst = rw (← fine, d.is) at ew in
-            let same : choice_text c s k w ≡ choice_text c s ks ws =
-            rw (ak, aw)
-            (choice_text_same c s ks ws (drop (length ks) kept) (drop (length ws) worst) (omega (arith, choice_length (scope s) s ks d.worsts d.is))
-            (omega (arith, length-map d.worsts nat_abs, (chosen_to (scope s) s s.count ks d.worsts d.is).long_worst))) in
-            same ∙ ap (λ x. choice_text x s ks ws) (sym made.1) ∙ ap (chosen_text (scope s) s) (sym d.is)
+-- what is printed where no choice was made
+pub unfit_sheet : (s : Tasks) (n p : ℕ) → (15 ≡ n) × (choice s ≡ unfit p) → refusal_text n p ≡ sheet_text s
+unfolding chosen_text
+unfit_sheet s n p u = rw (← u.0, u.1)
 
-    -- its kept jitters pass their check, and the text of a run with them
-    pub record Keeping : Type 0 where
-      pub kept_ok : Kept s k
-      pub list_text_lem : (m : ℕ) (a b c : List ℕ) → kept_text s k m a b c ≡ list_text s m a b c (choice s)
-
-    pub keeping
-        : Zeros (drop (length (kept_column (choice s))) kept)
-        → k ≡ column_after (refusal_of (choice_inputs s kept worst)) (kept_column (choice s)) kept → Keeping
-    unfolding list_text kept_text column_after kept_column
-    keeping z ek = go (choice_fine s kept worst fine)
-      where
-        go : Chosen (choice s) → Keeping
-        go d =
-            let ks : List ℕ = d.keeps in
-            let ak : k ≡ ks ++ drop (length ks) kept = rw (← fine, d.is) at ek in
-            let zs : Zeros (drop (length ks) kept) = rw d.is at z in
-            let same : column k ≡ column ks = ap column ak ∙ same_column_lem ks (drop (length ks) kept) zs in
-            record {
-              kept_ok = record {
-                long = omega (arith, ap length ak, length-append ks (drop (length ks) kept), choice_length (scope s) s ks d.worsts d.is);
-                within = rw same (rw (same_column_lem ks (drop (length ks) kept) zs) at (keeps_pass s ks d.worsts (drop (length ks) kept) d.is));
-              };
-              list_text_lem = λ m x y v. rw (same, d.is);
-            }
+pub unfit_list : (s : Tasks) (n p m : ℕ) (a b c : List ℕ) → (15 ≡ n) × (choice s ≡ unfit p) → refusal_text n p ≡ list_text s m a b c (choice s)
+unfolding list_text
+unfit_list s n p m a b c u = rw (← u.0, u.1)

@@ -2,3 +2,4 @@
 pub mod Answers
 pub mod RunByPlace
 pub mod Listed
+pub mod Tried

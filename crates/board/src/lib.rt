@@ -5,40 +5,28 @@ ghost use Rattle.std.specs.Prelude.{◌≡◌, ◌≤◌, length, take};
 ghost use Rattle.std.proofs.Math.Option.{none};
 ghost use Rattle.model.specs.Slots.{Holds};
 ghost use Rattle.model.specs.Choice.{column};
-ghost use Rattle.taskset.specs.TaskSet.{refusal_in};
+ghost use Rattle.refusal.specs.Refusal.{refusal_in};
 ghost use Rattle.frame.specs.FrameView.{framed_of};
+ghost use Rattle.admission.specs.Offers.{answer_by};
 ghost use Rattle.admission.specs.Boards as admission_boards;
 ghost use Rattle.plan.specs.PlanView.{board_view};
 ghost use Rattle.board.specs.BoardCalls.{board_in, commit_of, list_refusal, soon_after};
 
 use frame::Frame;
 use plan::{Board, Plan};
-use taskset::{Checked, TaskSet};
-
-// What an opening or a commit answers: nothing wrong and the board, or the documents' number and place. After a refused commit the board is the one that was there; after
-// a refused opening it is of no meaning.
-#[derive(Clone, Copy)]
-pub struct Committed {
-    pub answer: Checked,
-    pub board: Board,
-}
+use refusal::{Reason, Refusal};
+use taskset::TaskSet;
 
 // Opens a board with a sheet, its frame and the choice made of them, or the choice's refusal: 5, 4, 6 and 17 by task, 18, 15.
-pub fn open(s: TaskSet, f: Frame) -> Committed
+pub fn open(s: TaskSet, f: Option<Frame>) -> Result<Board, Refusal>
     ensures { board_in result ≡ admission_boards.open_call (framed_of s f) }
 {
-    let got = offer::plan_of(s, f);
-    let plan = got.plan;
-    let answer = got.answer;
-    let board = Board {
-        plan: plan,
+    let plan = offer::plan_of(s, f)?;
+    Ok(Board {
+        plan,
         frame: f,
         last: 0,
-    };
-    Committed {
-        answer: answer,
-        board: board,
-    }
+    })
 }
 
 // The kept jitters of a record, one for each task; 0 past them.
@@ -48,38 +36,30 @@ fn kept_of(p: Plan) -> [u32; 32]
 {
     let count = p.tasks.count;
     let mut kept: [u32; 32] = [0; 32];
-    let mut i = 0;
-    while i < count {
+    for i in 0..count {
         kept[i] = p.keep[i];
-        i += 1;
     }
     kept
 }
 
 // The checks of a commit before the offer: the sheet in force and its frame (5, 4, 6, 17, 18), the count of the releases (10), their columns (13), the kept jitters in
 // force (12), and the releases in order (7, 8, 9), none of them before the last commit's tick.
-fn check_list(b: Board, count: usize, task: &[u32], tick: &[u64], cost: &[u32]) -> Checked
+fn check_list(
+    b: Board,
+    count: usize,
+    task: &[u32],
+    tick: &[u64],
+    cost: &[u32],
+) -> Result<(), Refusal>
     ensures { refusal_in result ≡ list_refusal (board_view b) count task.now tick.now cost.now }
 {
     let plan = b.plan;
     let s = plan.tasks;
-    let sheet = frame::check_sheet(s, b.frame);
-    let Checked::Fine = sheet else {
-        return sheet;
-    };
-    let few = releases::check_count(count);
-    let Checked::Fine = few else {
-        return few;
-    };
-    let long = releases::check_columns(count, task, tick, cost);
-    let Checked::Fine = long else {
-        return long;
-    };
+    frame::check_sheet(s, b.frame)?;
+    releases::check_count(count)?;
+    releases::check_columns(count, task, tick, cost)?;
     let kept = kept_of(plan);
-    let within = taskset::check_kept(s, &kept);
-    let Checked::Fine = within else {
-        return within;
-    };
+    taskset::check_kept(s, &kept)?;
     releases::check_releases(s, b.last, count, task, tick, cost)
 }
 
@@ -88,12 +68,10 @@ fn any_over(column: &[u64], n: usize, t: u64) -> bool
     requires { n ≤ length column.now }
     ensures { result ≡ admission_boards.any_over t (take n column.now) }
 {
-    let mut i = 0;
-    while i < n {
+    for i in 0..n {
         if t < column[i] {
             return true;
         }
-        i += 1;
     }
     false
 }
@@ -110,7 +88,7 @@ fn is_too_soon(b: Board, count: usize, task: &[u32], tick: &[u64], cost: &[u32],
     let kept = kept_of(plan);
     let mut ready: [u64; 1024] = [0; 1024];
     let mut finish: [u64; 1024] = [0; 1024];
-    jumps::run(
+    let _ = jumps::run(
         plan.tasks,
         b.frame,
         &kept,
@@ -129,67 +107,56 @@ pub fn check_commit(
     b: Board,
     o: Plan,
     s: TaskSet,
-    f: Frame,
+    f: Option<Frame>,
     count: usize,
     task: &[u32],
     tick: &[u64],
     cost: &[u32],
     at: u64,
-) -> Checked
+) -> Result<(), Refusal>
     ensures { refusal_in result
         ≡ admission_boards.commit_refusal (board_view b) (commit_of o s f count task.now tick.now cost.now at) }
 {
-    let list = check_list(b, count, task, tick, cost);
-    let Checked::Fine = list else {
-        return list;
-    };
+    check_list(b, count, task, tick, cost)?;
     let plan = b.plan;
     if comparison::is_stale(plan.tasks, b.frame, s, f, o) {
-        return Checked::Refused {
-            number: 19,
+        return Err(Refusal {
+            reason: Reason::Stale,
             place: 0,
-        };
+        });
     }
     if is_too_soon(b, count, task, tick, cost, at) {
-        return Checked::Refused {
-            number: 20,
+        return Err(Refusal {
+            reason: Reason::TooSoon,
             place: 0,
-        };
+        });
     }
-    Checked::Fine
+    Ok(())
 }
 
 // Commit: takes an offer, the sheet and frame that it was asked of, the releases since the last commit, and a tick. It puts the new sheet and its choice in force from that
 // tick on, as a new run with no earlier job. A refusal leaves the board.
 pub fn commit(
-    b: Board,
+    b: &mut Board,
     o: Plan,
     s: TaskSet,
-    f: Frame,
+    f: Option<Frame>,
     count: usize,
     task: &[u32],
     tick: &[u64],
     cost: &[u32],
     at: u64,
-) -> Committed
-    ensures answer { board_in result ≡ admission_boards.commit_call (board_view b) (commit_of o s f count task.now tick.now cost.now at) }
-    ensures left { board_view result.board
-        ≡ admission_boards.board_after (board_view b) (commit_of o s f count task.now tick.now cost.now at) }
+) -> Result<(), Refusal>
+    ensures answer { answer_by (refusal_in result) (board_view b.new)
+        ≡ admission_boards.commit_call (board_view b.old) (commit_of o s f count task.now tick.now cost.now at) }
+    ensures left { board_view b.new
+        ≡ admission_boards.board_after (board_view b.old) (commit_of o s f count task.now tick.now cost.now at) }
 {
-    let next = Board {
+    check_commit(*b, o, s, f, count, task, tick, cost, at)?;
+    *b = Board {
         plan: o,
         frame: f,
         last: at,
     };
-    let checked = check_commit(b, o, s, f, count, task, tick, cost, at);
-    let Checked::Fine = checked else {
-        return Committed {
-            answer: checked,
-            board: b,
-        };
-    };
-    Committed {
-        answer: checked,
-        board: next,
-    }
+    Ok(())
 }

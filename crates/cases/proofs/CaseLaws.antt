@@ -1,12 +1,14 @@
 -- A list filled slot by slot, and a column filled from a row of bytes.
-use Prim.Native.Nat.{ℕ, ◌+◌, ◌*◌, ◌/◌, ◌≤◌, ◌<◌, min}
-use mathlib.Core.Path.{◌≡◌, refl, sym, ap, ◌∙◌}
+use Prim.Native.Nat.{ℕ, zero, suc, ◌+◌, ◌*◌, ◌/◌, ◌≤◌, ◌<◌, min}
+use mathlib.Core.Path.{◌≡◌, refl, sym, ap, subst, ◌∙◌}
 use mathlib.Core.List.{List}
 use mathlib.Core.Logic.{dite}
 use native.Mathlib.Decide.{dec_lt}
 use native.Mathlib.Omega.{arith}
-use lib.ListN.{length, set, length-set, drop}
+use lib.ListN.{length, get_or, set, length-set, drop}
 use lib.Seq.{get_or-set_same, get_or-set_other, drop-set-lt, drop-drop}
+use denote.Param.Members.{Mut, Called}
+use Rattle.std.specs.Array.{IsFromFnResult, IsFromFnResultFrom}
 use Rattle.cases.specs.Cases.{Filled, Numbers}
 
 -- one slot more
@@ -15,6 +17,21 @@ filled_next f d n l v h e g i b =
     dite (dec_lt i n)
     (λ x. get_or-set_other l n i v d (λ e. omega arith) ∙ g i x)
     (λ x. let same : i ≡ n = omega arith in rw same (get_or-set_same l n v d h ∙ e))
+
+-- a closure that its calls leave as it was fills a list slot by slot
+module _
+    {F A : Type 0} (g : Mut F (ℕ × Unit {0}) A) (s : F) (f : ℕ → A) (d : A)
+    (same : (i : ℕ) (v : A) (q : F) → Called g s (i, tt) v q → (q ≡ s) × (v ≡ f i)) where
+  filled_from : (l : List A) (i n k : ℕ) (p : F) → p ≡ s → IsFromFnResultFrom g p l i n → i ≤ k → k < i + n → get_or l k d ≡ f k
+  filled_from l i zero k p e m a b = absurd (omega arith)
+  filled_from l i (suc n) k p e m a b =
+      let t = same i m.1 m.0 (subst (λ x. Called g x (i, tt) m.1 m.0) e m.3) in
+      dite (dec_lt i k)
+      (λ x. filled_from l (i + 1) n k m.0 t.0 m.4 (omega arith) (omega arith))
+      (λ x. let is : i ≡ k = omega arith in subst (λ j. get_or l j d ≡ f j) is (m.2.1 d ∙ t.1))
+
+  pub filled_by_calls : (l : List A) (n : ℕ) → IsFromFnResult g s l n → Filled f d n l
+  filled_by_calls l n m = λ k b. filled_from l 0 n k s refl m.each (omega arith) (omega arith)
 
 -- the slots past it hold what they held
 pub rest_next : {A : Type 0} (n : ℕ) (l held : List A) (v : A) → drop n l ≡ drop n held → drop (n + 1) (set l n v) ≡ drop (n + 1) held

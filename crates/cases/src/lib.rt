@@ -3,36 +3,28 @@
 // frame, and a block for each lent slice: what it holds before the call. A number has four bytes, a tick eight.
 #![tactic(auto)]
 
-ghost use Rattle.std.specs.Prelude.{◌+◌, ◌≤◌, ◌<◌, min, ◌≡◌, not, eqb, length, get_or, drop};
+ghost use Rattle.std.specs.Prelude.{◌+◌, ◌≤◌, ◌<◌, ◌≡◌, not, eqb, ◌-◌, length, get_or, take, drop, replicate, is_some};
 ghost use Rattle.io.specs.Counts.{IsPrefixLen};
 ghost use Rattle.cases.specs.Cases.{number_at, tick_at, entry_of, Numbers, SetIn};
 
 use frame::Frame;
-use numbers::{wide, wide_byte};
-use taskset::{Checked, Task, TaskSet};
+use refusal::Refusal;
+use taskset::{Task, TaskSet};
 
 // Standard input.
 const STDIN_FILENO: i32 = 0;
 // Standard output.
 const STDOUT_FILENO: i32 = 1;
 
-// The smaller of a number and a limit.
-fn at_most(n: u32, limit: usize) -> usize
-    ensures { result ≡ min n limit }
-{
-    let m = n as usize;
-    if m < limit { m } else { limit }
-}
-
 // The number of the four bytes from a place on, the low byte first.
 fn number_at(s: &[u8], at: usize) -> u32
     requires { at + 4 ≤ length s.now }
     ensures { result ≡ number_at s.now at }
 {
-    wide_byte(s[at])
-        + 256 * wide_byte(s[at + 1])
-        + 65536 * wide_byte(s[at + 2])
-        + 16777216 * wide_byte(s[at + 3])
+    u32::from(s[at])
+        + 256 * u32::from(s[at + 1])
+        + 65536 * u32::from(s[at + 2])
+        + 16777216 * u32::from(s[at + 3])
 }
 
 // The number of the eight bytes from a place on, the low four first.
@@ -40,7 +32,7 @@ fn tick_at(s: &[u8], at: usize) -> u64
     requires { at + 8 ≤ length s.now }
     ensures { result ≡ tick_at s.now at }
 {
-    wide(number_at(s, at)) + 4294967296 * wide(number_at(s, at + 4))
+    u64::from(number_at(s, at)) + 4294967296 * u64::from(number_at(s, at + 4))
 }
 
 // Reads a block to the start of a buffer, as far as the buffer goes; the answer is how many bytes were read.
@@ -49,7 +41,7 @@ pub fn read_block(out: &mut [u8]) -> usize
 {
     let mut head = [0u8; 4];
     io::read_full(STDIN_FILENO, &mut head);
-    let n = at_most(number_at(&head, 0), out.len());
+    let n = index(number_at(&head, 0)).min(out.len());
     io::read_full(STDIN_FILENO, &mut out[..n])
 }
 
@@ -58,16 +50,11 @@ fn numbers(s: &[u8], out: &mut [u32]) -> usize
     ensures prefix_len { IsPrefixLen result out.new }
     ensures numbers { Numbers 4 number_at s.now out.old result out.new }
 {
-    let n = s.len() / 4;
-    let mut i = 0;
-    while i < n {
-        if i == out.len() {
-            return i;
-        }
+    let n = (s.len() / 4).min(out.len());
+    for i in 0..n {
         out[i] = number_at(s, 4 * i);
-        i += 1;
     }
-    i
+    n
 }
 
 // The ticks of eight bytes in a row of bytes, as many as there are slots for them; the answer is how many.
@@ -75,16 +62,11 @@ fn ticks(s: &[u8], out: &mut [u64]) -> usize
     ensures prefix_len { IsPrefixLen result out.new }
     ensures numbers { Numbers 8 tick_at s.now out.old result out.new }
 {
-    let n = s.len() / 8;
-    let mut i = 0;
-    while i < n {
-        if i == out.len() {
-            return i;
-        }
+    let n = (s.len() / 8).min(out.len());
+    for i in 0..n {
         out[i] = tick_at(s, 8 * i);
-        i += 1;
     }
-    i
+    n
 }
 
 // Reads a block of numbers to the start of a column; the answer is how many were read. The slots past them keep what they held.
@@ -107,8 +89,43 @@ pub fn read_ticks(out: &mut [u64]) -> usize
     ticks(&bytes[..n], out)
 }
 
+// A column of a case: its slots, and how many of them, from the first on, are lent to a call.
+#[derive(Drop)]
+pub struct Column<T, const N: usize> {
+    pub slots: [T; N],
+    pub lent: usize,
+    pub ghost within: { lent ≤ N },
+}
+
+impl<T, const N: usize> Column<T, N> {
+    // The slots that are lent.
+    pub fn as_slice(&self) -> &[T]
+        ensures { result.now ≡ take self.now.lent self.now.slots }
+    {
+        &self.slots[..self.lent]
+    }
+}
+
+// The column in the next block of numbers, as many slots of it as the block has numbers; the others hold 0.
+pub fn lent_column<const N: usize>() -> Column<u32, N>
+    ensures { drop result.lent result.slots ≡ replicate (N - result.lent) 0 }
+{
+    let mut slots = [0u32; N];
+    let lent = read_column(&mut slots);
+    Column { slots, lent }
+}
+
+// The same of a column of ticks.
+pub fn lent_ticks<const N: usize>() -> Column<u64, N>
+    ensures { drop result.lent result.slots ≡ replicate (N - result.lent) 0 }
+{
+    let mut slots = [0u64; N];
+    let lent = read_ticks(&mut slots);
+    Column { slots, lent }
+}
+
 // Reads the label of the next case and prints it; false at the end of the input.
-pub fn next_case() -> bool {
+fn next_case() -> bool {
     let mut label = [0u8; 128];
     let n = read_block(&mut label);
     if n == 0 {
@@ -145,33 +162,20 @@ fn entry(head: &[u32; 168], i: usize) -> Task
 pub fn task_set(head: &[u32; 168]) -> TaskSet
     ensures { SetIn head.now result }
 {
-    let none = Task {
-        period: 0,
-        jitter: 0,
-        cost: 0,
-        deadline: 0,
-        low: false,
-    };
-    let mut tasks = [none; 32];
-    let mut i = 0;
-    while i < 32 {
-        tasks[i] = entry(head, i);
-        i += 1;
-    }
     let charge = (head[5] % 256) as u8;
     TaskSet {
-        tasks: tasks,
+        tasks: std::array::from_fn(|i| entry(head, i)),
         count: index(head[4]),
-        charge: charge,
+        charge,
     }
 }
 
 // The frame of a case: none where the number at 6 is 0, else the one of the next block of numbers, which it reads; numbers past the block's end count as 0.
-pub fn frame_in(head: &[u32; 168]) -> Frame
-    ensures { result.present ≡ not (eqb (get_or head.now 6 0) 0) }
+pub fn frame_in(head: &[u32; 168]) -> Option<Frame>
+    ensures { is_some result ≡ not (eqb (get_or head.now 6 0) 0) }
 {
     if head[6] == 0 {
-        return frame::no_frame();
+        return None;
     }
     let mut row = [0u32; 34];
     read_column(&mut row);
@@ -190,41 +194,39 @@ pub fn print_number(n: u64) {
     io::print_decimal(STDOUT_FILENO, n);
 }
 
-// Prints a blank and a slot of a column, or a stroke for the largest number, which no answer is.
-fn print_slot(v: u32) {
-    if v == 4294967295 {
+// Prints words and the number after them.
+pub fn print_named(words: &[u8], n: u64) {
+    print_words(words);
+    print_number(n);
+}
+
+// Prints a comma.
+pub fn print_comma() {
+    io::write_all(STDOUT_FILENO, b",");
+}
+
+// Prints a blank and a slot, or a stroke for the largest number, which no answer is.
+fn print_slot(v: u64, largest: u64) {
+    if v == largest {
         print_words(b"-");
-        return;
+    } else {
+        print_number(v);
     }
-    print_number(v as u64);
 }
 
 // Prints the slots of a column after a comma.
 pub fn print_column(column: &[u32]) {
-    io::write_all(STDOUT_FILENO, b",");
-    let mut i = 0;
-    while i < column.len() {
-        print_slot(column[i]);
-        i += 1;
+    print_comma();
+    for v in column {
+        print_slot(u64::from(*v), u64::from(u32::MAX));
     }
-}
-
-// Prints a blank and a slot of a column of ticks, or a stroke for the largest number, which no answer is.
-fn print_tick(v: u64) {
-    if v == 18446744073709551615 {
-        print_words(b"-");
-        return;
-    }
-    print_number(v);
 }
 
 // Prints the slots of a column of ticks after a comma.
 pub fn print_ticks(column: &[u64]) {
-    io::write_all(STDOUT_FILENO, b",");
-    let mut i = 0;
-    while i < column.len() {
-        print_tick(column[i]);
-        i += 1;
+    print_comma();
+    for v in column {
+        print_slot(*v, u64::MAX);
     }
 }
 
@@ -234,12 +236,12 @@ pub fn print_half() {
 }
 
 // Prints the numbers of a task after a comma, and the word `low` for a low one.
-fn print_task(t: Task) {
-    io::write_all(STDOUT_FILENO, b",");
-    print_number(t.period as u64);
-    print_number(t.jitter as u64);
-    print_number(t.cost as u64);
-    print_number(t.deadline as u64);
+pub fn print_task(t: Task) {
+    print_comma();
+    print_number(u64::from(t.period));
+    print_number(u64::from(t.jitter));
+    print_number(u64::from(t.cost));
+    print_number(u64::from(t.deadline));
     if t.low {
         print_words(b"low");
     }
@@ -247,47 +249,59 @@ fn print_task(t: Task) {
 
 // Prints an entry of a task set; past the count only one that is not 0 and high.
 fn print_entry(t: Task, inside: bool) {
-    if inside {
-        print_task(t);
-        return;
+    if !inside {
+        if t.period == 0 && t.jitter == 0 && t.cost == 0 && t.deadline == 0 && !t.low {
+            return;
+        }
+        print_words(b"past the count");
     }
-    if t.period == 0 && t.jitter == 0 && t.cost == 0 && t.deadline == 0 && !t.low {
-        return;
-    }
-    print_words(b"past the count");
     print_task(t);
 }
 
 // Prints the count of a task set and its entries.
 pub fn print_task_set(set: TaskSet) {
-    let count = set.count;
-    print_words(b"sheet");
-    print_number(count as u64);
-    let mut i = 0;
-    while i < 32 {
-        let t = set.tasks[i];
-        print_entry(t, i < count);
-        i += 1;
+    print_named(b"sheet", set.count as u64);
+    for i in 0..32 {
+        print_entry(set.tasks[i], i < set.count);
     }
 }
 
+// Prints what is printed of the empty task set: the lines of the calls that return a sheet have it on a refusal.
+pub fn print_no_tasks() {
+    print_named(b"sheet", 0);
+}
+
 // Prints a refusal as the programs do.
-pub fn print_refusal(number: u32, place: usize) {
-    print_words(b"refused");
-    print_number(number as u64);
-    print_words(b"at");
-    print_number(place as u64);
+pub fn print_refusal(r: Refusal) {
+    print_named(b"refused", u64::from(r.reason.number()));
+    print_named(b"at", r.place as u64);
 }
 
 // Prints what a call answers whose results stand in lent columns.
-pub fn print_checked(answer: Checked) {
+pub fn print_checked(answer: Result<(), Refusal>) {
     match answer {
-        Checked::Fine => print_words(b"fine"),
-        Checked::Refused { number, place } => print_refusal(number, place),
+        Ok(()) => print_words(b"fine"),
+        Err(r) => print_refusal(r),
     }
 }
 
 // Ends the line of a case.
-pub fn end_line() {
+fn end_line() {
     io::write_all(STDOUT_FILENO, b"\n");
+}
+
+// Runs case after case up to the end of the input, each given its block of numbers. A proved loop has to end, so it counts its turns, up to a number that no input
+// uses up.
+pub fn run_cases<F: Fn(&[u32; 168])>(case: F)
+    requires { F.IsAlwaysCallable case }
+{
+    for _ in 0..u64::MAX {
+        if !next_case() {
+            return;
+        }
+        let mut head = [0u32; 168];
+        read_column(&mut head);
+        case(&head);
+        end_line();
+    }
 }

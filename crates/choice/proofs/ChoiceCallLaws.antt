@@ -1,7 +1,6 @@
 -- Laws of the call "choice": its refusals 5, 4, 6, 17, 13 and 15, which of the two choices it tells, and its columns.
 use Prim.Native.Nat.{ℕ, ◌≤◌, ◌<◌}
 use mathlib.Core.Path.{◌≡◌, refl, sym, ap, ◌∙◌}
-use mathlib.Core.Bool.{false}
 use mathlib.Core.Option.{Option, some, none}
 use mathlib.Core.List.{List, [], ◌++◌, map, map-map, map-id}
 use native.Mathlib.Omega.{arith}
@@ -9,21 +8,16 @@ use borrow.Author.Tests.{le-leb, lt-leb}
 use lib.ListN.{length, take, drop, length-take}
 use lib.IntN.{pos, nat_abs}
 use Rattle.model.specs.Limits.{max_tasks}
-use Rattle.model.specs.Tasks.{Tasks, with_frame}
-use Rattle.model.specs.Choice.{unfit, chosen, Scope, scope_in, choice_of, scope, choice}
+use Rattle.model.specs.Tasks.{Tasks}
+use Rattle.model.specs.Choice.{unfit, chosen, Scope, choice_of, scope, choice}
 use Rattle.model.specs.Refusal.{Refusal, refuse, Answer, refused, answered}
 use Rattle.model.specs.Checks.{check_tasks, check_slots, check_choice, refusal_of}
 use Rattle.model.specs.Calls.{column_after, unfit_of, choice_inputs, choice_call, kept_column, worst_column}
 use Rattle.model.proofs.CheckLaws.{slots_short, slots_next, slot_of, slots_none, unfit_refused, chosen_passes}
 use Rattle.model.proofs.OrderLaws.{no_single, no_count, no_kept, no_releases, no_unfit, refused_tasks, refused_slots, unfit_decides, accepted_of, accepts, column_kept, column_written}
 use Rattle.model.proofs.OrderLaws as order
-use Rattle.model.proofs.FramedLaws.{framed_refusal}
-use Rattle.taskset.specs.declared.TaskSet.{TaskSet}
-use Rattle.taskset.specs.TaskSet.{view_of}
-use Rattle.frame.specs.declared.Frame.{Frame}
-use Rattle.frame.specs.FrameView.{given, windows_of, frame_of, framed_of}
 use Rattle.choice.specs.declared.Decision.{Decision}
-use Rattle.choice.specs.Choices.{choice_in, DecisionIs, room_inputs}
+use Rattle.choice.specs.Choices.{extent_in, choice_in, DecisionIs, room_inputs}
 
 -- an answer of n numbers that is written in front of what the slots past it held
 written : (n : ℕ) (o : Option Refusal) (a answer held : List ℕ) → none ≡ o → a ≡ answer → length a ≡ n → a ++ drop n held ≡ column_after o answer held
@@ -59,14 +53,6 @@ module _ (s : Tasks) (kept worst : ℕ) where
 
   pub room_long : none ≡ refusal_of (room_inputs s kept worst) → (s.count ≤ kept) × (s.count ≤ worst)
   room_long h = let e = slot_of _ _ (accepted_of _ h).lent in (e.0, (slot_of _ _ e.1).0)
-
--- the same on a sheet with a frame: once it has passed, the checks that follow are those without the frame
-module _ (s : TaskSet) (f : Frame) (kept worst : ℕ) where
-  pub room_framed : none ≡ check_tasks (framed_of s f) → refusal_of (room_inputs (view_of s) kept worst) ≡ refusal_of (room_inputs (framed_of s f) kept worst)
-  room_framed h = framed_refusal (frame_of f) (view_of s) none none _ none [] none h
-
-  pub room_absent : f.present ≡ false → refusal_of (room_inputs (view_of s) kept worst) ≡ refusal_of (room_inputs (framed_of s f) kept worst)
-  room_absent e = ap (λ b. refusal_of (room_inputs (with_frame (given b (windows_of f)) (view_of s)) kept worst)) (sym e)
 
 module _ (s : Tasks) (kept worst : List ℕ) where
   -- what is refused before a choice is made is what the call refuses
@@ -125,7 +111,7 @@ module _ (s : Tasks) (kept worst : List ℕ) where
           → s.count ≤ max_tasks
           → k ≡ take s.count r.choices.keep ++ drop s.count kept
           → w ≡ take s.count r.choices.worst ++ drop s.count worst
-          → Answers (answered (scope_in r.partial)) k w
+          → Answers (answered (extent_in r.extent)) k w
       unfolding kept_column worst_column choice_call
       answers k w b few ek ew = (
         ap answered d.told ∙ order.answers (choice_inputs s kept worst) (scope s) passed,

@@ -1,8 +1,9 @@
 -- The loop over the tasks that makes the choice.
+use Rattle.std.specs.Prelude as std
 use Prim.Native.Nat.{ℕ, suc, ◌+◌, ◌*◌, ◌≤◌, ◌<◌}
 use mathlib.Core.Path.{◌≡◌, refl, sym, ap, ◌∙◌}
 use mathlib.Core.Logic.{dite}
-use mathlib.Core.Bool.{Bool, ◌&&◌}
+use mathlib.Core.Bool.{Bool}
 use mathlib.Core.Option.{Option}
 use mathlib.Core.List.{List, [], ◌∷◌, map, map-append}
 use native.Mathlib.Omega.{arith}
@@ -17,38 +18,38 @@ use Rattle.model.specs.Limits.{max_tasks, max_time}
 use Rattle.model.specs.Frame.{Frame}
 use Rattle.model.specs.Tasks.{with_frame, InRange, Valid, load}
 use Rattle.model.specs.SameTasks.{SameFrame}
-use Rattle.model.specs.Choice.{column, and_keep, unfit, chosen, scope_in, choice_of}
+use Rattle.model.specs.Choice.{column, and_keep, unfit, chosen, choice_of}
 use Rattle.model.proofs.SeriesLaws.{sum_eq}
 use Rattle.model.proofs.FrameLaws.{frame_itself}
 use Rattle.model.proofs.ChargeLaws.{absorbed_valid}
 use Rattle.taskset.specs.declared.TaskSet.{TaskSet}
 use Rattle.taskset.specs.TaskSet.{view_of}
 use Rattle.demand.specs.Columns.{Small, Copied}
-use Rattle.keeping.specs.declared.Least.TheVariants.{Keep, Unfit}
-use Rattle.keeping.specs.Keeping.{Flat, Walkable}
-use Rattle.choice.specs.Choices.{KeepOf, evaluations_for, choice_in, ChoicesAre}
+use Rattle.keeping.specs.Keeping.{kept_at, Flat, Walkable}
+use Rattle.choice.specs.declared.Extent.{Extent}
+use Rattle.choice.specs.Choices.{extent_in, spares, KeepOf, evaluations_for, choice_in, ChoicesAre}
 use Rattle.choice.proofs.NextChoiceLaws.{choice_start, next_keep, next_unfit, unfit_stays, judged_unspared, for_kept, NextIs, found_keep, found_none}
 
 -- a slot set, and those past it kept
 past_next : (l : List ℕ) (i v : ℕ) → ((m : ℕ) → i ≤ m → m < max_tasks → column l m ≡ 0) → (m : ℕ) → i + 1 ≤ m → m < max_tasks → column (set l i v) m ≡ 0
 past_next l i v g m k h = get_or-set_other l i m v 0 (λ e. omega arith) ∙ g m (omega arith) h
 
--- the choice of the tasks above i is made, b saying whether it is that of the high ones alone, with n evaluations; so it is on the sheet with any frame like o
-pub record Choosing (b : Bool) (s : TaskSet) (o : Option Frame) (loads periods keep worst : List ℕ) (n i : ℕ) : Type 0 where
+-- the choice of the tasks above i is made, x saying which tasks it judges, with n evaluations; so it is on the sheet with any frame like o
+pub record Choosing (x : Extent) (s : TaskSet) (o : Option Frame) (loads periods keep worst : List ℕ) (n i : ℕ) : Type 0 where
   pub valid : Valid (view_of s)
   pub within : i ≤ s.count
   pub copied : Copied s s.count loads periods
   pub keep_long : length keep ≡ max_tasks
   pub worst_long : length worst ≡ max_tasks
   pub kept_small : (m : ℕ) → m < i → column keep m ≤ max_time
-  pub so_far : (p : Option Frame) → SameFrame o p → choice_of (scope_in b) (with_frame p (view_of s)) i ≡ chosen (take i keep) (map pos (take i worst))
+  pub so_far : (p : Option Frame) → SameFrame o p → choice_of (extent_in x) (with_frame p (view_of s)) i ≡ chosen (take i keep) (map pos (take i worst))
   pub keep_past : (m : ℕ) → i ≤ m → m < max_tasks → column keep m ≡ 0
   pub worst_past : (m : ℕ) → i ≤ m → m < max_tasks → column worst m ≡ 0
-  pub counted : (p : Option Frame) → SameFrame o p → n ≡ sum (λ j. evaluations_for (scope_in b) (with_frame p (view_of s)) (column keep) j) i
+  pub counted : (p : Option Frame) → SameFrame o p → n ≡ sum (λ j. evaluations_for (extent_in x) (with_frame p (view_of s)) (column keep) j) i
   pub few : n ≤ i * 100000020000001
 
-module _ (b : Bool) (s : TaskSet) (o : Option Frame) (loads periods : List ℕ) where
-  pub choosing_none : Valid (view_of s) → Copied s s.count loads periods → Choosing b s o loads periods (replicate max_tasks 0) (replicate max_tasks 0) 0 0
+module _ (x : Extent) (s : TaskSet) (o : Option Frame) (loads periods : List ℕ) where
+  pub choosing_none : Valid (view_of s) → Copied s s.count loads periods → Choosing x s o loads periods (replicate max_tasks 0) (replicate max_tasks 0) 0 0
   unfolding sum
   choosing_none v c = record {
     valid = v;
@@ -57,14 +58,14 @@ module _ (b : Bool) (s : TaskSet) (o : Option Frame) (loads periods : List ℕ) 
     keep_long = refl;
     worst_long = refl;
     kept_small = λ m l. absurd (omega arith);
-    so_far = λ p e. choice_start (scope_in b) (with_frame p (view_of s));
+    so_far = λ p e. choice_start (extent_in x) (with_frame p (view_of s));
     keep_past = λ m l h. get_or-replicate max_tasks m 0 0 h;
     worst_past = λ m l h. get_or-replicate max_tasks m 0 0 h;
     counted = λ p e. refl;
     few = omega arith;
   }
 
-  module _ (keep worst : List ℕ) (n i : ℕ) (f : Choosing b s o loads periods keep worst n i) where
+  module _ (keep worst : List ℕ) (n i : ℕ) (f : Choosing x s o loads periods keep worst n i) where
     module _ (l : i < s.count) where
       small : (m : ℕ) → m < i → Small (column loads m) (column periods m) (column keep m)
       small m h =
@@ -119,11 +120,11 @@ module _ (b : Bool) (s : TaskSet) (o : Option Frame) (loads periods : List ℕ) 
       pub choosing_unfit : (p : Option Frame)
           → SameFrame o p
           → (spared : Bool)
-          → spared ≡ (b && (view_of s).low i)
-          → KeepOf spared o loads periods keep i ((view_of s).jitter i) ((view_of s).deadline i) Unfit
-          → ChoicesAre (scope_in b) (with_frame p (view_of s)) (record { keep = keep; worst = worst; fitted = i; evaluations = n })
+          → spared ≡ spares x ((view_of s).low i)
+          → KeepOf spared o loads periods keep i ((view_of s).jitter i) ((view_of s).deadline i) std.None
+          → ChoicesAre (extent_in x) (with_frame p (view_of s)) (record { keep = keep; worst = worst; fitted = i; evaluations = n })
       choosing_unfit p e spared d h = record {
-        is = rw (choice_in, lt-leb s.count i l) (sym (unfit_stays (scope_in b) (with_frame p (view_of s)) i (suc i) s.count l unfit_here));
+        is = rw (choice_in, lt-leb s.count i l) (sym (unfit_stays (extent_in x) (with_frame p (view_of s)) i (suc i) s.count l unfit_here));
         within = f.within;
         so_far = f.so_far p e;
         keep_past = f.keep_past;
@@ -133,35 +134,35 @@ module _ (b : Bool) (s : TaskSet) (o : Option Frame) (loads periods : List ℕ) 
         counted = f.counted p e;
       }
         where
-          unfit_here : choice_of (scope_in b) (with_frame p (view_of s)) (suc i) ≡ unfit i
+          unfit_here : choice_of (extent_in x) (with_frame p (view_of s)) (suc i) ≡ unfit i
           unfit_here =
-              next_unfit (scope_in b) (with_frame p (view_of s)) i _ _ (f.so_far p e)
-              (found_none (scope_in b) (with_frame p (view_of s)) o loads periods keep i _ _ (flat_view p e) spared
-              (judged_unspared b (with_frame p (view_of s)) i spared d) h)
+              next_unfit (extent_in x) (with_frame p (view_of s)) i _ _ (f.so_far p e)
+              (found_none (extent_in x) (with_frame p (view_of s)) o loads periods keep i _ _ (flat_view p e) spared
+              (judged_unspared x (with_frame p (view_of s)) i spared d) h)
 
       -- a task with a kept jitter
       next_is : (p : Option Frame)
           → SameFrame o p
           → (spared : Bool) (K w q m : ℕ)
-          → spared ≡ (b && (view_of s).low i)
-          → KeepOf spared o loads periods keep i ((view_of s).jitter i) ((view_of s).deadline i) (Keep K w q m)
-          → NextIs (scope_in b) (with_frame p (view_of s)) (take i keep) i K w m
+          → spared ≡ spares x ((view_of s).low i)
+          → KeepOf spared o loads periods keep i ((view_of s).jitter i) ((view_of s).deadline i) (kept_at K w q m)
+          → NextIs (extent_in x) (with_frame p (view_of s)) (take i keep) i K w m
       next_is p e spared K w q m d h =
-          found_keep (scope_in b) (with_frame p (view_of s)) o loads periods keep i _ _ (flat_view p e) spared K w q m
-          (judged_unspared b (with_frame p (view_of s)) i spared d) h
+          found_keep (extent_in x) (with_frame p (view_of s)) o loads periods keep i _ _ (flat_view p e) spared K w q m
+          (judged_unspared x (with_frame p (view_of s)) i spared d) h
 
       -- the evaluations with those of task i stay far below 64 bits
       pub choosing_few : (spared : Bool) (K w q m : ℕ)
-          → spared ≡ (b && (view_of s).low i)
-          → KeepOf spared o loads periods keep i ((view_of s).jitter i) ((view_of s).deadline i) (Keep K w q m)
+          → spared ≡ spares x ((view_of s).low i)
+          → KeepOf spared o loads periods keep i ((view_of s).jitter i) ((view_of s).deadline i) (kept_at K w q m)
           → n + m ≤ (i + 1) * 100000020000001
       choosing_few spared K w q m d h = omega (arith, f.few, (next_is o (frame_itself o) spared K w q m d h).small)
 
       -- one task more
       pub choosing_next : (spared : Bool) (K w q m : ℕ)
-          → spared ≡ (b && (view_of s).low i)
-          → KeepOf spared o loads periods keep i ((view_of s).jitter i) ((view_of s).deadline i) (Keep K w q m)
-          → Choosing b s o loads periods (set keep i K) (set worst i w) (n + m) (i + 1)
+          → spared ≡ spares x ((view_of s).low i)
+          → KeepOf spared o loads periods keep i ((view_of s).jitter i) ((view_of s).deadline i) (kept_at K w q m)
+          → Choosing x s o loads periods (set keep i K) (set worst i w) (n + m) (i + 1)
       unfolding sum
       choosing_next spared K w q m d h = record {
         valid = f.valid;
@@ -177,7 +178,7 @@ module _ (b : Bool) (s : TaskSet) (o : Option Frame) (loads periods : List ℕ) 
         few = choosing_few spared K w q m d h;
       }
         where
-          is : (p : Option Frame) → SameFrame o p → NextIs (scope_in b) (with_frame p (view_of s)) (take i keep) i K w m
+          is : (p : Option Frame) → SameFrame o p → NextIs (extent_in x) (with_frame p (view_of s)) (take i keep) i K w m
           is p e = next_is p e spared K w q m d h
 
           keep_there : i < length keep
@@ -194,21 +195,21 @@ module _ (b : Bool) (s : TaskSet) (o : Option Frame) (loads periods : List ℕ) 
           kept_to j g = ap (λ (l : List ℕ). column l j) (sym (take-suc-set keep i K keep_there)) ∙ get_or-take (suc i) (set keep i K) j 0 (omega arith)
 
           so_far_next : (p : Option Frame) → SameFrame o p
-              → choice_of (scope_in b) (with_frame p (view_of s)) (i + 1) ≡ chosen (take (i + 1) (set keep i K)) (map pos (take (i + 1) (set worst i w)))
+              → choice_of (extent_in x) (with_frame p (view_of s)) (i + 1) ≡ chosen (take (i + 1) (set keep i K)) (map pos (take (i + 1) (set worst i w)))
           so_far_next p e =
               rw (add-one, take-suc-set keep i K keep_there, take-suc-set worst i w worst_there, map-append pos (take i worst) (w ∷ []))
-              (next_keep (scope_in b) (with_frame p (view_of s)) i K (pos w) _ _ (f.so_far p e) (is p e).keep (is p e).worst)
+              (next_keep (extent_in x) (with_frame p (view_of s)) i K (pos w) _ _ (f.so_far p e) (is p e).keep (is p e).worst)
 
           counted_next : (p : Option Frame) → SameFrame o p
-              → n + m ≡ sum (λ j. evaluations_for (scope_in b) (with_frame p (view_of s)) (column (set keep i K)) j) (suc i)
+              → n + m ≡ sum (λ j. evaluations_for (extent_in x) (with_frame p (view_of s)) (column (set keep i K)) j) (suc i)
           counted_next p e = omega (
             arith,
             f.counted p e,
-            sum_eq (λ j. evaluations_for (scope_in b) (with_frame p (view_of s)) (column keep) j)
-                (λ j. evaluations_for (scope_in b) (with_frame p (view_of s)) (column (set keep i K)) j) i
-                (λ j g. for_kept (scope_in b) (with_frame p (view_of s)) (column keep) (column (set keep i K)) j (λ x y. kept_before x (omega arith))),
+            sum_eq (λ j. evaluations_for (extent_in x) (with_frame p (view_of s)) (column keep) j)
+                (λ j. evaluations_for (extent_in x) (with_frame p (view_of s)) (column (set keep i K)) j) i
+                (λ j g. for_kept (extent_in x) (with_frame p (view_of s)) (column keep) (column (set keep i K)) j (λ b y. kept_before b (omega arith))),
             (is p e).counted,
-            for_kept (scope_in b) (with_frame p (view_of s)) (and_keep (take i keep) K) (column (set keep i K)) i kept_to,
+            for_kept (extent_in x) (with_frame p (view_of s)) (and_keep (take i keep) K) (column (set keep i K)) i kept_to,
           )
 
           small_next : (m : ℕ) → m < i + 1 → column (set keep i K) m ≤ max_time
@@ -221,7 +222,7 @@ module _ (b : Bool) (s : TaskSet) (o : Option Frame) (loads periods : List ℕ) 
 
     -- every task has a kept jitter
     pub choosing_all : (p : Option Frame) → SameFrame o p → s.count ≤ i
-        → ChoicesAre (scope_in b) (with_frame p (view_of s)) (record { keep = keep; worst = worst; fitted = s.count; evaluations = n })
+        → ChoicesAre (extent_in x) (with_frame p (view_of s)) (record { keep = keep; worst = worst; fitted = s.count; evaluations = n })
     choosing_all p a h =
         let e : i ≡ s.count = omega arith in
         record {

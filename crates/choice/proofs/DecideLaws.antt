@@ -14,6 +14,7 @@ use Rattle.model.specs.Choice.{column, unfit, chosen, ordinary, high_only, judge
 use Rattle.model.proofs.SeriesLaws.{sum_eq, below_suc}
 use Rattle.model.proofs.MarkLaws.{high_same}
 use Rattle.choice.specs.declared.Choices.{Choices}
+use Rattle.choice.specs.declared.Extent.TheVariants.{All, HighOnly}
 use Rattle.choice.specs.Choices.{evaluations_for, choice_in, ChoicesAre, any_low, DecisionIs}
 use Rattle.choice.proofs.NextChoiceLaws.{unfit_stays, unfit_first}
 
@@ -66,7 +67,7 @@ high_counted s k i e = rw (evaluations_for, judges, e)
 
 module _ (s : Tasks) (r : Choices) (f : ChoicesAre ordinary s r) where
   -- every task fits: the ordinary choice is the answer
-  pub decided_first : s.count ≤ r.fitted → DecisionIs s (record { choices = r; partial = false })
+  pub decided_first : s.count ≤ r.fitted → DecisionIs s (record { choices = r; extent = All })
   unfolding scope_after
   decided_first l =
       let e : choice_of ordinary s s.count ≡ chosen (take s.count r.keep) (map pos (take s.count r.worst)) =
@@ -82,11 +83,11 @@ module _ (s : Tasks) (r : Choices) (f : ChoicesAre ordinary s r) where
     second = sym (ap scope_after ends)
 
     -- it ends in 15: the other one is
-    pub decided_second : (o : Choices) → ChoicesAre high_only s o → DecisionIs s (record { choices = o; partial = true })
+    pub decided_second : (o : Choices) → ChoicesAre high_only s o → DecisionIs s (record { choices = o; extent = HighOnly })
     decided_second o g = record { told = second; choices = g }
 
     -- without a low task down to the one that fits at no K both are the same
-    pub decided_same : any_low s.low (r.fitted + 1) ≡ false → DecisionIs s (record { choices = r; partial = true })
+    pub decided_same : any_low s.low (r.fitted + 1) ≡ false → DecisionIs s (record { choices = r; extent = HighOnly })
     decided_same h = decided_second r (record {
       is = rw (choice_in, lt-leb s.count r.fitted l) (sym stays);
       within = f.within;

@@ -3,5 +3,4 @@ pub mod ChoiceCallLaws
 pub mod NextChoiceLaws
 pub mod ChoosingLaws
 pub mod DecideLaws
-pub mod CopyLaws
 pub mod PlannedLaws

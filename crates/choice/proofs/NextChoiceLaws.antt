@@ -1,8 +1,9 @@
 -- Laws of a choice: one task more, judged or spared, and what a choice of n tasks holds.
+use Rattle.std.specs.Prelude as std
 use Prim.Native.Nat.{ℕ, zero, suc, ◌≤◌}
 use mathlib.Core.Path.{◌≡◌, refl, sym, ap, ◌∙◌}
 use mathlib.Core.Logic.{⊎_elim}
-use mathlib.Core.Bool.{Bool, true, false, not, ◌&&◌}
+use mathlib.Core.Bool.{Bool, true, false, not}
 use mathlib.Core.Option.{Option, some, none}
 use mathlib.Core.List.{List, [], ◌∷◌, ◌++◌}
 use native.Mathlib.Omega.{arith}
@@ -11,13 +12,14 @@ use lib.ListN.{take}
 use lib.IntN.{ℤ, pos}
 use Rattle.model.specs.Frame.{Frame}
 use Rattle.model.specs.Tasks.{Tasks}
-use Rattle.model.specs.Choice.{and_keep, Choice, unfit, chosen, Scope, scope_in, judges, keep_for, worst_for, choice_next, choice_of}
+use Rattle.model.specs.Choice.{and_keep, Choice, unfit, chosen, Scope, judges, keep_for, worst_for, choice_next, choice_of}
 use Rattle.model.proofs.SameVerdict.{evaluations_kept}
 use Rattle.response.proofs.ChoiceLaws.{keep_judged, keep_left_out, worst_judged, worst_left_out, least_keep_lem}
 use Rattle.keeping.specs.declared.Least.{Least}
-use Rattle.keeping.specs.declared.Least.TheVariants.{Keep, Unfit}
-use Rattle.keeping.specs.Keeping.{Flat, KeepIs, LeastOf}
-use Rattle.choice.specs.Choices.{KeepOf, evaluations_for}
+use Rattle.keeping.specs.Keeping.{kept_at, Flat, KeepIs, LeastOf}
+use Rattle.choice.specs.declared.Extent.{Extent}
+use Rattle.choice.specs.declared.Extent.TheVariants.{All, HighOnly}
+use Rattle.choice.specs.Choices.{extent_in, spares, KeepOf, evaluations_for}
 
 module _ (c : Scope) (s : Tasks) where
   -- before the first task
@@ -63,10 +65,10 @@ module _ (c : Scope) (s : Tasks) where
           found (some K) g d = let w = rw (choice_next, g) at d in let z : ◌≡◌ {A = ℕ} 0 1 = cc in absurd (omega arith)
 
 -- a task is spared where it is low and the high ones alone are judged
-pub judged_unspared : (b : Bool) (s : Tasks) (i : ℕ) (spared : Bool) → spared ≡ (b && s.low i) → judges (scope_in b) s i ≡ not spared
+pub judged_unspared : (x : Extent) (s : Tasks) (i : ℕ) (spared : Bool) → spared ≡ spares x (s.low i) → judges (extent_in x) s i ≡ not spared
 unfolding judges
-judged_unspared true s i spared e = ap not (sym e)
-judged_unspared false s i spared e = ap not (sym e)
+judged_unspared HighOnly s i spared e = ap not (sym e)
+judged_unspared All s i spared e = ap not (sym e)
 
 -- the evaluations of a task depend on the kept jitters down to it
 pub for_kept
@@ -108,22 +110,20 @@ module _ (c : Scope) (s : Tasks) (above : List ℕ) (i : ℕ) where
 
 -- what is answered of a task that is spared, and of one that is not
 module _ (o : Option Frame) (loads periods keeps : List ℕ) (i J D : ℕ) (spared : Bool) where
-  pub spared_is : spared ≡ true → KeepOf spared o loads periods keeps i J D (Keep 0 0 0 0)
+  pub spared_is : spared ≡ true → KeepOf spared o loads periods keeps i J D (kept_at 0 0 0 0)
   spared_is e = rw e refl
 
-  pub unspared_is : (r : Least) → spared ≡ false → LeastOf o loads periods keeps i J D r → KeepOf spared o loads periods keeps i J D r
+  pub unspared_is : (r : std.Option Least) → spared ≡ false → LeastOf o loads periods keeps i J D r → KeepOf spared o loads periods keeps i J D r
   unspared_is r e h = rw e h
 
 -- what is found of a task of a sheet with these columns, whether it is spared or not
 module _ (c : Scope) (s : Tasks) (o : Option Frame) (loads periods keeps : List ℕ) (i J D : ℕ) (flat : Flat s o loads periods i J D) where
-  pub found_keep : (spared : Bool) (K w q m : ℕ) → judges c s i ≡ not spared → KeepOf spared o loads periods keeps i J D (Keep K w q m) → NextIs c s (take i keeps) i K w m
+  pub found_keep : (spared : Bool) (K w q m : ℕ) → judges c s i ≡ not spared → KeepOf spared o loads periods keeps i J D (kept_at K w q m) → NextIs c s (take i keeps) i K w m
   found_keep true K w q m j h =
-      let a : K ≡ 0 = cc in
-      let b : w ≡ 0 = cc in
-      let d : m ≡ 0 = cc in
-      rw (a, b, d) (left_out_next c s (take i keeps) i j)
+      let e : ◌≡◌ {A = Least} (record { keep = K; worst = w; last = q; evaluations = m }) (record { keep = 0; worst = 0; last = 0; evaluations = 0 }) = cc in
+      rw (ap (λ (l : Least). l.keep) e, ap (λ (l : Least). l.worst) e, ap (λ (l : Least). l.evaluations) e) (left_out_next c s (take i keeps) i j)
   found_keep false K w q m j h = judged_next c s (take i keeps) i K w q m j (h s flat)
 
-  pub found_none : (spared : Bool) → judges c s i ≡ not spared → KeepOf spared o loads periods keeps i J D Unfit → keep_for c s (take i keeps) i ≡ none
+  pub found_none : (spared : Bool) → judges c s i ≡ not spared → KeepOf spared o loads periods keeps i J D std.None → keep_for c s (take i keeps) i ≡ none
   found_none true j h = let z : ◌≡◌ {A = ℕ} 0 1 = cc in absurd (omega arith)
   found_none false j h = keep_judged c s (take i keeps) i j ∙ h s flat

@@ -1,25 +1,37 @@
 -- What the functions of this crate take and answer.
-use Rattle.std.specs.Prelude.{ℕ, zero, suc, ◌≤◌, ◌<◌, ◌≡◌, Bool, true, false, ◌||◌, List, [], ◌∷◌, map, leb, length, take, pos}
+use Rattle.std.specs.Prelude as std
+use Rattle.std.specs.Prelude.{ℕ, zero, suc, ◌≤◌, ◌<◌, ◌≡◌, Bool, true, false, ◌||◌, List, [], ◌∷◌, map, leb, length, take, pos, Result}
 use Rattle.std.proofs.Math.Option.{Option, none}
 use Rattle.model.specs.Series.{sum}
 use Rattle.model.specs.Limits.{max_tasks}
 use Rattle.model.specs.Frame.{Frame}
 use Rattle.model.specs.Tasks.{Tasks}
 use Rattle.model.specs.Evaluations.{evaluations}
-use Rattle.model.specs.Choice.{column, Choice, unfit, chosen, Scope, ordinary, high_only, scope_in, judges, choice_of, scope}
-use Rattle.model.specs.Refusal.{Answer, refused, answered}
+use Rattle.model.specs.Choice.{column, Choice, unfit, chosen, Scope, ordinary, high_only, judges, choice_of, scope}
+use Rattle.model.specs.Refusal.{Answer}
 use Rattle.model.specs.Checks.{Inputs}
+use Rattle.refusal.specs.declared.Refusal.{Refusal}
+use Rattle.refusal.specs.Refusal.{answer_in}
 use Rattle.keeping.specs.declared.Least.{Least}
-use Rattle.keeping.specs.declared.Least.TheVariants.{Keep}
-use Rattle.keeping.specs.Keeping.{LeastOf}
+use Rattle.keeping.specs.Keeping.{kept_at, LeastOf}
 use Rattle.choice.specs.declared.Choices.{Choices}
 use Rattle.choice.specs.declared.Decision.{Decision}
-use Rattle.choice.specs.declared.ChoiceAnswer.{ChoiceAnswer}
-use Rattle.choice.specs.declared.ChoiceAnswer.TheVariants.{Ordinary, HighOnly, Refused}
+use Rattle.choice.specs.declared.Extent.{Extent}
+use Rattle.choice.specs.declared.Extent.TheVariants.{All, HighOnly}
+
+-- which tasks a choice judges, as the definitions have it
+abbrev pub extent_in : Extent → Scope
+extent_in All = ordinary
+extent_in HighOnly = high_only
+
+-- a task is spared, that is, not judged: a low one, where the high ones alone are judged
+abbrev pub spares : Extent → Bool → Bool
+spares All low = false
+spares HighOnly low = low
 
 -- the least kept jitter of a task that may be spared, that is, not judged: then 0, with the worst value 0 and no evaluation
-abbrev pub KeepOf : Bool → Option Frame → List ℕ → List ℕ → List ℕ → ℕ → ℕ → ℕ → Least → Type 0
-KeepOf true o loads periods keeps i J D r = r ≡ Keep 0 0 0 0
+abbrev pub KeepOf : Bool → Option Frame → List ℕ → List ℕ → List ℕ → ℕ → ℕ → ℕ → std.Option Least → Type 0
+KeepOf true o loads periods keeps i J D r = r ≡ kept_at 0 0 0 0
 KeepOf false o loads periods keeps i J D r = LeastOf o loads periods keeps i J D r
 
 -- the evaluations of a task in a choice: those of its verdict, and none where it is not judged
@@ -49,8 +61,8 @@ any_low low (suc n) = any_low low n || low n
 
 -- the choice that is the answer, and which of the two it is
 pub record DecisionIs (s : Tasks) (r : Decision) : Type 0 where
-  pub told : scope_in r.partial ≡ scope s
-  pub choices : ChoicesAre (scope_in r.partial) s r.choices
+  pub told : extent_in r.extent ≡ scope s
+  pub choices : ChoicesAre (extent_in r.extent) s r.choices
 
 -- what is checked before a choice is made, given the slots of its columns
 abbrev pub room_inputs : Tasks → ℕ → ℕ → Inputs
@@ -65,7 +77,5 @@ room_inputs s kept worst = record {
 }
 
 -- an answer as the definitions have it
-unfoldable pub scope_told : ChoiceAnswer → Answer Scope
-scope_told Ordinary = answered ordinary
-scope_told HighOnly = answered high_only
-scope_told (Refused n p) = refused (record { number = n; place = p })
+unfoldable pub scope_told : Result Extent Refusal → Answer Scope
+scope_told = answer_in extent_in

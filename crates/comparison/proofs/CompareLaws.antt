@@ -1,20 +1,20 @@
 -- Laws of the comparisons: conjunctions one test at a time, and loops that look for a difference.
 use Prim.Native.Nat.{ℕ, ◌≤◌, ◌<◌}
 use mathlib.Core.Path.{◌≡◌, refl, sym, ap, ◌∙◌}
-use mathlib.Core.Bool.{Bool, true, false, not, ◌&&◌}
+use mathlib.Core.Bool.{Bool, true, false, beq, not, ◌&&◌}
 use mathlib.Core.Option.{Option, some, none}
 use mathlib.Core.List.{List}
 use native.Mathlib.Omega.{arith}
-use borrow.Author.Tests.{eq-eqb, ne_eqb, le-leb, lt-leb}
+use borrow.Author.Tests.{eq-eqb, ne_eqb, le-leb, lt-leb, not-true, not-false}
 use lib.Dec.{eqb, leb}
-use lib.ListN.{length, take}
-use lib.Seq.{length-take-le, get_or-take}
+use lib.Pointwise.{pointwise}
+use Rattle.std.specs.Cmp.Lexicographic.{same_text, other_text}
+use Rattle.taskset.specs.declared.Task.{Task}
+use Rattle.plan.specs.PlanView.{task_entry}
 use Rattle.model.specs.Search.{first}
-use Rattle.model.specs.Choice.{column}
-use Rattle.model.proofs.SearchLaws.{first_eq, first_found, Sought, sought_here, sought_all}
-use Rattle.admission.specs.Offers.{Entry}
+use Rattle.model.proofs.SearchLaws.{first_found, Sought, sought_here, sought_all}
 use Rattle.admission.specs.Boards.{nowhere, or_end, same_mark, same_entry, same_column}
-use Rattle.admission.proofs.SameLaws.{nowhere_none, nowhere_some}
+use Rattle.admission.proofs.SameLaws.{nowhere_none, nowhere_some, column_of, column_yes}
 
 -- a conjunction whose first part fails, and one whose first part holds
 pub and_no : (a b : Bool) → a ≡ false → false ≡ (a && b)
@@ -56,63 +56,44 @@ module _ (test : ℕ → Bool) (n : ℕ) where
       go (some i) h =
           ap (leb n) (e ∙ ap (or_end n) h) ∙ lt-leb n i (omega (arith, (first_found test n 0 i h).high)) ∙ sym (nowhere_some test n i h)
 
--- tasks, one field after the other
-module _ (a b : Entry) where
-  pub period_differs : (a.period ≡ b.period → ⊥) → false ≡ same_entry a b
-  unfolding same_entry
-  period_differs h = rw (same_entry, ne_eqb a.period b.period h)
+-- marks
+pub mark_same : (a b : Bool) → beq a b ≡ same_mark a b
+unfolding same_mark
+mark_same true true = refl
+mark_same true false = refl
+mark_same false true = refl
+mark_same false false = refl
 
-  module _ (p : a.period ≡ b.period) where
-    pub jitter_differs : (a.jitter ≡ b.jitter → ⊥) → false ≡ same_entry a b
-    unfolding same_entry
-    jitter_differs h = rw (same_entry, eq-eqb a.period b.period p, ne_eqb a.jitter b.jitter h)
+-- two columns
+pub column_same : (a b : List ℕ) → pointwise eqb a b ≡ same_column a b
+column_same a b = go (pointwise eqb a b) (same_column a b) refl refl
+  where
+    go : (x y : Bool) → pointwise eqb a b ≡ x → same_column a b ≡ y → x ≡ y
+    go true true e f = refl
+    go false false e f = refl
+    go true false e f = sym (column_yes a b (same_text a b (sym e))) ∙ f
+    go false true e f = absurd (other_text a b (sym e) (column_of a b f))
 
-    module _ (j : a.jitter ≡ b.jitter) where
-      pub cost_differs : (a.cost ≡ b.cost → ⊥) → false ≡ same_entry a b
-      unfolding same_entry
-      cost_differs h = rw (same_entry, eq-eqb a.period b.period p, eq-eqb a.jitter b.jitter j, ne_eqb a.cost b.cost h)
+-- by a test of them
+module _ (a b : List ℕ) (r : Bool) (e : r ≡ not (pointwise eqb a b)) where
+  pub columns_differ : r ≡ true → same_column a b ≡ false
+  columns_differ h = sym (column_same a b) ∙ not-true _ (sym e ∙ h)
 
-      module _ (c : a.cost ≡ b.cost) where
-        pub deadline_differs : (a.deadline ≡ b.deadline → ⊥) → false ≡ same_entry a b
-        unfolding same_entry
-        deadline_differs h =
-            rw (
-              same_entry,
-              eq-eqb a.period b.period p,
-              eq-eqb a.jitter b.jitter j,
-              eq-eqb a.cost b.cost c,
-              ne_eqb a.deadline b.deadline h,
-            )
+  pub columns_agree : r ≡ false → same_column a b ≡ true
+  columns_agree h = sym (column_same a b) ∙ not-false _ (sym e ∙ h)
 
-        pub mark_decides : a.deadline ≡ b.deadline → same_mark a.low b.low ≡ same_entry a b
-        unfolding same_entry
-        mark_decides d =
-            rw (
-              same_entry,
-              eq-eqb a.period b.period p,
-              eq-eqb a.jitter b.jitter j,
-              eq-eqb a.cost b.cost c,
-              eq-eqb a.deadline b.deadline d,
-            )
-
--- the first n numbers of two columns
-pub unlike_in : List ℕ → List ℕ → ℕ → Bool
-unlike_in a b i = not (eqb (column a i) (column b i))
-
-pub unlike_yes : (a b : List ℕ) (i : ℕ) → (column a i ≡ column b i → ⊥) → unlike_in a b i ≡ true
-unfolding unlike_in
-unlike_yes a b i h = ap not (ne_eqb _ _ h)
-
-pub unlike_no : (a b : List ℕ) (i : ℕ) → column a i ≡ column b i → unlike_in a b i ≡ false
-unfolding unlike_in
-unlike_no a b i h = ap not (eq-eqb _ _ h)
-
-pub column_test : (a b : List ℕ) (n : ℕ) → n ≤ length a → n ≤ length b → nowhere (unlike_in a b) n ≡ same_column (take n a) (take n b)
-unfolding same_column nowhere unlike_in
-column_test a b n ha hb =
-    let x = length-take-le n a ha in
-    let y = length-take-le n b hb in
-    rw (same_column, eq-eqb (length (take n a)) (length (take n b)) (x ∙ sym y), x)
-    (ap (λ o. elim o [ none ↦ true | some i ↦ false ])
-    (first_eq (unlike_in a b) (λ i. not (eqb (column (take n a) i) (column (take n b) i))) n 0
-    (λ i l h. λ z. not (eqb (sym (get_or-take n a i 0 (omega arith)) z) (sym (get_or-take n b i 0 (omega arith)) z)))))
+-- two tasks: their fields one after the other
+pub entry_same
+    : (x y : Task)
+    → (eqb x.period y.period && (eqb x.jitter y.jitter && (eqb x.cost y.cost && (eqb x.deadline y.deadline && beq x.low y.low))))
+    ≡ same_entry (task_entry x) (task_entry y)
+unfolding same_entry
+entry_same x y = go (eqb x.period y.period) (eqb x.jitter y.jitter) (eqb x.cost y.cost) (eqb x.deadline y.deadline)
+  where
+    go
+        : (p j c d : Bool) → (p && (j && (c && (d && beq x.low y.low)))) ≡ (p && j && c && d && same_mark x.low y.low)
+    go true true true true = mark_same x.low y.low
+    go true true true false = refl
+    go true true false d = refl
+    go true false c d = refl
+    go false j c d = refl

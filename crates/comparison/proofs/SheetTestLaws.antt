@@ -1,8 +1,8 @@
 -- The tests of sheets, frames and records, one part after the other.
-use Prim.Native.Nat.{ℕ, ◌≤◌}
+use Prim.Native.Nat.{ℕ}
 use mathlib.Core.Path.{◌≡◌, refl, sym, ap, ◌∙◌}
 use mathlib.Core.Bool.{Bool, true, false, not, ◌&&◌}
-use mathlib.Core.Option.{Option, none}
+use mathlib.Core.Option.{Option, some, none}
 use mathlib.Core.List.{List}
 use borrow.Author.Tests.{eq-eqb, ne_eqb, not-true, not-false}
 use lib.Dec.{eqb, leb}
@@ -11,8 +11,11 @@ use Rattle.model.specs.Search.{first}
 use Rattle.model.specs.Frame.{Frame}
 use Rattle.model.specs.Tasks.{Tasks, with_frame}
 use Rattle.model.specs.Choice.{scope_in}
-use Rattle.model.proofs.FrameLaws.{Ruled, frame_itself}
-use Rattle.frame.specs.FrameView.{given}
+use Rattle.model.proofs.FrameLaws.{frame_itself}
+use Rattle.std.specs.Prelude as std
+use Rattle.std.specs.Prelude.{is_some}
+use Rattle.frame.specs.declared.Frame as frame
+use Rattle.frame.specs.FrameView.{frame_of}
 use Rattle.admission.specs.Offers.{Plan}
 use Rattle.admission.specs.Boards.{nowhere, or_end, same_mark, differs, window_differs, same_frame, same_tasks, same_column, same_scope, same_plan}
 use Rattle.admission.proofs.SameLaws.{tasks_of_lem, frame_yes}
@@ -63,37 +66,29 @@ module _ (o p : Option Frame) (s s' : Tasks) (b : Bool) where
     pub offer_decides : same_frame o p ≡ true → not b ≡ not (same_tasks (with_frame o s) (with_frame p s') && b)
     offer_decides e = rw (← framed_test o p s s', h, e)
 
--- frames, each there or not
-module _ (x y : Bool) (f g : Frame) where
-  pub second_alone : not x ≡ true → y ≡ true → false ≡ same_frame (given x f) (given y g)
+-- frames that are there
+module _ (f g : Frame) where
+  pub ticks_differ : (f.ticks ≡ g.ticks → ⊥) → false ≡ same_frame (some f) (some g)
   unfolding same_frame
-  second_alone h e = rw (not-true x h, e)
+  ticks_differ e = rw (same_frame, ne_eqb f.ticks g.ticks e)
 
-  pub no_frames : not x ≡ true → y ≡ false → true ≡ same_frame (given x f) (given y g)
+  pub windows_differ : f.ticks ≡ g.ticks → (f.count ≡ g.count → ⊥) → false ≡ same_frame (some f) (some g)
   unfolding same_frame
-  no_frames h e = rw (not-true x h, e)
+  windows_differ t e = rw (same_frame, eq-eqb f.ticks g.ticks t, ne_eqb f.count g.count e)
 
-  module _ (h : not x ≡ false) where
-    pub first_alone : not y ≡ true → false ≡ same_frame (given x f) (given y g)
-    unfolding same_frame
-    first_alone e = rw (not-false x h, not-true y e)
+  pub windows_decide : f.ticks ≡ g.ticks → f.count ≡ g.count → nowhere (window_differs f g) f.count ≡ same_frame (some f) (some g)
+  unfolding same_frame
+  windows_decide t n = rw (same_frame, eq-eqb f.ticks g.ticks t, eq-eqb f.count g.count n)
 
-    module _ (i : not y ≡ false) where
-      pub ticks_differ : (f.ticks ≡ g.ticks → ⊥) → false ≡ same_frame (given x f) (given y g)
-      unfolding same_frame
-      ticks_differ e = rw (not-false x h, not-false y i, same_frame, ne_eqb f.ticks g.ticks e)
+-- a frame that is there, and none
+pub one_alone : (f : Frame) → false ≡ same_frame (some f) none
+unfolding same_frame
+one_alone f = refl
 
-      pub windows_differ : f.ticks ≡ g.ticks → (f.count ≡ g.count → ⊥) → false ≡ same_frame (given x f) (given y g)
-      unfolding same_frame
-      windows_differ t e = rw (not-false x h, not-false y i, same_frame, eq-eqb f.ticks g.ticks t, ne_eqb f.count g.count e)
-
-      pub windows_decide : f.ticks ≡ g.ticks → f.count ≡ g.count → nowhere (window_differs f g) f.count ≡ same_frame (given x f) (given y g)
-      unfolding same_frame
-      windows_decide t n = rw (not-false x h, not-false y i, same_frame, eq-eqb f.ticks g.ticks t, eq-eqb f.count g.count n)
-
-    -- a frame that is within the rules has at most 16 windows
-    pub windows_few : Ruled (given x f) → f.count ≤ 16
-    windows_few r = (r f (ap (λ b. given b f) (not-false x h))).count_high
+pub none_and : (o : std.Option frame.Frame) (b : Bool) → is_some o ≡ not b → b ≡ same_frame none (frame_of o)
+unfolding same_frame
+none_and std.None b h = not-false b (sym h)
+none_and (std.Some f) b h = not-true b (sym h)
 
 -- which of the two choices
 scope_mark : (a b : Bool) → same_mark a b ≡ same_scope (scope_in a) (scope_in b)

@@ -20,7 +20,7 @@ use Rattle.taskset.specs.TaskSet.{view_of}
 use Rattle.quotient.specs.declared.Factor.{Factor}
 use Rattle.quotient.specs.Factor.{parts_of, IsFactor, Divided}
 use Rattle.quotient.proofs.FactorLaws.{ceil_high}
-use Rattle.demand.specs.Columns.{column_load, flat_tasks, Small, Tried, Periods, Factored, IsTerm, IsLoad, IsOnce, Copied, Prepared}
+use Rattle.demand.specs.Columns.{column_load, flat_tasks, Small, Tried, Columns, Loads, Periods, Factored, IsTerm, IsLoad, IsOnce, Copied, Prepared}
 use Rattle.demand.proofs.ArrivalCountLaws.{arrivals_ceil}
 
 -- the loads of a task set without a charge are its column
@@ -83,6 +83,10 @@ pub record Once (loads : List ℕ) (n j r : ℕ) : Type 0 where
   pub within : j ≤ n
   pub is : r ≡ sum (column loads) j
   pub high : r ≤ 1000000 * j
+
+-- the loads of columns of tasks
+pub loads_of : (loads periods keeps : List ℕ) (n : ℕ) → Columns loads periods keeps n → Loads loads n
+loads_of loads periods keeps n c = record { few = c.few; long = c.loads_long; high = λ j l. (c.small j l).load_high }
 
 -- no load
 pub once_none : (loads : List ℕ) (n : ℕ) → Once loads n 0 0

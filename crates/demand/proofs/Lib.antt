@@ -5,6 +5,5 @@ pub mod ListLaws
 pub mod SeekLaws
 pub mod FlatColumnLaws
 pub mod TaskCallLaws
-pub mod FramedCallLaws
 pub mod SeekColumnLaws
 pub mod TriedListLaws

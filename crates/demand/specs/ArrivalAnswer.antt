@@ -1,10 +1,9 @@
 -- What an answer of the call "arrival count" means.
-use Rattle.std.specs.Prelude.{ℕ}
-use Rattle.model.specs.Refusal.{Answer, refused, answered}
-use Rattle.demand.specs.declared.ArrivalAnswer.{ArrivalAnswer}
-use Rattle.demand.specs.declared.ArrivalAnswer.TheVariants.{Count, Refused}
+use Rattle.std.specs.Prelude.{ℕ, Result}
+use Rattle.model.specs.Refusal.{Answer}
+use Rattle.refusal.specs.declared.Refusal.{Refusal}
+use Rattle.refusal.specs.Refusal.{answer_in}
 
 -- document 01's answer of the call "arrival count"
-abbrev pub arrival_in : ArrivalAnswer → Answer ℕ
-arrival_in (Count n) = answered n
-arrival_in (Refused n p) = refused (record { number = n; place = p })
+abbrev pub arrival_in : Result ℕ Refusal → Answer ℕ
+arrival_in = answer_in (λ n. n)

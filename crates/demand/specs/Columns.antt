@@ -11,6 +11,8 @@ use Rattle.model.specs.Choice.{column}
 use Rattle.taskset.specs.declared.TaskSet.{TaskSet}
 use Rattle.taskset.specs.TaskSet.{view_of}
 use Rattle.quotient.specs.Factor.{high_of, low_of, IsFactor}
+use Rattle.demand.specs.declared.TaskColumns.{TaskColumns}
+use Rattle.demand.specs.declared.FactorColumns.{FactorColumns}
 
 -- the sum over the first n tasks of load × arrival count in t ticks
 unfoldable pub column_load : List ℕ → List ℕ → List ℕ → ℕ → ℕ → ℕ
@@ -48,6 +50,12 @@ pub record Columns (loads periods keeps : List ℕ) (n : ℕ) : Type 0 where
   pub periods_long : n ≤ length periods
   pub keeps_long : n ≤ length keeps
   pub small : (j : ℕ) → j < n → Small (column loads j) (column periods j) (column keeps j)
+
+-- n loads in a column
+pub record Loads (loads : List ℕ) (n : ℕ) : Type 0 where
+  pub few : n ≤ max_tasks
+  pub long : n ≤ length loads
+  pub high : (j : ℕ) → j < n → column loads j ≤ max_time
 
 -- n periods in a column
 pub record Periods (periods : List ℕ) (n : ℕ) : Type 0 where
@@ -93,3 +101,10 @@ pub record Copied (s : TaskSet) (j : ℕ) (loads periods : List ℕ) : Type 0 wh
 pub record Prepared (periods : List ℕ) (n : ℕ) (highs lows : List ℕ) : Type 0 where
   pub of_highs : Holds (λ j. high_of (column periods j)) n max_tasks highs
   pub of_lows : Holds (λ j. low_of (column periods j)) n max_tasks lows
+
+-- the same facts of the columns that the functions take
+abbrev pub HasTasks : TaskColumns → List ℕ → ℕ → Type 0
+HasTasks c keeps n = Columns c.loads c.periods keeps n
+
+abbrev pub HasFactors : TaskColumns → FactorColumns → ℕ → Type 0
+HasFactors c f n = Factored c.periods f.highs f.lows n

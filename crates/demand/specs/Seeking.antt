@@ -7,6 +7,7 @@ use Rattle.model.specs.Tasks.{Tasks, our_ticks}
 use Rattle.model.specs.Demand.{demand, window_from, largest}
 use Rattle.frame.specs.Starts.{starts_of, start_at}
 use Rattle.frame.specs.Reached.{IsReach}
+use Rattle.frame.specs.declared.Supply.{Supply}
 use Rattle.frame.specs.WindowColumns.{column_frame, Begins}
 use Rattle.demand.specs.declared.Start.{Start}
 use Rattle.demand.specs.Searching.{Search}
@@ -26,6 +27,10 @@ pub record Started (framed : Bool) (ticks count : ℕ) (first size : List ℕ) (
   pub begins : Begins framed ticks count first size r.at r.before
   pub place : r.at ≡ start_at (column_frame framed ticks count first size) n
   pub reach : IsReach (ours_in (column_frame framed ticks count first size)) (start_at (column_frame framed ticks count first size) n) d r.t
+
+-- the same of what is worked out for a frame
+abbrev pub StartedIn : Supply → ℕ → ℕ → Start → Type 0
+StartedIn s n d r = Started s.framed s.ticks s.count s.first s.size n d r
 
 -- n starts are done, of which w is the largest W; the next number tried from start n is t, and every number below is too short; m numbers have counted
 pub record Seeking (s : Tasks) (k : ℕ → ℕ) (i q n w m t : ℕ) : Type 0 where

@@ -6,27 +6,21 @@ ghost use Rattle.model.specs.Tasks.{Valid};
 ghost use Rattle.model.specs.Arrival as model_arrival;
 ghost use Rattle.model.specs.Checks.{refusal_of};
 ghost use Rattle.model.specs.Calls.{task_inputs, arrival_call};
-ghost use Rattle.taskset.specs.TaskSet.{view_of, refusal_in};
+ghost use Rattle.refusal.specs.Refusal.{refusal_in};
+ghost use Rattle.taskset.specs.TaskSet.{view_of};
 ghost use Rattle.model.specs.Limits.{max_tick};
 ghost use Rattle.frame.specs.FrameView.{framed_of};
 ghost use Rattle.frame.specs.Starts.{starts_of};
-ghost use Rattle.frame.specs.WindowColumns.{column_frame, Supplies};
+ghost use Rattle.frame.specs.WindowColumns.{IsSupply, frame_in};
 ghost use Rattle.quotient.specs.Factor.{IsFactor};
-ghost use Rattle.demand.specs.Seeking.{tally_of, Started};
-ghost use Rattle.demand.specs.Columns.{Small, Tried, Columns, Periods, Factored, IsTerm, IsLoad, IsOnce, Copied, Prepared};
+ghost use Rattle.demand.specs.Seeking.{tally_of, StartedIn};
+ghost use Rattle.demand.specs.Columns.{Small, Tried, Loads, Periods, HasTasks, HasFactors, IsTerm, IsLoad, IsOnce, Copied, Prepared};
 ghost use Rattle.demand.specs.ArrivalAnswer.{arrival_in};
 
-use frame::{Frame, check_sheet, reach_from, start_of, within};
-use numbers::wide;
+use frame::{Frame, Supply, check_sheet};
 use quotient::{ceil_div, factor_of};
-use taskset::{Checked, TaskSet};
-
-// What the call "arrival count" answers: the count, or document 01's number and place.
-#[derive(Clone, Copy)]
-pub enum ArrivalAnswer {
-    Count(u64),
-    Refused { number: u32, place: usize },
-}
+use refusal::{Reason, Refusal};
+use taskset::TaskSet;
 
 // Loads and periods of a task set, one slot for each task.
 #[derive(Clone, Copy)]
@@ -58,8 +52,8 @@ fn arrivals(period: u32, keep: u32, t: u32) -> u64
     if t == 0 {
         return 0;
     }
-    let p = wide(period);
-    (wide(t) + wide(keep) + p - 1) / p
+    let p = u64::from(period);
+    (u64::from(t) + u64::from(keep) + p - 1) / p
 }
 
 // Load × arrival count of one task in t ticks that the search tries, by the parts of its period's factor.
@@ -69,43 +63,44 @@ fn term(load: u32, period: u32, high: u32, low: u32, keep: u32, t: u32) -> u64
     requires tried { Tried t }
     ensures { IsTerm load period keep t result }
 {
-    wide(load) * wide(ceil_div(t + keep, period, high, low))
+    u64::from(load) * u64::from(ceil_div(t + keep, period, high, low))
 }
 
 // The sum over the first n tasks of load × arrival count in t ticks.
 pub fn above_load(
-    loads: &[u32],
-    periods: &[u32],
-    highs: &[u32],
-    lows: &[u32],
+    columns: &TaskColumns,
+    factors: &FactorColumns,
     keeps: &[u32],
     n: usize,
     t: u32,
 ) -> u64
-    requires columns { Columns loads.now periods.now keeps.now n }
-    requires factored { Factored periods.now highs.now lows.now n }
+    requires columns { HasTasks columns.now keeps.now n }
+    requires factored { HasFactors columns.now factors.now n }
     requires tried { Tried t }
-    ensures { IsLoad loads.now periods.now keeps.now n t result }
+    ensures { IsLoad columns.now.loads columns.now.periods keeps.now n t result }
 {
     let mut sum: u64 = 0;
-    let mut j = 0;
-    while j < n {
-        sum += term(loads[j], periods[j], highs[j], lows[j], keeps[j], t);
-        j += 1;
+    for j in 0..n {
+        sum += term(
+            columns.loads[j],
+            columns.periods[j],
+            factors.highs[j],
+            factors.lows[j],
+            keeps[j],
+            t,
+        );
     }
     sum
 }
 
 // One load of each of the first n tasks.
-pub fn once_each(loads: &[u32], periods: &[u32], keeps: &[u32], n: usize) -> u64
-    requires { Columns loads.now periods.now keeps.now n }
-    ensures { IsOnce loads.now n result }
+pub fn once_each(columns: &TaskColumns, n: usize) -> u64
+    requires { Loads columns.now.loads n }
+    ensures { IsOnce columns.now.loads n result }
 {
     let mut sum: u64 = 0;
-    let mut j = 0;
-    while j < n {
-        sum += wide(loads[j]);
-        j += 1;
+    for j in 0..n {
+        sum += u64::from(columns.loads[j]);
     }
     sum
 }
@@ -121,29 +116,16 @@ pub fn tally_of(framed: bool) -> u64
 }
 
 // Start n of the search, and the least number of ticks from it among which `need` are ours.
-pub fn start_at(
-    framed: bool,
-    ticks: u32,
-    per: u32,
-    count: usize,
-    first: &[u32],
-    size: &[u32],
-    n: usize,
-    need: u64,
-) -> Start
-    requires supplies { Supplies framed ticks per count first.now size.now }
-    requires n_bound { n < starts_of (column_frame framed ticks count first.now size.now) }
+pub fn start_at(supply: &Supply, n: usize, need: u64) -> Start
+    requires supplies { IsSupply supply.now }
+    requires n_bound { n < starts_of (frame_in supply.now) }
     requires need_le_max_tick { need ≤ max_tick }
-    ensures { Started framed ticks count first.now size.now n need result }
+    ensures { StartedIn supply.now n need result }
 {
-    let at = start_of(framed, ticks, count, first, size, n);
-    let before = within(first, size, count, at);
-    let t = reach_from(framed, ticks, per, count, first, size, at, before, need);
-    Start {
-        at: at,
-        before: before,
-        t: t,
-    }
+    let at = supply.start_of(n);
+    let before = supply.within(at);
+    let t = supply.reach_from(at, before, need);
+    Start { at, before, t }
 }
 
 // Loads and periods of the tasks of a sheet, worked out once: the load is E + S. Slots past the count are 0.
@@ -155,17 +137,12 @@ pub fn columns_of(s: TaskSet) -> TaskColumns
     let charge = s.charge as u32;
     let mut loads: [u32; 32] = [0; 32];
     let mut periods: [u32; 32] = [0; 32];
-    let mut j = 0;
-    while j < count {
+    for j in 0..count {
         let t = s.tasks[j];
         loads[j] = t.cost + charge;
         periods[j] = t.period;
-        j += 1;
     }
-    TaskColumns {
-        loads: loads,
-        periods: periods,
-    }
+    TaskColumns { loads, periods }
 }
 
 // The factors of the first n periods, worked out once. Slots past them are 0.
@@ -175,71 +152,47 @@ pub fn factors_of(periods: &[u32], n: usize) -> FactorColumns
 {
     let mut highs: [u32; 32] = [0; 32];
     let mut lows: [u32; 32] = [0; 32];
-    let mut j = 0;
-    while j < n {
+    for j in 0..n {
         let m = factor_of(periods[j]);
         highs[j] = m.high;
         lows[j] = m.low;
-        j += 1;
     }
-    FactorColumns {
-        highs: highs,
-        lows: lows,
-    }
+    FactorColumns { highs, lows }
 }
 
-// The checks of a call about one task with kept jitters: the sheet (5, 4, 6, 17), then 14, 13, 12.
-pub fn check_call(s: TaskSet, task: usize, kept: &[u32]) -> Checked
-    ensures { refusal_in result ≡ refusal_of (task_inputs (view_of s) task kept.now) }
+// The checks of a call about one task with kept jitters, on a sheet with a frame or without: the sheet (5, 4, 6, 17), its frame (18), then 14, 13, 12.
+pub fn check_framed(s: TaskSet, f: Option<Frame>, task: usize, kept: &[u32]) -> Result<(), Refusal>
+    ensures { refusal_in result ≡ refusal_of (task_inputs (framed_of s f) task kept.now) }
 {
-    let whole = taskset::check(s);
-    let Checked::Fine = whole else {
-        return whole;
-    };
+    check_sheet(s, f)?;
     let count = s.count;
     if count <= task {
-        return Checked::Refused {
-            number: 14,
+        return Err(Refusal {
+            reason: Reason::NoSuchTask,
             place: task,
-        };
+        });
     }
     if kept.len() < count {
-        return Checked::Refused {
-            number: 13,
+        return Err(Refusal {
+            reason: Reason::ShortSlice,
             place: count,
-        };
+        });
     }
     taskset::check_kept(s, kept)
 }
 
-// The same on a sheet with a frame or without: the sheet, its frame (18), then 14, 13, 12.
-pub fn check_framed(s: TaskSet, f: Frame, task: usize, kept: &[u32]) -> Checked
-    ensures { refusal_in result ≡ refusal_of (task_inputs (framed_of s f) task kept.now) }
+// The same without a frame.
+pub fn check_call(s: TaskSet, task: usize, kept: &[u32]) -> Result<(), Refusal>
+    ensures { refusal_in result ≡ refusal_of (task_inputs (view_of s) task kept.now) }
 {
-    if f.present {
-        let whole = check_sheet(s, f);
-        let Checked::Fine = whole else {
-            return whole;
-        };
-        return check_call(s, task, kept);
-    }
-    check_call(s, task, kept)
+    check_framed(s, None, task, kept)
 }
 
 // Arrival count of one task in t ticks, with kept jitters.
-pub fn arrival_count(s: TaskSet, task: usize, kept: &[u32], t: u32) -> ArrivalAnswer
+pub fn arrival_count(s: TaskSet, task: usize, kept: &[u32], t: u32) -> Result<u64, Refusal>
     ensures { arrival_in result ≡ arrival_call (view_of s) task kept.now t }
 {
-    let checked = check_call(s, task, kept);
-    match checked {
-        Checked::Refused { number, place } => ArrivalAnswer::Refused {
-            number: number,
-            place: place,
-        },
-        Checked::Fine => {
-            let own = s.tasks[task];
-            let n = arrivals(own.period, kept[task], t);
-            ArrivalAnswer::Count(n)
-        }
-    }
+    check_call(s, task, kept)?;
+    let own = s.tasks[task];
+    Ok(arrivals(own.period, kept[task], t))
 }

@@ -2,13 +2,15 @@
 #![tactic(auto)]
 
 ghost use Rattle.std.specs.Prelude.{◌≡◌, ◌≤◌, []};
-ghost use Rattle.taskset.specs.TaskSet.{view_of, refusal_in};
+ghost use Rattle.refusal.specs.Refusal.{number_of, refusal_in};
+ghost use Rattle.taskset.specs.TaskSet.{view_of};
 ghost use Rattle.model.specs.Checks.{fault_at};
 ghost use Rattle.fileformat.specs.Records.{width_in, task_size, release_size};
 ghost use Rattle.fileformat.specs.File.{charge_fault, task_fault, mark_fault};
 ghost use Rattle.fileformat.specs.FileCalls.{set_of, charge_bytes, sheet_bytes};
 
-use taskset::{Checked, Task, TaskSet};
+use refusal::{Reason, Refusal};
+use taskset::{Task, TaskSet};
 
 // No tasks and no charge; all entries are 0 and high.
 pub fn no_tasks() -> TaskSet
@@ -29,34 +31,40 @@ pub fn no_tasks() -> TaskSet
 }
 
 // What is wrong with a charge after so many tasks and releases, given the charge so far: 3 or 6, with the place given.
-pub fn check_charge(held: u8, tasks: usize, releases: usize, at: usize, charge: u8) -> Checked
+pub fn check_charge(
+    held: u8,
+    tasks: usize,
+    releases: usize,
+    at: usize,
+    charge: u8,
+) -> Result<(), Refusal>
     ensures { refusal_in result ≡ fault_at at (charge_fault held tasks releases charge) }
 {
     if 0 < held {
-        return Checked::Refused {
-            number: 3,
+        return Err(Refusal {
+            reason: Reason::TaskAfterRelease,
             place: at,
-        };
+        });
     }
     if 0 < tasks {
-        return Checked::Refused {
-            number: 3,
+        return Err(Refusal {
+            reason: Reason::TaskAfterRelease,
             place: at,
-        };
+        });
     }
     if 0 < releases {
-        return Checked::Refused {
-            number: 3,
+        return Err(Refusal {
+            reason: Reason::TaskAfterRelease,
             place: at,
-        };
+        });
     }
     if charge == 0 {
-        return Checked::Refused {
-            number: 6,
+        return Err(Refusal {
+            reason: Reason::OutOfRange,
             place: at,
-        };
+        });
     }
-    Checked::Fine
+    Ok(())
 }
 
 // The bytes of the record of a charge, which there is where it is not 0.
@@ -79,10 +87,8 @@ pub fn sheet_size(s: TaskSet) -> usize
     ensures { result ≡ sheet_bytes (view_of s) }
 {
     let mut size = charge_size(s.charge);
-    let mut i = 0;
-    while i < s.count {
+    for i in 0..s.count {
         size += task_size(s.tasks[i].low);
-        i += 1;
     }
     size
 }
@@ -95,30 +101,40 @@ pub fn release_size(long: bool) -> usize
 }
 
 // What is wrong with a task after so many tasks and releases, given the charge: 3, 4, 6 or 17, with the place given.
-pub fn check_task(charge: u8, tasks: usize, releases: usize, at: usize, t: Task) -> Checked
+pub fn check_task(
+    charge: u8,
+    tasks: usize,
+    releases: usize,
+    at: usize,
+    t: Task,
+) -> Result<(), Refusal>
     ensures { refusal_in result ≡ fault_at at (task_fault charge tasks releases t) }
 {
     if 0 < releases {
-        return Checked::Refused {
-            number: 3,
+        return Err(Refusal {
+            reason: Reason::TaskAfterRelease,
             place: at,
-        };
+        });
     }
     if 32 <= tasks {
-        return Checked::Refused {
-            number: 4,
+        return Err(Refusal {
+            reason: Reason::TooManyTasks,
             place: at,
-        };
+        });
     }
     taskset::check_entry(charge, at, t)
 }
 
 // What is wrong with a kind 6 record after so many tasks and releases, its last byte not being 0: 3, 4 or 6.
-pub fn mark_fault(tasks: usize, releases: usize) -> u32
-    ensures { result ≡ mark_fault tasks releases }
+pub fn mark_fault(tasks: usize, releases: usize) -> Reason
+    ensures { number_of result ≡ mark_fault tasks releases }
 {
     if 0 < releases {
-        return 3;
+        return Reason::TaskAfterRelease;
     }
-    if tasks < 32 { 6 } else { 4 }
+    if tasks < 32 {
+        Reason::OutOfRange
+    } else {
+        Reason::TooManyTasks
+    }
 }

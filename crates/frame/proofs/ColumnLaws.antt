@@ -5,23 +5,22 @@ use mathlib.Core.Bool.{Bool, true, false, not, ◌&&◌}
 use mathlib.Core.Logic.{◌⊎◌, inl, inr}
 use mathlib.Core.Option.{some, none}
 use mathlib.Core.List.{List}
+use Rattle.std.specs.Prelude.{Some, None}
 use native.Mathlib.Omega.{arith}
 use native.Mathlib.Numerals.{add-one}
 use borrow.Author.Tests.{not-true, not-false, le-leb, lt-leb, lt-ltb, le-ltb}
 use lib.Dec.{leb, ltb}
 use lib.ListN.{replicate, set}
 use Rattle.model.specs.Limits.{max_frame, max_windows}
-use Rattle.model.specs.Series.{on, sum}
+use Rattle.model.specs.Series.{sum}
 use Rattle.model.specs.Choice.{column}
-use Rattle.model.specs.SameTasks.{SameWindows, SameFrame}
-use Rattle.model.specs.Frame as model_frame
 use Rattle.model.specs.Frame.{InRules, in_window, in_some, ours_in}
 use Rattle.model.specs.Slots.{Holds}
-use Rattle.model.proofs.SeriesLaws.{tests, below_suc, sum_eq, on_true, on_false, on_le}
+use Rattle.model.proofs.SeriesLaws.{tests, below_suc, sum_eq}
 use Rattle.model.proofs.SlotLaws.{holds_none, holds_next}
 use Rattle.model.proofs.FrameLaws.{Ruled, some_in}
 use Rattle.frame.specs.declared.Frame.{Frame}
-use Rattle.frame.specs.FrameView.{given, windows_of, frame_of}
+use Rattle.frame.specs.FrameView.{windows_of}
 use Rattle.frame.specs.Starts.{start_at, starts_of}
 use Rattle.frame.specs.WindowColumns.{column_windows, column_frame, Windows, FrameColumns, IsWithin, Located, Prepared}
 use Rattle.frame.proofs.WindowLaws.{some_none}
@@ -34,7 +33,7 @@ pub record Summed (first size : List ℕ) (n x k r : ℕ) : Type 0 where
 
 -- columns that hold first ticks and lengths of the first j windows of a frame, and 0 past them, and the lengths added up
 pub record Copied (f : Frame) (j per : ℕ) (first size : List ℕ) : Type 0 where
-  pub within : j ≤ on f.present f.count
+  pub within : j ≤ f.count
   pub of_first : Holds (windows_of f).first j max_windows first
   pub of_size : Holds (windows_of f).size j max_windows size
   pub added : per ≡ sum (windows_of f).size j
@@ -116,101 +115,93 @@ module _ (first size : List ℕ) (n x : ℕ) where
   unfolding in_window
   outside_all k o l ticks = sym (some_none (column_windows ticks n first size) n x (λ m b. o.each m (omega arith)))
 
--- a number under a test that is over another holds the test
-on_holds : (b : Bool) (n k : ℕ) → k < on b n → b ≡ true
-unfolding on
-on_holds true n k l = refl
-on_holds false n k l = absurd (omega arith)
-
-same_given : (b : Bool) (f g : model_frame.Frame) → (b ≡ true → SameWindows f g) → SameFrame (given b f) (given b g)
-same_given true f g h = h refl
-same_given false f g h = tt
-
-module _ (f : Frame) (h : Ruled (frame_of f)) where
-  rules_present : f.present ≡ true → InRules (windows_of f)
-  rules_present e = h (windows_of f) (ap (λ (b : Bool). given b (windows_of f)) e)
-
-  -- a window that is counted
-  counted : (k : ℕ) → k < on f.present f.count → (InRules (windows_of f)) × (k < f.count)
-  counted k l =
-      let e : f.present ≡ true = on_holds f.present f.count k l in
-      (rules_present e, omega (arith, l, on_true f.present f.count e))
-
-  -- the windows are few
-  pub count_few : on f.present f.count ≤ max_windows
-  count_few = go f.present refl
-    where
-      go : (b : Bool) → f.present ≡ b → on f.present f.count ≤ max_windows
-      go true e = omega (arith, on_le f.present f.count, (rules_present e).count_high)
-      go false e = omega (arith, on_false f.present f.count e)
-
+module _ (f : Frame) (h : InRules (windows_of f)) where
   pub copied_none : Copied f 0 0 (replicate max_windows 0) (replicate max_windows 0)
   unfolding sum
   copied_none =
       record { within = omega arith; of_first = holds_none _ _; of_size = holds_none _ _; added = refl; added_high = omega arith }
 
-  -- a window that is counted is small
-  pub size_small : (k : ℕ) → k < on f.present f.count → (windows_of f).first k + (windows_of f).size k ≤ max_frame
-  size_small k l = let v = counted k l in omega (arith, v.0.inside k v.1, v.0.ticks_high)
+  -- a window is small
+  pub size_small : (k : ℕ) → k < f.count → (windows_of f).first k + (windows_of f).size k ≤ max_frame
+  size_small k l = omega (arith, h.inside k l, h.ticks_high)
 
   pub copied_next
-      : (k per : ℕ) (first size : List ℕ) → Copied f k per first size → k < on f.present f.count
+      : (k per : ℕ) (first size : List ℕ) → Copied f k per first size → k < f.count
       → Copied f (k + 1) (per + (windows_of f).size k) (set first k ((windows_of f).first k)) (set size k ((windows_of f).size k))
   unfolding sum
   copied_next k per first size c l =
       record {
         within = omega arith;
-        of_first = holds_next _ _ k _ first c.of_first (omega (arith, count_few)) refl;
-        of_size = holds_next _ _ k _ size c.of_size (omega (arith, count_few)) refl;
+        of_first = holds_next _ _ k _ first c.of_first (omega (arith, h.count_high)) refl;
+        of_size = holds_next _ _ k _ size c.of_size (omega (arith, h.count_high)) refl;
         added = rw (add-one, c.added);
         added_high = omega (arith, c.added_high, size_small k l);
       }
 
   -- the columns are those of the frame
   pub copied_all
-      : (k n per : ℕ) (first size : List ℕ) → Copied f k per first size → n ≡ on f.present f.count → n ≤ k
-      → Prepared f (record { framed = f.present; ticks = f.ticks; per = per; count = n; first = first; size = size })
-  copied_all k n per first size c e l =
+      : (k per : ℕ) (first size : List ℕ) → Copied f k per first size → f.count ≤ k
+      → Prepared (Some f) (record { framed = true; ticks = f.ticks; per = per; count = f.count; first = first; size = size })
+  copied_all k per first size c l =
       record {
         supplies = record {
           columns = record {
             windows = record {
-              few = omega (arith, e, count_few);
-              first_long = omega (arith, c.of_first.long, e, count_few);
-              size_long = omega (arith, c.of_size.long, e, count_few);
-              first_high = λ m b. omega (arith, firsts m b, size_small m (omega arith));
-              size_high = λ m b. omega (arith, sizes m b, size_small m (omega arith));
+              few = h.count_high;
+              first_long = omega (arith, c.of_first.long, h.count_high);
+              size_long = omega (arith, c.of_size.long, h.count_high);
+              first_high = λ m b. omega (arith, firsts m b, size_small m b);
+              size_high = λ m b. omega (arith, sizes m b, size_small m b);
             };
-            rules = λ p. ruled p (rules_present p);
+            rules = λ p. ruled;
           };
           per_is =
-              c.added ∙ ap (sum (windows_of f).size) k_is ∙ sym (sum_eq (column size) (windows_of f).size n sizes);
+              c.added ∙ ap (sum (windows_of f).size) k_is ∙ sym (sum_eq (column size) (windows_of f).size f.count sizes);
         };
-        same = same_given f.present _ _ (λ p.
-            record { ticks = refl; count = e ∙ on_true f.present f.count p; first = firsts; size = sizes });
+        same = record { ticks = refl; count = refl; first = firsts; size = sizes };
       }
     where
-      k_is : k ≡ n
-      k_is = omega (arith, c.within, e)
+      k_is : k ≡ f.count
+      k_is = omega (arith, c.within)
 
-      firsts : (m : ℕ) → m < n → column first m ≡ (windows_of f).first m
+      firsts : (m : ℕ) → m < f.count → column first m ≡ (windows_of f).first m
       firsts m b = c.of_first.each m (omega arith)
 
-      sizes : (m : ℕ) → m < n → column size m ≡ (windows_of f).size m
+      sizes : (m : ℕ) → m < f.count → column size m ≡ (windows_of f).size m
       sizes m b = c.of_size.each m (omega arith)
 
-      ruled : f.present ≡ true → InRules (windows_of f) → InRules (column_windows f.ticks n first size)
-      ruled p v =
-          let is : n ≡ f.count = e ∙ on_true f.present f.count p in
+      ruled : InRules (column_windows f.ticks f.count first size)
+      ruled =
           record {
-            ticks_low = v.ticks_low;
-            ticks_high = v.ticks_high;
-            count_low = omega (arith, v.count_low);
-            count_high = omega (arith, v.count_high);
-            size_low = λ m b. omega (arith, sizes m b, v.size_low m (omega arith));
-            inside = λ m b. omega (arith, firsts m b, sizes m b, v.inside m (omega arith));
-            apart = λ m b. omega (arith, firsts m (omega arith), sizes m (omega arith), firsts (suc m) b, v.apart m (omega arith));
+            ticks_low = h.ticks_low;
+            ticks_high = h.ticks_high;
+            count_low = h.count_low;
+            count_high = h.count_high;
+            size_low = λ m b. omega (arith, sizes m b, h.size_low m b);
+            inside = λ m b. omega (arith, firsts m b, sizes m b, h.inside m b);
+            apart = λ m b. omega (arith, firsts m (omega arith), sizes m (omega arith), firsts (suc m) b, h.apart m b);
           }
+
+-- no frame has no windows
+pub nothing_prepared : Prepared None (record { framed = false; ticks = 0; per = 0; count = 0; first = replicate 16 0; size = replicate 16 0 })
+unfolding sum
+nothing_prepared =
+    record {
+      supplies = record {
+        columns = record {
+          windows = record {
+            few = omega arith;
+            first_long = omega arith;
+            size_long = omega arith;
+            first_high = λ m b. absurd (omega arith);
+            size_high = λ m b. absurd (omega arith);
+          };
+          rules = λ p. let z : ◌≡◌ {A = ℕ} 0 1 = cc in absurd (omega arith);
+        };
+        per_is = refl;
+      };
+      same = tt;
+    }
 
 -- the frame in columns, where there is none and where there is one
 module _ (framed : Bool) (ticks count : ℕ) (first size : List ℕ) where

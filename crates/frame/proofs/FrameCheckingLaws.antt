@@ -2,17 +2,15 @@
 use Prim.Native.Nat.{ℕ, ◌+◌, ◌≤◌, ◌<◌}
 use mathlib.Core.Path.{◌≡◌, refl}
 use mathlib.Core.Bool.{true, false, not}
-use mathlib.Core.Option.{none}
+use mathlib.Core.Option.{some, none}
 use native.Mathlib.Omega.{arith}
 use native.Mathlib.Numerals.{add-one}
-use borrow.Author.Tests.{not-true, not-false}
+use borrow.Author.Tests.{not-false}
 use Rattle.model.specs.Frame as model_frame
 use Rattle.model.specs.Refusal.{refuse}
 use Rattle.model.specs.Checks.{floor_of, allowed, is_outside, check_windows, check_frame}
 use Rattle.model.proofs.SearchLaws.{Sought, sought_none, sought_next, sought_here, sought_all}
 use Rattle.model.proofs.FrameCheckLaws.{Sized, allowed_of, refuses_window, passes_windows}
-use Rattle.frame.specs.declared.Frame.{Frame}
-use Rattle.frame.specs.FrameView.{windows_of, frame_of}
 
 -- the loop has passed the windows below k, and low is the least first tick of the next
 pub record Checking (f : model_frame.Frame) (k low : ℕ) : Type 0 where
@@ -48,11 +46,11 @@ module _ (f : model_frame.Frame) where
   pub checking_all : (k low : ℕ) → Checking f k low → f.count ≤ k → none ≡ check_windows f
   checking_all k low c l = passes_windows f c.sized (sought_all (is_outside f) f.count k c.sought l)
 
--- a frame that is not there, and one that is
-pub absent_passes : (f : Frame) → not f.present ≡ true → none ≡ check_frame (frame_of f)
+-- no frame passes, and the check of a frame is that of its windows
+pub absent_passes : none ≡ check_frame none
 unfolding check_frame
-absent_passes f h = rw (not-true f.present h)
+absent_passes = refl
 
-pub present_check : (f : Frame) → not f.present ≡ false → check_windows (windows_of f) ≡ check_frame (frame_of f)
+pub present_check : (f : model_frame.Frame) → check_windows f ≡ check_frame (some f)
 unfolding check_frame
-present_check f h = rw (not-false f.present h)
+present_check f = refl

@@ -4,11 +4,12 @@ use mathlib.Core.Path.{◌≡◌, refl, sym, ap, ◌∙◌}
 use mathlib.Core.List.{List, [], ◌∷◌}
 use native.Mathlib.Omega.{arith}
 use native.Mathlib.Numerals.{add-one}
-use lib.ListN.{length, take, set, length-set}
+use lib.ListN.{length, get_or, take, set, length-set}
+use Rattle.std.specs.Prelude.{Some, None}
 use lib.Seq.{take-suc-set, take_all}
 use Rattle.model.specs.Series.{table}
 use Rattle.frame.specs.declared.Window.{Window}
-use Rattle.frame.specs.FrameView.{no_frame, window_at, frame_from}
+use Rattle.frame.specs.FrameView.{window_at, frame_from}
 
 -- of 16 windows the first k are those of the numbers
 pub record Filled (l : List ℕ) (windows : List Window) (k : ℕ) : Type 0 where
@@ -35,7 +36,13 @@ filled_all l windows k f h =
     sym (take_all k windows (omega (arith, f.long))) ∙ f.front ∙ ap (table (window_at l)) e
 
 -- an empty row is no frame
-pub empty_row : (l : List ℕ) → length l ≡ 0 → no_frame ≡ frame_from l
-unfolding window_at table
+pub empty_row : (l : List ℕ) → length l ≡ 0 → None ≡ frame_from l
 empty_row [] h = refl
 empty_row (x ∷ l) h = absurd (omega arith)
+
+-- another row is the frame of its numbers
+pub full_row
+    : (l : List ℕ) (t n : ℕ) (w : List Window) → (length l ≡ 0 → ⊥) → t ≡ get_or l 0 0 → n ≡ get_or l 1 0 → w ≡ table (window_at l) 16
+    → Some (record { ticks = t; count = n; windows = w }) ≡ frame_from l
+full_row [] t n w h a b c = absurd (h refl)
+full_row (x ∷ l) t n w h a b c = cc

@@ -1,4 +1,5 @@
 -- The windows of a frame as columns: what is worked out once for a call, and what the functions over them take and answer.
+use Rattle.std.specs.Prelude as std
 use Rattle.std.specs.Prelude.{ℕ, ◌+◌, ◌-◌, ◌≤◌, ◌<◌, min, ◌≡◌, Bool, true, List, length}
 use Rattle.std.proofs.Math.Option.{Option}
 use Rattle.model.specs.Series.{sum}
@@ -61,6 +62,22 @@ pub record Begins (framed : Bool) (ticks count : ℕ) (first size : List ℕ) (a
   pub within : IsWithin first size count at before
 
 -- what is worked out once for a frame: columns that hold it, so that the same ticks are ours (the model's `ours_same`)
-pub record Prepared (f : Frame) (r : Supply) : Type 0 where
+pub record Prepared (f : std.Option Frame) (r : Supply) : Type 0 where
   pub supplies : Supplies r.framed r.ticks r.per r.count r.first r.size
   pub same : SameFrame (column_frame r.framed r.ticks r.count r.first r.size) (frame_of f)
+
+-- the same facts of a supply: the frame that it holds, if there is one, its windows, and a place in the frame with the ticks of windows before it
+abbrev pub frame_in : Supply → Option model_frame.Frame
+frame_in s = column_frame s.framed s.ticks s.count s.first s.size
+
+abbrev pub HasWindows : Supply → Type 0
+HasWindows s = Windows s.first s.size s.count
+
+abbrev pub HasColumns : Supply → Type 0
+HasColumns s = FrameColumns s.framed s.ticks s.count s.first s.size
+
+abbrev pub IsSupply : Supply → Type 0
+IsSupply s = Supplies s.framed s.ticks s.per s.count s.first s.size
+
+abbrev pub BeginsAt : Supply → ℕ → ℕ → Type 0
+BeginsAt s at before = Begins s.framed s.ticks s.count s.first s.size at before

@@ -8,26 +8,26 @@ ghost use Rattle.model.specs.Choice.{column};
 ghost use Rattle.model.specs.Frame as model_frame;
 ghost use Rattle.model.specs.Checks.{allowed, check_windows, check_frame, check_tasks};
 ghost use Rattle.model.proofs.FrameLaws.{Ruled};
-ghost use Rattle.taskset.specs.TaskSet.{refusal_in};
-ghost use Rattle.frame.specs.FrameView.{windows_of, frame_of, framed_of, no_frame, window_at, frame_from};
+ghost use Rattle.refusal.specs.Refusal.{refusal_in};
+ghost use Rattle.frame.specs.FrameView.{windows_of, frame_of, framed_of, window_at, frame_from};
 ghost use Rattle.frame.specs.Starts.{start_at, starts_of};
 ghost use Rattle.frame.specs.Reached.{IsReach};
-ghost use Rattle.frame.specs.WindowColumns.{column_windows, column_frame, Windows, FrameColumns, Supplies, IsWithin, Located, Begins, Prepared};
+ghost use Rattle.frame.specs.WindowColumns.{column_windows, IsWithin, Located, IsSupply, HasColumns, HasWindows, BeginsAt, frame_in, Prepared};
 
-use numbers::{number_at, wide};
-use taskset::{Checked, TaskSet};
+use numbers::number_at;
+use refusal::{Reason, Refusal};
+use taskset::TaskSet;
 
 // A window: its first tick in the frame, and its length.
-#[derive(Clone, Copy)]
+#[derive(Clone, Copy, Debug, PartialEq, Eq)]
 pub struct Window {
     pub first: u32,
     pub length: u32,
 }
 
-// Whether there is a frame, its ticks, the number of its windows, and the windows. Those past the number are not looked at.
+// A frame: its ticks, the number of its windows, and the windows. Those past the number are not looked at. A sheet may have none.
 #[derive(Clone, Copy)]
 pub struct Frame {
-    pub present: bool,
     pub ticks: u32,
     pub count: usize,
     pub windows: [Window; 16],
@@ -42,22 +42,6 @@ pub struct Supply {
     pub count: usize,
     pub first: [u32; 16],
     pub size: [u32; 16],
-}
-
-// No frame.
-pub fn no_frame() -> Frame
-    ensures { result ≡ no_frame }
-{
-    let none = Window {
-        first: 0,
-        length: 0,
-    };
-    Frame {
-        present: false,
-        ticks: 0,
-        count: 0,
-        windows: [none; 16],
-    }
 }
 
 // Window k of a frame passed as numbers.
@@ -82,31 +66,28 @@ fn windows_from(row: &[u32]) -> [Window; 16]
         length: 0,
     };
     let mut windows = [none; 16];
-    let mut k = 0;
-    while k < 16 {
+    for k in 0..16 {
         let w = window_at(row, k);
         windows[k] = w;
-        k += 1;
     }
     windows
 }
 
 // The frame of a row of numbers: its ticks, its count, then first tick and length of each window. Numbers past the end count as 0; an empty row is no frame.
-pub fn frame_from(row: &[u32]) -> Frame
+pub fn frame_from(row: &[u32]) -> Option<Frame>
     ensures { result ≡ frame_from row.now }
 {
     if row.len() == 0 {
-        return no_frame();
+        return None;
     }
     let ticks = number_at(row, 0);
     let count = number_at(row, 1);
     let windows = windows_from(row);
-    Frame {
-        present: 0 < row.len(),
-        ticks: ticks,
+    Some(Frame {
+        ticks,
         count: count as usize,
-        windows: windows,
-    }
+        windows,
+    })
 }
 
 // Whether a window is within the rules, given the least first tick and the frame's ticks.
@@ -119,113 +100,114 @@ fn is_allowed(low: u32, w: Window, ticks: u32) -> bool
     if w.length < 1 {
         return false;
     }
-    if wide(ticks) < wide(w.first) + wide(w.length) {
+    if u64::from(ticks) < u64::from(w.first) + u64::from(w.length) {
         return false;
     }
     true
 }
 
 // The check of a frame that is there: 18 at the frame, at the count, then at the first window outside the rules.
-fn check_windows(f: Frame) -> Checked
+fn check_windows(f: Frame) -> Result<(), Refusal>
     ensures { refusal_in result ≡ check_windows (windows_of f) }
 {
     let ticks = f.ticks;
     let count = f.count;
     if ticks < 1 {
-        return Checked::Refused {
-            number: 18,
+        return Err(Refusal {
+            reason: Reason::Frame,
             place: 17,
-        };
+        });
     }
     if 10000 < ticks {
-        return Checked::Refused {
-            number: 18,
+        return Err(Refusal {
+            reason: Reason::Frame,
             place: 17,
-        };
+        });
     }
     if count < 1 {
-        return Checked::Refused {
-            number: 18,
+        return Err(Refusal {
+            reason: Reason::Frame,
             place: 16,
-        };
+        });
     }
     if 16 < count {
-        return Checked::Refused {
-            number: 18,
+        return Err(Refusal {
+            reason: Reason::Frame,
             place: 16,
-        };
+        });
     }
     let mut low: u32 = 0;
-    let mut k = 0;
-    while k < count {
+    for k in 0..count {
         let w = f.windows[k];
         if !is_allowed(low, w, ticks) {
-            return Checked::Refused {
-                number: 18,
+            return Err(Refusal {
+                reason: Reason::Frame,
                 place: k,
-            };
+            });
         }
         low = w.first + w.length + 1;
-        k += 1;
     }
-    Checked::Fine
+    Ok(())
 }
 
 // The check of a frame: 18; no frame is fine.
-pub fn check(f: Frame) -> Checked
+pub fn check(f: Option<Frame>) -> Result<(), Refusal>
     ensures { refusal_in result ≡ check_frame (frame_of f) }
 {
-    if !f.present {
-        return Checked::Fine;
+    match f {
+        None => Ok(()),
+        Some(frame) => check_windows(frame),
     }
-    check_windows(f)
 }
 
 // The check of a sheet with a frame: 5, 4, 6 and 17 by task, then 18.
-pub fn check_sheet(s: TaskSet, f: Frame) -> Checked
+pub fn check_sheet(s: TaskSet, f: Option<Frame>) -> Result<(), Refusal>
     ensures { refusal_in result ≡ check_tasks (framed_of s f) }
 {
-    let sheet = taskset::check(s);
-    let Checked::Fine = sheet else {
-        return sheet;
-    };
+    taskset::check(s)?;
     check(f)
 }
 
-// The number of windows of a frame, 0 where there is none.
-fn window_count(f: Frame) -> usize
-    ensures { result ≡ model_series.on f.present f.count }
+// The columns of the windows of a frame, with our ticks of it.
+fn columns_of(f: Frame) -> Supply
+    requires { model_frame.InRules (windows_of f) }
+    ensures { Prepared (Some f) result }
 {
-    if !f.present {
-        return 0;
-    }
-    f.count
-}
-
-// What the functions over columns need of a frame, worked out once. Slots past the windows are 0.
-pub fn supply_of(f: Frame) -> Supply
-    requires { Ruled (frame_of f) }
-    ensures { Prepared f result }
-{
-    let count = window_count(f);
+    let count = f.count;
     let mut per: u32 = 0;
     let mut first: [u32; 16] = [0; 16];
     let mut size: [u32; 16] = [0; 16];
-    let mut k = 0;
-    while k < count {
+    for k in 0..count {
         let w = f.windows[k];
         per += w.length;
         first[k] = w.first;
         size[k] = w.length;
-        k += 1;
     }
     Supply {
-        framed: f.present,
+        framed: true,
         ticks: f.ticks,
-        per: per,
-        count: count,
-        first: first,
-        size: size,
+        per,
+        count,
+        first,
+        size,
+    }
+}
+
+// What the functions over columns need of a frame, worked out once. Slots past the windows are 0.
+pub fn supply_of(f: Option<Frame>) -> Supply
+    requires { Ruled (frame_of f) }
+    ensures { Prepared f result }
+{
+    match f {
+        Some(frame) => columns_of(frame),
+        None => Supply {
+            framed: false,
+            ticks: 0,
+            per: 0,
+            count: 0,
+            first: [0; 16],
+            size: [0; 16],
+        },
     }
 }
 
@@ -243,142 +225,6 @@ fn part_of(first: u32, size: u32, x: u32) -> u32
     size
 }
 
-// The ticks of windows among the first x of the frame.
-pub fn within(first: &[u32], size: &[u32], count: usize, x: u32) -> u32
-    requires { Windows first.now size.now count }
-    ensures { IsWithin first.now size.now count x result }
-{
-    let mut sum: u32 = 0;
-    let mut k = 0;
-    while k < count {
-        sum += part_of(first[k], size[k], x);
-        k += 1;
-    }
-    sum
-}
-
-// The ticks of a frame up to tick r of its windows, that tick included.
-fn locate(first: &[u32], size: &[u32], count: usize, r: u32) -> u32
-    requires windows { Windows first.now size.now count }
-    requires le_r { 1 ≤ r }
-    requires r_bound { r ≤ model_series.sum (column size.now) count }
-    ensures { Located first.now size.now count r result }
-{
-    let mut left = r;
-    let mut k = 0;
-    while k < count {
-        let length = size[k];
-        if left <= length {
-            return first[k] + left;
-        }
-        left -= length;
-        k += 1;
-    }
-    0
-}
-
-// Our ticks among the first t.
-pub fn our_ticks(
-    framed: bool,
-    ticks: u32,
-    per: u32,
-    count: usize,
-    first: &[u32],
-    size: &[u32],
-    t: u64,
-) -> u64
-    requires { Supplies framed ticks per count first.now size.now }
-    ensures { result ≡ model_frame.supply (model_frame.ours_in (column_frame framed ticks count first.now size.now)) 0 t }
-{
-    if !framed {
-        return t;
-    }
-    let length = wide(ticks);
-    let rest = within(first, size, count, (t % length) as u32);
-    t / length * wide(per) + wide(rest)
-}
-
-// The least number of ticks from a place of the frame among which d are ours, given the ticks of windows before the place.
-pub fn reach_from(
-    framed: bool,
-    ticks: u32,
-    per: u32,
-    count: usize,
-    first: &[u32],
-    size: &[u32],
-    at: u32,
-    before: u32,
-    d: u64,
-) -> u64
-    requires supplies { Supplies framed ticks per count first.now size.now }
-    requires begins { Begins framed ticks count first.now size.now at before }
-    requires d_le_max_tick { d ≤ max_tick }
-    ensures { IsReach (model_frame.ours_in (column_frame framed ticks count first.now size.now)) at d result }
-{
-    if !framed {
-        return d;
-    }
-    if d == 0 {
-        return 0;
-    }
-    let each = wide(per);
-    let past = wide(before) + d - 1;
-    let x = locate(first, size, count, (past % each) as u32 + 1);
-    past / each * wide(ticks) + wide(x) - wide(at)
-}
-
-// The least number of ticks from t on among which d are ours.
-pub fn reach(
-    framed: bool,
-    ticks: u32,
-    per: u32,
-    count: usize,
-    first: &[u32],
-    size: &[u32],
-    t: u64,
-    d: u64,
-) -> u64
-    requires supplies { Supplies framed ticks per count first.now size.now }
-    requires d_le_max_tick { d ≤ max_tick }
-    ensures { IsReach (model_frame.ours_in (column_frame framed ticks count first.now size.now)) t d result }
-{
-    if !framed {
-        return d;
-    }
-    let at = (t % wide(ticks)) as u32;
-    let before = within(first, size, count, at);
-    reach_from(framed, ticks, per, count, first, size, at, before, d)
-}
-
-// The number of starts that the search needs: one where there is no frame.
-pub fn starts_of(framed: bool, count: usize) -> usize
-    ensures { (ticks : ℕ) → (first : List ℕ) → (size : List ℕ) → result ≡ starts_of (column_frame framed ticks count first size) }
-{
-    if !framed {
-        return 1;
-    }
-    count
-}
-
-// Start k: the place in the frame after window k.
-pub fn start_of(
-    framed: bool,
-    ticks: u32,
-    count: usize,
-    first: &[u32],
-    size: &[u32],
-    k: usize,
-) -> u32
-    requires frame_columns { FrameColumns framed ticks count first.now size.now }
-    requires k_bound { k < starts_of (column_frame framed ticks count first.now size.now) }
-    ensures { result ≡ start_at (column_frame framed ticks count first.now size.now) k }
-{
-    if !framed {
-        return 0;
-    }
-    (first[k] + size[k]) % ticks
-}
-
 // Whether a tick of the frame lies in a window.
 fn in_window(first: u32, size: u32, x: u32) -> bool
     ensures { result ≡ (leb first x && ltb x (first + size)) }
@@ -389,28 +235,126 @@ fn in_window(first: u32, size: u32, x: u32) -> bool
     x - first < size
 }
 
-// Whether a tick of the frame lies in one of its windows.
-fn in_some(first: &[u32], size: &[u32], count: usize, x: u32) -> bool
-    requires { Windows first.now size.now count }
-    ensures { (ticks : ℕ) → result ≡ model_frame.in_some (column_windows ticks count first.now size.now) count x }
-{
-    let mut k = 0;
-    while k < count {
-        if in_window(first[k], size[k], x) {
+impl Supply {
+    // The ticks of windows among the first x of the frame.
+    pub fn within(&self, x: u32) -> u32
+        requires { HasWindows self.now }
+        ensures { IsWithin self.now.first self.now.size self.now.count x result }
+    {
+        let mut sum: u32 = 0;
+        for k in 0..self.count {
+            sum += part_of(self.first[k], self.size[k], x);
+        }
+        sum
+    }
+
+    // The ticks of a frame up to tick r of its windows, that tick included.
+    fn locate(&self, r: u32) -> u32
+        requires windows { HasWindows self.now }
+        requires le_r { 1 ≤ r }
+        requires r_bound { r ≤ model_series.sum (column self.now.size) self.now.count }
+        ensures { Located self.now.first self.now.size self.now.count r result }
+    {
+        let mut left = r;
+        for k in 0..self.count {
+            let length = self.size[k];
+            if left <= length {
+                return self.first[k] + left;
+            }
+            left -= length;
+        }
+        0
+    }
+
+    // Our ticks among the first t.
+    pub fn our_ticks(&self, t: u64) -> u64
+        requires { IsSupply self.now }
+        ensures { result ≡ model_frame.supply (model_frame.ours_in (frame_in self.now)) 0 t }
+    {
+        if !self.framed {
+            return t;
+        }
+        let length = u64::from(self.ticks);
+        let rest = self.within((t % length) as u32);
+        t / length * u64::from(self.per) + u64::from(rest)
+    }
+
+    // The least number of ticks from a place of the frame among which d are ours, given the ticks of windows before the place.
+    pub fn reach_from(&self, at: u32, before: u32, d: u64) -> u64
+        requires supplies { IsSupply self.now }
+        requires begins { BeginsAt self.now at before }
+        requires d_le_max_tick { d ≤ max_tick }
+        ensures { IsReach (model_frame.ours_in (frame_in self.now)) at d result }
+    {
+        if !self.framed {
+            return d;
+        }
+        if d == 0 {
+            return 0;
+        }
+        let each = u64::from(self.per);
+        let past = u64::from(before) + d - 1;
+        let x = self.locate((past % each) as u32 + 1);
+        past / each * u64::from(self.ticks) + u64::from(x) - u64::from(at)
+    }
+
+    // The least number of ticks from t on among which d are ours.
+    pub fn reach(&self, t: u64, d: u64) -> u64
+        requires supplies { IsSupply self.now }
+        requires d_le_max_tick { d ≤ max_tick }
+        ensures { IsReach (model_frame.ours_in (frame_in self.now)) t d result }
+    {
+        if !self.framed {
+            return d;
+        }
+        let at = (t % u64::from(self.ticks)) as u32;
+        let before = self.within(at);
+        self.reach_from(at, before, d)
+    }
+
+    // The number of starts that the search needs: one where there is no frame.
+    pub fn starts(&self) -> usize
+        ensures { result ≡ starts_of (frame_in self.now) }
+    {
+        if !self.framed {
+            return 1;
+        }
+        self.count
+    }
+
+    // Start k: the place in the frame after window k.
+    pub fn start_of(&self, k: usize) -> u32
+        requires frame_columns { HasColumns self.now }
+        requires k_bound { k < starts_of (frame_in self.now) }
+        ensures { result ≡ start_at (frame_in self.now) k }
+    {
+        if !self.framed {
+            return 0;
+        }
+        (self.first[k] + self.size[k]) % self.ticks
+    }
+
+    // Whether a tick of the frame lies in one of its windows.
+    fn in_some(&self, x: u32) -> bool
+        requires { HasWindows self.now }
+        ensures { (ticks : ℕ) → result ≡ model_frame.in_some (column_windows ticks self.now.count self.now.first self.now.size) self.now.count x }
+    {
+        for k in 0..self.count {
+            if in_window(self.first[k], self.size[k], x) {
+                return true;
+            }
+        }
+        false
+    }
+
+    // Whether tick t is ours.
+    pub fn is_ours(&self, t: u64) -> bool
+        requires { HasColumns self.now }
+        ensures { result ≡ model_frame.ours_in (frame_in self.now) t }
+    {
+        if !self.framed {
             return true;
         }
-        k += 1;
+        self.in_some((t % u64::from(self.ticks)) as u32)
     }
-    false
-}
-
-// Whether tick t is ours.
-pub fn is_ours(framed: bool, ticks: u32, count: usize, first: &[u32], size: &[u32], t: u64) -> bool
-    requires { FrameColumns framed ticks count first.now size.now }
-    ensures { result ≡ model_frame.ours_in (column_frame framed ticks count first.now size.now) t }
-{
-    if !framed {
-        return true;
-    }
-    in_some(first, size, count, (t % wide(ticks)) as u32)
 }

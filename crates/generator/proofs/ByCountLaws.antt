@@ -1,6 +1,7 @@
 -- The search by count: fewer releases first.
 use Prim.Native.Nat.{ℕ, ◌+◌, ◌-◌, ◌≤◌, ◌<◌}
 use mathlib.Core.Path.{◌≡◌, refl, sym, ap, ◌∙◌}
+use Rattle.std.specs.Prelude.{⊤}
 use mathlib.Core.List.{List, [], ◌++◌}
 use native.Mathlib.Omega.{arith}
 use native.Mathlib.Nat.{sub-zero}
@@ -10,9 +11,8 @@ use Rattle.model.specs.Calls.{releases_of}
 use Rattle.model.specs.Series.{table}
 use Rattle.enumeration.specs.SmallTraces.{joined, extended}
 use Rattle.generator.specs.declared.Grid.{Grid}
-use Rattle.generator.specs.declared.Sought.{Sought}
-use Rattle.generator.specs.declared.Sought.TheVariants.{Found, Left}
-use Rattle.generator.specs.declared.Reached.TheVariants.{Trace, Past}
+use Rattle.std.specs.declared.ops.ControlFlow.{ControlFlow}
+use Rattle.std.specs.declared.ops.ControlFlow.TheVariants.{Continue, Break}
 use Rattle.generator.specs.Generator.{grid_tasks, Seekable, left_after, left_in, Seeks, Reaches}
 use Rattle.generator.proofs.LeftLaws.{left_inside, left_past, Going, going_none, going_all, going_here, going_member, going_next}
 use Rattle.generator.proofs.DeeperLaws.{joined_next, joined_end}
@@ -56,7 +56,7 @@ module _ (g : Grid) (releases p : ℕ) (task₀ tick₀ cost₀ : List ℕ) wher
         }
 
     -- no count is left
-    pub searching_all : releases < n → Reaches all releases p task tick cost (Past left)
+    pub searching_all : releases < n → Reaches all releases p task tick cost (Continue left)
     searching_all h =
         record {
           left = going_all [] all p left (rw (joined_end one (releases + 1) n (omega arith)) at w.going);
@@ -65,7 +65,7 @@ module _ (g : Grid) (releases p : ℕ) (task₀ tick₀ cost₀ : List ℕ) wher
         }
 
     module _
-        (b : n ≤ releases) (task' tick' cost' : List ℕ) (r : Sought)
+        (b : n ≤ releases) (task' tick' cost' : List ℕ) (r : ControlFlow ⊤ ℕ)
         (q : Seeks (extended (grid_tasks g) g.pairs n 0 (releases_of 0 task tick cost)) (0 + n) left 0 task tick cost task' tick' cost' r) where
       here : Going [] all (one n ++ joined one (n + 1) (releases + 1 - (n + 1))) p left
       here = rw (joined_next one (releases + 1) n (omega arith)) at w.going
@@ -77,8 +77,8 @@ module _ (g : Grid) (releases p : ℕ) (task₀ tick₀ cost₀ : List ℕ) wher
       told = q.left ∙ ap (λ (x : List (List Release)). left_after (length x) left) part
 
       -- the trace has n releases
-      pub searching_found : r ≡ Found → Reaches all releases p task' tick' cost' (Trace n)
-      searching_found e =
+      pub searching_found : (u : ⊤) → r ≡ Break u → Reaches all releases p task' tick' cost' (Break n)
+      searching_found u e =
           record {
             left = going_here [] all p (one n) _ left here inside;
             found = λ k f.
@@ -92,12 +92,12 @@ module _ (g : Grid) (releases p : ℕ) (task₀ tick₀ cost₀ : List ℕ) wher
           inside : left < length (one n)
           inside = left_inside (length (one n)) left (sym (ap left_in e) ∙ told)
 
-          count : (k : ℕ) → Trace n ≡ Trace k → k ≡ 0 + n
+          count : (k : ℕ) → ◌≡◌ {A = ControlFlow ℕ ℕ} (Break n) (Break k) → k ≡ 0 + n
           count k f = let c : k ≡ n = cc in omega arith
 
       -- it has more
       pub searching_next
-          : (rest : ℕ) → r ≡ Left rest → length task' ≡ length task → length tick' ≡ length tick → length cost' ≡ length cost
+          : (rest : ℕ) → r ≡ Continue rest → length task' ≡ length task → length tick' ≡ length tick → length cost' ≡ length cost
           → Searching g releases p task₀ tick₀ cost₀ task' tick' cost' rest (n + 1)
       searching_next rest e h k m =
           record {

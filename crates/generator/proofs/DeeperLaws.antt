@@ -3,6 +3,7 @@ use Prim.Native.Nat.{ℕ, suc, ◌+◌, ◌-◌, ◌/◌, ◌%◌, ◌≤◌, �
 use mathlib.Core.Path.{◌≡◌, refl, sym, ap, ◌∙◌}
 use mathlib.Core.Bool.{Bool, true, false}
 use mathlib.Core.Option.{some, none}
+use Rattle.std.specs.Prelude.{⊤}
 use mathlib.Core.List.{List, [], ◌∷◌, ◌++◌, reverse}
 use native.Mathlib.Omega.{arith}
 use mathlib.Core.Logic.{⊎_elim}
@@ -17,8 +18,8 @@ use Rattle.model.specs.Ready.{after}
 use Rattle.model.specs.Calls.{releases_of}
 use Rattle.enumeration.specs.SmallTraces.{pair_release, may_follow, joined, extended}
 use Rattle.generator.specs.declared.Grid.{Grid}
-use Rattle.generator.specs.declared.Sought.{Sought}
-use Rattle.generator.specs.declared.Sought.TheVariants.{Found, Left}
+use Rattle.std.specs.declared.ops.ControlFlow.{ControlFlow}
+use Rattle.std.specs.declared.ops.ControlFlow.TheVariants.{Continue, Break}
 use Rattle.generator.specs.Generator.{grid_tasks, Seekable, branch, left_after, left_in, Seeks}
 use Rattle.generator.proofs.LeftLaws.{left_none, left_some, left_inside, left_past, Going, going_none, going_all, going_here, going_member, going_next}
 use Rattle.generator.proofs.TraceRowLaws.{releases_before, releases_set, same_tick, same_first}
@@ -60,7 +61,7 @@ joined_end f b y h = let e : b - y ≡ 0 = omega arith in ap (joined f y) e
 
 -- a search among no traces
 pub seeks_none
-    : (all : List (List Release)) (n p at : ℕ) (task tick cost : List ℕ) → all ≡ [] → Seeks all n p at task tick cost task tick cost (Left p)
+    : (all : List (List Release)) (n p at : ℕ) (task tick cost : List ℕ) → all ≡ [] → Seeks all n p at task tick cost task tick cost (Continue p)
 seeks_none all n p at task tick cost e =
     record {
       left = sym (ap (λ (l : List (List Release)). left_after (length l) p) e ∙ left_some 0 p (omega arith) ∙ ap some (omega arith));
@@ -70,7 +71,7 @@ seeks_none all n p at task tick cost e =
 
 -- no release more to be placed: the one trace is that of the rows
 pub seeks_ended
-    : (s : Tasks) (b x at : ℕ) (task tick cost : List ℕ) (n p : ℕ) (r : Sought) → n ≡ 0 → left_in r ≡ left_after 1 p
+    : (s : Tasks) (b x at : ℕ) (task tick cost : List ℕ) (n p : ℕ) (r : ControlFlow ⊤ ℕ) → n ≡ 0 → left_in r ≡ left_after 1 p
     → Seeks (extended s b n x (releases_of at task tick cost)) (at + n) p at task tick cost task tick cost r
 unfolding extended
 seeks_ended s b x at task tick cost n p r e h =
@@ -112,7 +113,7 @@ module _
   put = releases_set at task tick cost i a e h k m ∙ ap (λ (r : Release). releases_of at task tick cost ++ (r ∷ [])) cc
 
   pub seeks_deeper
-      : (task' tick' cost' : List ℕ) (r : Sought)
+      : (task' tick' cost' : List ℕ) (r : ControlFlow ⊤ ℕ)
       → after (s.period (x % s.count)) (s.jitter (x % s.count)) (reverse (own (x % s.count) (releases_of at task tick cost))) 1 ≤ x / s.count
       → Seeks (extended s b n x (releases_of (at + 1) (set task at i) (set tick at a) (set cost at e))) (at + 1 + n) p (at + 1)
       (set task at i) (set tick at a) (set cost at e) task' tick' cost' r
@@ -180,7 +181,7 @@ module _ (g : Grid) (n x p at : ℕ) (task₀ tick₀ cost₀ : List ℕ) where
         }
 
     -- no pair is left
-    pub seeking_all : g.pairs ≤ y → Seeks all (at + n) p at task₀ tick₀ cost₀ task tick cost (Left left)
+    pub seeking_all : g.pairs ≤ y → Seeks all (at + n) p at task₀ tick₀ cost₀ task tick cost (Continue left)
     seeking_all h =
         record {
           left = over;
@@ -192,7 +193,7 @@ module _ (g : Grid) (n x p at : ℕ) (task₀ tick₀ cost₀ : List ℕ) where
         over = going_all [] all p left (rw (joined_end one g.pairs y h) at w.going)
 
     module _
-        (b : y < g.pairs) (task' tick' cost' : List ℕ) (r : Sought)
+        (b : y < g.pairs) (task' tick' cost' : List ℕ) (r : ControlFlow ⊤ ℕ)
         (q : Seeks (branch (grid_tasks g) g.pairs (n - 1) (releases_of at task tick cost) y) (at + 1 + (n - 1)) left at task tick cost task' tick' cost' r) where
       here : Going [] all (one y ++ joined one (y + 1) (g.pairs - (y + 1))) p left
       here = rw (joined_next one g.pairs y b) at w.going
@@ -204,8 +205,8 @@ module _ (g : Grid) (n x p at : ℕ) (task₀ tick₀ cost₀ : List ℕ) where
       told = q.left ∙ ap (λ (x : List (List Release)). left_after (length x) left) part
 
       -- the trace was found among those of pair y
-      pub seeking_found : r ≡ Found → Seeks all (at + n) p at task₀ tick₀ cost₀ task' tick' cost' Found
-      seeking_found e =
+      pub seeking_found : (u : ⊤) → r ≡ Break u → Seeks all (at + n) p at task₀ tick₀ cost₀ task' tick' cost' (Break u)
+      seeking_found u e =
           record {
             left = going_here [] all p (one y) _ left here inside;
             found = λ c.
@@ -221,7 +222,7 @@ module _ (g : Grid) (n x p at : ℕ) (task₀ tick₀ cost₀ : List ℕ) where
 
       -- it is a later one
       pub seeking_next
-          : (rest : ℕ) → r ≡ Left rest → length task' ≡ length task → length tick' ≡ length tick → length cost' ≡ length cost
+          : (rest : ℕ) → r ≡ Continue rest → length task' ≡ length task → length tick' ≡ length tick → length cost' ≡ length cost
           → Seeking g n x p at task₀ tick₀ cost₀ task' tick' cost' rest (y + 1)
       seeking_next rest e h k m =
           record {

@@ -1,5 +1,5 @@
 -- What the generator's functions answer.
-use Rattle.std.specs.Prelude.{ℕ, ◌+◌, ◌-◌, ◌≤◌, ◌<◌, max, ◌≡◌, Bool, true, false, List, [], ◌∷◌, ◌++◌, ltb, length, get_or}
+use Rattle.std.specs.Prelude.{⊤, ℕ, ◌+◌, ◌-◌, ◌≤◌, ◌<◌, max, ◌≡◌, Bool, true, false, List, [], ◌∷◌, ◌++◌, ltb, length, get_or}
 use Rattle.std.proofs.Math.Option.{Option, some, none}
 use Rattle.model.specs.Tasks.{Tasks, Release}
 use Rattle.model.specs.Gap.{gap}
@@ -8,10 +8,8 @@ use Rattle.enumeration.specs.SmallTraces.{pair_release, may_follow, extended}
 use Rattle.generator.specs.declared.Timing.{Timing}
 use Rattle.generator.specs.declared.Grid.{Grid}
 use Rattle.generator.specs.declared.Floor.{Floor}
-use Rattle.generator.specs.declared.Sought.{Sought}
-use Rattle.generator.specs.declared.Sought.TheVariants.{Found, Left}
-use Rattle.generator.specs.declared.Reached.{Reached}
-use Rattle.generator.specs.declared.Reached.TheVariants.{Trace, Past}
+use Rattle.std.specs.declared.ops.ControlFlow.{ControlFlow}
+use Rattle.std.specs.declared.ops.ControlFlow.TheVariants.{Continue, Break}
 
 abbrev pub no_timing : Timing
 no_timing = record { period = 0; jitter = 0; cost = 0 }
@@ -65,24 +63,24 @@ branch s b n l x = elim (may_follow s l (pair_release s x)) [ true ↦ extended 
 unfoldable pub left_after : ℕ → ℕ → Option ℕ
 left_after n p = elim (ltb p n) [ true ↦ none | false ↦ some (p - n) ]
 
-abbrev pub left_in : Sought → Option ℕ
-left_in Found = none
-left_in (Left n) = some n
+abbrev pub left_in : ControlFlow ⊤ ℕ → Option ℕ
+left_in (Break u) = none
+left_in (Continue n) = some n
 
 -- how a search for position p among some traces of n releases ends: what is left of the position; where it is the position of one of them, the rows hold that
 -- trace; and the first `at` releases of the rows are as they were
-pub record Seeks (all : List (List Release)) (n p at : ℕ) (task tick cost task' tick' cost' : List ℕ) (r : Sought) : Type 0 where
+pub record Seeks (all : List (List Release)) (n p at : ℕ) (task tick cost task' tick' cost' : List ℕ) (r : ControlFlow ⊤ ℕ) : Type 0 where
   pub left : left_in r ≡ left_after (length all) p
   pub found : p < length all → releases_of n task' tick' cost' ≡ get_or all p []
   pub kept : releases_of at task' tick' cost' ≡ releases_of at task tick cost
 
-abbrev pub past_in : Reached → Option ℕ
-past_in (Trace n) = none
-past_in (Past left) = some left
+abbrev pub past_in : ControlFlow ℕ ℕ → Option ℕ
+past_in (Break n) = none
+past_in (Continue left) = some left
 
 -- how a search for position p among all small traces of up to m releases ends: what is left of the position; where it is the position of one of them, the number
 -- of its releases, and the rows hold it
-pub record Reaches (all : List (List Release)) (m p : ℕ) (task' tick' cost' : List ℕ) (r : Reached) : Type 0 where
+pub record Reaches (all : List (List Release)) (m p : ℕ) (task' tick' cost' : List ℕ) (r : ControlFlow ℕ ℕ) : Type 0 where
   pub left : past_in r ≡ left_after (length all) p
-  pub found : (n : ℕ) → r ≡ Trace n → releases_of n task' tick' cost' ≡ get_or all p []
-  pub few : (n : ℕ) → r ≡ Trace n → n ≤ m
+  pub found : (n : ℕ) → r ≡ Break n → releases_of n task' tick' cost' ≡ get_or all p []
+  pub few : (n : ℕ) → r ≡ Break n → n ≤ m

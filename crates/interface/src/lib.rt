@@ -2,16 +2,17 @@
 // A code is 0, or number · 2^32 + place of a refusal.
 #![tactic(auto)]
 
-ghost use Rattle.std.specs.Prelude.{◌≡◌, ◌+◌, ◌≤◌, ◌<◌, min, [], ◌∷◌, ◌++◌, length, drop};
+ghost use Rattle.std.specs.Prelude.{◌≡◌, ◌+◌, ◌≤◌, ◌<◌, ◌++◌, length, drop};
 ghost use Rattle.std.proofs.Math.Option.{some};
 ghost use Rattle.std.proofs.lemmas.List.Edits.{sets};
 ghost use Rattle.model.specs.Refusal.{answered};
-ghost use Rattle.taskset.specs.TaskSet.{refusal_in};
+ghost use Rattle.refusal.specs.Refusal.{refusal_in, number_of};
 ghost use Rattle.interface.specs.Interface.{task_at, sheet_from, refusal_code, code_of, after_slots, or_too_few, Ends};
 ghost use Rattle.interface.specs.TaskNumbers.{mark_number, task_numbers, numbers_of};
 
 use numbers::number_at;
-use taskset::{Checked, Task, TaskSet};
+use refusal::{Reason, Refusal};
+use taskset::{Task, TaskSet};
 
 // The entry of task i in a sheet passed as numbers.
 pub fn task_at(sheet: &[u32], i: usize) -> Task
@@ -24,22 +25,12 @@ pub fn task_at(sheet: &[u32], i: usize) -> Task
     let deadline = number_at(sheet, 5 * i + 3);
     let mark = number_at(sheet, 5 * i + 4);
     Task {
-        period: period,
-        jitter: jitter,
-        cost: cost,
-        deadline: deadline,
+        period,
+        jitter,
+        cost,
+        deadline,
         low: mark != 0,
     }
-}
-
-// How many entries of a sheet a count uses: at most all 32.
-fn entries_used(count: u32) -> usize
-    ensures { result ≡ min count 32 }
-{
-    if count < 32 {
-        return count as usize;
-    }
-    32
 }
 
 // The sheet of numbers, a count and a charge. Entries past the count are 0.
@@ -54,116 +45,83 @@ pub fn sheet_from(sheet: &[u32], count: u32, charge: u8) -> TaskSet
         low: false,
     };
     let mut tasks = [none; 32];
-    let used = entries_used(count);
-    let mut i = 0;
-    while i < used {
+    let used = count.min(32) as usize;
+    for i in 0..used {
         let t = task_at(sheet, i);
         tasks[i] = t;
-        i += 1;
     }
     TaskSet {
-        tasks: tasks,
+        tasks,
         count: count as usize,
-        charge: charge,
+        charge,
     }
 }
 
 // A refusal as one number.
-pub fn refusal_code(number: u32, place: usize) -> u64
-    ensures { result ≡ refusal_code number place }
+pub fn refusal_code(r: Refusal) -> u64
+    ensures { result ≡ refusal_code (number_of r.reason) r.place }
 {
-    (number as u64) * 4294967296 + (place as u64) % 4294967296
+    u64::from(r.reason.number()) * 4294967296 + (r.place as u64) % 4294967296
+}
+
+// The code of a call to which too few slots are lent.
+pub fn short_code(needed: usize) -> u64
+    ensures { result ≡ refusal_code 13 needed }
+{
+    refusal_code(Refusal {
+        reason: Reason::ShortSlice,
+        place: needed,
+    })
 }
 
 // What a call returns that answers in columns.
-pub fn code_of(checked: Checked) -> u64
+pub fn code_of(checked: Result<(), Refusal>) -> u64
     ensures { result ≡ code_of (refusal_in checked) }
 {
     match checked {
-        Checked::Fine => 0,
-        Checked::Refused { number, place } => refusal_code(number, place),
+        Ok(()) => 0,
+        Err(r) => refusal_code(r),
     }
 }
 
-// Whether a call on values checks a refusal of this number after its lent slices.
-fn after_slots(number: u32) -> bool
-    ensures { result ≡ after_slots number }
+// Whether a call on values checks for this reason after its lent slices.
+fn after_slots(reason: Reason) -> bool
+    ensures { result ≡ after_slots (number_of reason) }
 {
-    if number < 7 {
-        return false;
+    match reason {
+        Reason::ReleaseTask
+        | Reason::ReleaseTick
+        | Reason::ReleaseCost
+        | Reason::KeptOverJitter
+        | Reason::Unfit
+        | Reason::Stale
+        | Reason::TooSoon => true,
+        _ => false,
     }
-    if number <= 9 {
-        return true;
-    }
-    if number == 12 {
-        return true;
-    }
-    if number < 19 {
-        return number == 15;
-    }
-    number <= 20
 }
 
 // The code of a refused call that also needs so many slots for its answer.
-pub fn slots_code(number: u32, place: usize, needed: usize, slots: usize) -> u64
-    ensures { result ≡ code_of (some (or_too_few needed slots (record { number = number; place = place }))) }
+pub fn slots_code(r: Refusal, needed: usize, slots: usize) -> u64
+    ensures { result ≡ code_of (some (or_too_few needed slots (record { number = number_of r.reason; place = r.place }))) }
 {
     if needed <= slots {
-        return refusal_code(number, place);
+        return refusal_code(r);
     }
-    if after_slots(number) {
-        return refusal_code(13, needed);
+    if after_slots(r.reason) {
+        return short_code(needed);
     }
-    refusal_code(number, place)
+    refusal_code(r)
 }
 
-// Puts an answer of one word, or refuses 13.
-pub fn put_one(answer: &mut [u64], a: u64) -> u64
-    ensures { Ends 1 (answered (a ∷ [])) answer.old result answer.new }
+// Puts the words of an answer, or refuses 13.
+pub fn put_words(answer: &mut [u64], words: &[u64]) -> u64
+    ensures { Ends (length words.now) (answered words.now) answer.old result answer.new }
 {
-    if answer.len() < 1 {
-        return refusal_code(13, 1);
+    let n = words.len();
+    if answer.len() < n {
+        return short_code(n);
     }
-    answer[0] = a;
-    0
-}
-
-// Puts an answer of two words, or refuses 13.
-pub fn put_two(answer: &mut [u64], a: u64, b: u64) -> u64
-    ensures { Ends 2 (answered (a ∷ b ∷ [])) answer.old result answer.new }
-{
-    if answer.len() < 2 {
-        return refusal_code(13, 2);
-    }
-    answer[0] = a;
-    answer[1] = b;
-    0
-}
-
-// Puts an answer of three words, or refuses 13.
-pub fn put_three(answer: &mut [u64], a: u64, b: u64, c: u64) -> u64
-    ensures { Ends 3 (answered (a ∷ b ∷ c ∷ [])) answer.old result answer.new }
-{
-    if answer.len() < 3 {
-        return refusal_code(13, 3);
-    }
-    answer[0] = a;
-    answer[1] = b;
-    answer[2] = c;
-    0
-}
-
-// Puts an answer of four words, or refuses 13.
-pub fn put_four(answer: &mut [u64], a: u64, b: u64, c: u64, d: u64) -> u64
-    ensures { Ends 4 (answered (a ∷ b ∷ c ∷ d ∷ [])) answer.old result answer.new }
-{
-    if answer.len() < 4 {
-        return refusal_code(13, 4);
-    }
-    answer[0] = a;
-    answer[1] = b;
-    answer[2] = c;
-    answer[3] = d;
+    answer[..n].copy_from_slice(words);
     0
 }
 
@@ -191,10 +149,8 @@ pub fn put_sheet(s: TaskSet, sheet: &mut [u32])
     requires { 160 ≤ length sheet.old }
     ensures { sheet.new ≡ numbers_of s.tasks ++ drop (length (numbers_of s.tasks)) sheet.old }
 {
-    let mut i = 0;
-    while i < 32 {
+    for i in 0..32 {
         let t = s.tasks[i];
         put_task(sheet, 5 * i, t);
-        i += 1;
     }
 }

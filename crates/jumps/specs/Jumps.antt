@@ -1,17 +1,16 @@
 -- What the functions of the run that jumps answer, over columns of numbers.
-use Rattle.std.specs.Prelude.{ℕ, ◌≤◌, ◌<◌, ◌≡◌, Bool, ◌&&◌, not, ◌⊎◌, List, ◌++◌, length, get_or, leb, eqb}
+use Rattle.std.specs.Prelude.{ℕ, ◌≤◌, ◌<◌, ◌≡◌, Bool, ◌&&◌, not, ◌⊎◌, Result, List, ◌++◌, length, get_or, leb, eqb}
 use Rattle.model.specs.Limits.{max_tasks}
 use Rattle.model.specs.Series.{table}
 use Rattle.model.specs.Run.{Jobs, finish_of}
-use Rattle.model.specs.Refusal.{Answer, refused, answered}
+use Rattle.model.specs.Refusal.{Answer}
+use Rattle.refusal.specs.declared.Refusal.{Refusal}
+use Rattle.refusal.specs.Refusal.{answer_in}
 use Rattle.queues.specs.Queues.{start_of, first_from, never, wake_of, Timely}
-use Rattle.jumps.specs.declared.JumpAnswer.{JumpAnswer}
-use Rattle.jumps.specs.declared.JumpAnswer.TheVariants.{Ran, Refused}
 
 -- the answer of the call: how often the run stopped, or a refusal
-abbrev pub jump_in : JumpAnswer → Answer ℕ
-jump_in (Ran n) = answered n
-jump_in (Refused n p) = refused (record { number = n; place = p })
+abbrev pub jump_in : Result ℕ Refusal → Answer ℕ
+jump_in = answer_in (λ n. n)
 
 -- the ticks at which the run of some jobs stops: their start ticks, which are their ready ticks plus 1, and their finish ticks
 abbrev pub stops_of : Jobs → List ℕ

@@ -12,21 +12,14 @@ ghost use Rattle.model.specs.Ready.{ready_list};
 ghost use Rattle.model.specs.Run.{finish_of, finish_list};
 ghost use Rattle.model.specs.Calls.{releases_of, column_after, run_inputs, jump_call};
 ghost use Rattle.frame.specs.FrameView.{framed_of};
-ghost use Rattle.frame.specs.WindowColumns.{column_frame, Supplies};
+ghost use Rattle.frame.specs.WindowColumns.{IsSupply, frame_in};
 ghost use Rattle.queues.specs.Queues.{jobs_of, never, first_from, wake_of, Timely, Runnable};
 ghost use Rattle.jumps.specs.Jumps.{jump_in, stops_of, comes, coming_of, Queued, Next, Awake, Waking};
 
-use frame::{Frame, our_ticks, reach};
-use numbers::wide;
-use queues::{NEVER, first_jobs, first_work, may_run, next_of, smaller, wake_of, work_of};
-use taskset::{Checked, TaskSet};
-
-// What the run that jumps answers: how often it stopped, or the documents' number and place.
-#[derive(Clone, Copy)]
-pub enum JumpAnswer {
-    Ran { stops: u32 },
-    Refused { number: u32, place: usize },
-}
+use frame::{Frame, Supply};
+use queues::{NEVER, first_jobs, first_work, may_run, next_of, wake_of, work_of};
+use refusal::Refusal;
+use taskset::TaskSet;
 
 // Whether the job at p is one of task i that may not run in tick t yet.
 fn is_coming(task: &[u32], ready: &[u64], n: usize, i: u32, t: u64, p: usize) -> bool
@@ -44,12 +37,10 @@ fn coming_of(task: &[u32], ready: &[u64], n: usize, i: u32, t: u64, from: usize)
     requires { (from ≤ n) × (n ≤ length task.now) × Timely n ready.now }
     ensures { result ≡ coming_of task.now ready.now n i t from }
 {
-    let mut p = from;
-    while p < n {
+    for p in from..n {
         if is_coming(task, ready, n, i, t, p) {
             return p;
         }
-        p += 1;
     }
     n
 }
@@ -99,11 +90,9 @@ fn next_wake(
         return wake;
     }
     let mut least = NEVER;
-    let mut i = 0;
-    while i < tasks {
+    for i in 0..tasks {
         let soon = next_due(task, ready, n, tasks, t, i, coming, due);
-        least = smaller(least, soon);
-        i += 1;
+        least = least.min(soon);
     }
     least
 }
@@ -114,10 +103,8 @@ fn first_starts(head: &[usize; 32], ready: &[u64], n: usize, tasks: usize) -> [u
     ensures { Holds (λ i. wake_of ready.now n (get_or head.now i 0)) tasks 32 result }
 {
     let mut since = [0; 32];
-    let mut i = 0;
-    while i < tasks {
+    for i in 0..tasks {
         since[i] = wake_of(ready, n, head[i]);
-        i += 1;
     }
     since
 }
@@ -127,35 +114,23 @@ fn top_started(since: &[u64; 32], tasks: usize, t: u64) -> usize
     requires { tasks ≤ 32 }
     ensures { result ≡ first_from (λ i. leb (get_or since.now i 0) t) tasks 0 }
 {
-    let mut i = 0;
-    while i < tasks {
+    for i in 0..tasks {
         if since[i] <= t {
             return i;
         }
-        i += 1;
     }
     tasks
 }
 
 // The work that a job with `left` ticks of it at tick t has at tick u, where it runs in every tick of ours between them.
-fn left_after(
-    framed: bool,
-    ticks: u32,
-    per: u32,
-    windows: usize,
-    first: &[u32],
-    size: &[u32],
-    left: u32,
-    t: u64,
-    u: u64,
-) -> u32
-    requires supplies { Supplies framed ticks per windows first.now size.now }
+fn left_after(supply: &Supply, left: u32, t: u64, u: u64) -> u32
+    requires supplies { IsSupply supply.now }
     requires t_le_u { t ≤ u }
-    requires t_bound { model_frame.supply (model_frame.ours_in (column_frame framed ticks windows first.now size.now)) t (u - t) ≤ left }
-    ensures { result ≡ left - model_frame.supply (model_frame.ours_in (column_frame framed ticks windows first.now size.now)) t (u - t) }
+    requires t_bound { model_frame.supply (model_frame.ours_in (frame_in supply.now)) t (u - t) ≤ left }
+    ensures { result ≡ left - model_frame.supply (model_frame.ours_in (frame_in supply.now)) t (u - t) }
 {
-    let before = our_ticks(framed, ticks, per, windows, first, size, t);
-    let done = our_ticks(framed, ticks, per, windows, first, size, u) - before;
+    let before = supply.our_ticks(t);
+    let done = supply.our_ticks(u) - before;
     left - done as u32
 }
 
@@ -163,12 +138,7 @@ fn left_after(
 // `head` has the oldest unfinished job of each task, `since` its start tick, `left` the ticks of work that it has left; the next start tick
 // after t is `wake`.
 fn fill_finish(
-    framed: bool,
-    ticks: u32,
-    per: u32,
-    windows: usize,
-    first: &[u32],
-    size: &[u32],
+    supply: &Supply,
     task: &[u32],
     cost: &[u32],
     charge: u32,
@@ -177,14 +147,14 @@ fn fill_finish(
     tasks: usize,
     finish: &mut [u64],
 ) -> u32
-    requires supplies { Supplies framed ticks per windows first.now size.now }
-    requires runnable { Runnable (column_frame framed ticks windows first.now size.now) n tasks task.now cost.now charge ready.now finish.old }
+    requires supplies { IsSupply supply.now }
+    requires runnable { Runnable (frame_in supply.now) n tasks task.now cost.now charge ready.now finish.old }
     ensures finishes { finish.new
-        ≡ table (finish_of (jobs_of (column_frame framed ticks windows first.now size.now) n task.now cost.now charge
+        ≡ table (finish_of (jobs_of (frame_in supply.now) n task.now cost.now charge
         ready.now)) n
         ++ drop n finish.old }
     ensures stops { result
-        ≡ different (stops_of (jobs_of (column_frame framed ticks windows first.now size.now) n task.now cost.now charge
+        ≡ different (stops_of (jobs_of (frame_in supply.now) n task.now cost.now charge
         ready.now)) }
 {
     let mut head = first_jobs(task, n, tasks);
@@ -206,9 +176,9 @@ fn fill_finish(
             stops += 1;
             continue;
         }
-        let end = t + reach(framed, ticks, per, windows, first, size, t, wide(left[i]));
+        let end = t + supply.reach(t, u64::from(left[i]));
         if wake < end {
-            left[i] = left_after(framed, ticks, per, windows, first, size, left[i], t, wake);
+            left[i] = left_after(supply, left[i], t, wake);
             t = wake;
             stops += 1;
             continue;
@@ -229,7 +199,7 @@ fn fill_finish(
 // columns as they were.
 pub fn run(
     s: TaskSet,
-    f: Frame,
+    f: Option<Frame>,
     kept: &[u32],
     count: usize,
     task: &[u32],
@@ -237,7 +207,7 @@ pub fn run(
     cost: &[u32],
     ready: &mut [u64],
     finish: &mut [u64],
-) -> JumpAnswer
+) -> Result<u32, Refusal>
     ensures answer { jump_in result
         ≡ jump_call (framed_of s f) kept.now count task.now tick.now cost.now ready.old finish.old }
     ensures ticks { ready.new
@@ -249,32 +219,10 @@ pub fn run(
         (run_inputs (framed_of s f) kept.now count task.now tick.now cost.now ready.old finish.old))
         (finish_list (framed_of s f) (column kept.now) (releases_of count task.now tick.now cost.now)) finish.old }
 {
-    let checked = queues::check_and_shape(s, f, kept, count, task, tick, cost, ready, finish.len());
-    if let Checked::Refused { number, place } = checked {
-        return JumpAnswer::Refused {
-            number: number,
-            place: place,
-        };
-    }
+    queues::check_and_shape(s, f, kept, count, task, tick, cost, ready, finish.len())?;
     let tasks = s.count;
     let charge = s.charge as u32;
     let supply = frame::supply_of(f);
-    let first = supply.first;
-    let size = supply.size;
-    let stops = fill_finish(
-        supply.framed,
-        supply.ticks,
-        supply.per,
-        supply.count,
-        &first,
-        &size,
-        task,
-        cost,
-        charge,
-        ready,
-        count,
-        tasks,
-        finish,
-    );
-    JumpAnswer::Ran { stops: stops }
+    let stops = fill_finish(&supply, task, cost, charge, ready, count, tasks, finish);
+    Ok(stops)
 }

@@ -1,4 +1,5 @@
 -- The walk over q that finds the least kept jitter of a task, over the columns that the code looks at.
+use Rattle.std.specs.Prelude as std
 use Prim.Native.Nat.{ℕ, suc, ◌+◌, ◌-◌, ◌*◌, ◌≤◌, ◌<◌, min}
 use mathlib.Core.Path.{◌≡◌, refl, sym, ap, ◌∙◌}
 use mathlib.Core.Logic.{dite}
@@ -24,10 +25,9 @@ use Rattle.model.proofs.FrameLaws.{Ruled, ours_same, turn_same}
 use Rattle.model.proofs.SameVerdict.{unframed_same, SameAbove, window_same, tried_same}
 use Rattle.response.proofs.WindowLaws.{Window, window_some, window_over}
 use Rattle.demand.specs.Columns.{IsOnce}
-use Rattle.keeping.specs.declared.Least.TheVariants.{Keep, Unfit}
 use Rattle.keeping.specs.declared.Step.{Step}
 use Rattle.keeping.specs.declared.Step.TheVariants.{Stops, Fails, Next}
-use Rattle.keeping.specs.Keeping.{flat, Searched, WithinIs, Flat, Walkable, LeastOf, next_high, step_of, Stepped}
+use Rattle.keeping.specs.Keeping.{flat, Searched, WithinIs, kept_at, Flat, Walkable, LeastOf, next_high, step_of, Stepped}
 use Rattle.keeping.proofs.ChoiceStepLaws.{step_over, step_keep, step_next, gap_over, gap_under}
 use Rattle.response.proofs.ChoiceLaws.{keep_above}
 use Rattle.keeping.proofs.ChoiceWalkLaws.{Walked, walk_start, walk_none, walk_over, walk_next, walk_taken, walk_keep, walk_worst}
@@ -52,8 +52,8 @@ pub record Walking (o : Option Frame) (loads periods keeps : List ℕ) (i J D q 
 
 -- what a step leaves, n being the evaluations up to q: the answer, or the walk at the next q
 abbrev pub Stepping : Option Frame → List ℕ → List ℕ → List ℕ → ℕ → ℕ → ℕ → ℕ → ℕ → Step → Type 0
-Stepping o loads periods keeps i J D q n (Stops K w) = LeastOf o loads periods keeps i J D (Keep K w q n)
-Stepping o loads periods keeps i J D q n Fails = LeastOf o loads periods keeps i J D Unfit
+Stepping o loads periods keeps i J D q n (Stops K w) = LeastOf o loads periods keeps i J D (kept_at K w q n)
+Stepping o loads periods keeps i J D q n Fails = LeastOf o loads periods keeps i J D std.None
 Stepping o loads periods keeps i J D q n (Next high) = Walking o loads periods keeps i J D (q + 1) high n
 
 module _ (o : Option Frame) (loads periods keeps : List ℕ) (i J D : ℕ) (ruled : Ruled o) (may : Walkable loads periods keeps i J D) where
@@ -110,7 +110,7 @@ module _ (o : Option Frame) (loads periods keeps : List ℕ) (i J D : ℕ) (rule
     searched once o = record { columns = may.columns; once_is = o; q_high = g.q_high }
 
     -- W(q) over H, or none
-    pub walking_none : window_at o loads periods keeps i q ≡ none → LeastOf o loads periods keeps i J D Unfit
+    pub walking_none : window_at o loads periods keeps i q ≡ none → LeastOf o loads periods keeps i J D std.None
     walking_none e s f =
         walk_none s (take i keeps) i (window_at o loads periods keeps i) above_long (same s f) q high (g.walked s f) e
 
@@ -140,7 +140,7 @@ module _ (o : Option Frame) (loads periods keeps : List ℕ) (i J D : ℕ) (rule
       }
 
       -- W(q) + pickup + min(0, x) > D
-      over : D + (q * column periods i - J) < w + pickup → LeastOf o loads periods keeps i J D Unfit
+      over : D + (q * column periods i - J) < w + pickup → LeastOf o loads periods keeps i J D std.None
       over h s f =
           walk_over s (take i keeps) i (window_at o loads periods keeps i) above_long (same s f) q high (g.walked s f) w found.is
           (rw (f.jitter_is, f.deadline_is, f.period_is i (omega arith)) h)
@@ -157,7 +157,7 @@ module _ (o : Option Frame) (loads periods keeps : List ℕ) (i J D : ℕ) (rule
         under_of s f = rw (f.jitter_is, f.deadline_is, f.period_is i (omega arith)) under
 
         -- the least K so far stops here
-        keeps_it : N - D + w ≤ q * column periods i + column periods i → LeastOf o loads periods keeps i J D (Keep (N - D) (min N D) q (n + m))
+        keeps_it : N - D + w ≤ q * column periods i + column periods i → LeastOf o loads periods keeps i J D (kept_at (N - D) (min N D) q (n + m))
         keeps_it h s f = rw (← f.deadline_is) (record {
           least =
               walk_keep s (take i keeps) i (window_at o loads periods keeps i) above_long (same s f) q high (g.walked s f) w found.is N

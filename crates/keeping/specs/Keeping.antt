@@ -1,4 +1,5 @@
 -- The least kept jitter of one task: what the functions of this crate take and answer.
+use Rattle.std.specs.Prelude as std
 use Rattle.std.specs.Prelude.{ℕ, suc, ◌+◌, ◌-◌, ◌*◌, ◌≤◌, ◌<◌, max, min, ◌≡◌, true, false, List, leb, ltb, length, take, pos}
 use Rattle.std.proofs.Math.Option.{Option, some, none}
 use Rattle.model.specs.Limits.{max_time, horizon_tick}
@@ -13,9 +14,7 @@ use Rattle.model.specs.Evaluations.{counted_at, taken, evaluations}
 use Rattle.model.specs.Choice.{column, and_keep, least_keep, worst_of}
 use Rattle.demand.specs.Columns.{flat_tasks, Searchable, IsOnce}
 use Rattle.keeping.specs.declared.Window.{Window}
-use Rattle.keeping.specs.declared.Window.TheVariants.{Within, Over}
 use Rattle.keeping.specs.declared.Least.{Least}
-use Rattle.keeping.specs.declared.Least.TheVariants.{Keep, Unfit}
 use Rattle.keeping.specs.declared.Step.{Step}
 use Rattle.keeping.specs.declared.Step.TheVariants.{Stops, Fails, Next}
 
@@ -35,9 +34,9 @@ pub record WithinIs (o : Option Frame) (loads periods keeps : List ℕ) (n q w m
   pub counted : counted_at (flat o loads periods) (column keeps) n q ≡ m
   pub small : m ≤ 10000001
 
-abbrev pub WindowOf : Option Frame → List ℕ → List ℕ → List ℕ → ℕ → ℕ → Window → Type 0
-WindowOf o loads periods keeps n q (Within w m) = WithinIs o loads periods keeps n q w m
-WindowOf o loads periods keeps n q Over = window (flat o loads periods) (column keeps) n q ≡ none
+abbrev pub WindowOf : Option Frame → List ℕ → List ℕ → List ℕ → ℕ → ℕ → std.Option Window → Type 0
+WindowOf o loads periods keeps n q (std.Some w) = WithinIs o loads periods keeps n q w.ticks w.tries
+WindowOf o loads periods keeps n q std.None = window (flat o loads periods) (column keeps) n q ≡ none
 
 -- K is the least kept jitter of task i, given the choices above; w, q and n are the largest R, the last q and the evaluations of the verdict at K
 pub record KeepIs (s : Tasks) (above : List ℕ) (i K w q n : ℕ) : Type 0 where
@@ -47,9 +46,13 @@ pub record KeepIs (s : Tasks) (above : List ℕ) (i K w q n : ℕ) : Type 0 wher
   pub counted : evaluations s (and_keep above K) i ≡ n
   pub small : n ≤ 100000020000001
 
-abbrev pub LeastIs : Tasks → List ℕ → ℕ → Least → Type 0
-LeastIs s above i (Keep K w q n) = KeepIs s above i K w q n
-LeastIs s above i Unfit = least_keep s above i ≡ none
+-- such an answer
+abbrev pub kept_at : ℕ → ℕ → ℕ → ℕ → std.Option Least
+kept_at K w q n = std.Some (record { keep = K; worst = w; last = q; evaluations = n })
+
+abbrev pub LeastIs : Tasks → List ℕ → ℕ → std.Option Least → Type 0
+LeastIs s above i (std.Some k) = KeepIs s above i k.keep k.worst k.last k.evaluations
+LeastIs s above i std.None = least_keep s above i ≡ none
 
 -- the largest W(q') + pickup + J − q'P up to q, high being that of the q' before and w being W(q)
 abbrev pub next_high : ℕ → ℕ → ℕ → ℕ → ℕ → ℕ
@@ -96,5 +99,5 @@ pub record Walkable (loads periods keeps : List ℕ) (i J D : ℕ) : Type 0 wher
   pub own : InRange (column periods i) J (column loads i) D
 
 -- the least kept jitter of task i, for every task set with these columns and this frame
-abbrev pub LeastOf : Option Frame → List ℕ → List ℕ → List ℕ → ℕ → ℕ → ℕ → Least → Type 0
+abbrev pub LeastOf : Option Frame → List ℕ → List ℕ → List ℕ → ℕ → ℕ → ℕ → std.Option Least → Type 0
 LeastOf o loads periods keeps i J D r = (s : Tasks) → Flat s o loads periods i J D → LeastIs s (take i keeps) i r

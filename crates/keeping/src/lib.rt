@@ -2,20 +2,19 @@
 #![tactic(auto)]
 
 ghost use Rattle.std.specs.Prelude.{◌≡◌, ◌≤◌};
-ghost use Rattle.frame.specs.WindowColumns.{column_frame, Supplies};
-ghost use Rattle.demand.specs.Columns.{Factored};
+ghost use Rattle.frame.specs.WindowColumns.{IsSupply, frame_in};
+ghost use Rattle.demand.specs.Columns.{HasFactors};
 ghost use Rattle.keeping.specs.Keeping.{Searched, Walkable, WindowOf, LeastOf, Product, Stepped, step_of};
 
-use demand::{above_load, once_each, start_at, tally_of};
-use frame::{reach_from, starts_of};
-use numbers::{larger, less, wide};
+use demand::{FactorColumns, TaskColumns, above_load, once_each, start_at, tally_of};
+use frame::Supply;
 use taskset::PICKUP;
 
-// W(q) with how many t count for it, or that it is over the horizon H or there is none.
+// W(q), with how many t count for it.
 #[derive(Clone, Copy)]
-pub enum Window {
-    Within { window: u32, tries: u64 },
-    Over,
+pub struct Window {
+    pub ticks: u32,
+    pub tries: u64,
 }
 
 // What the walk over q says at one q: the least kept jitter, which stops here, with its largest R; that no kept jitter fits;
@@ -27,16 +26,13 @@ pub enum Step {
     Next(u32),
 }
 
-// The least kept jitter at which a task fits, with its largest R, the last q that was taken and the evaluations; or that there is none.
+// The least kept jitter at which a task fits, with its largest R, the last q that was taken and the evaluations.
 #[derive(Clone, Copy)]
-pub enum Least {
-    Keep {
-        keep: u32,
-        worst: u32,
-        last: u32,
-        evaluations: u64,
-    },
-    Unfit,
+pub struct Least {
+    pub keep: u32,
+    pub worst: u32,
+    pub last: u32,
+    pub evaluations: u64,
 }
 
 // A number of jobs times P or E.
@@ -44,37 +40,30 @@ fn product(n: u32, x: u32) -> u64
     requires { (n ≤ 10000001) × (x ≤ 1000000) }
     ensures { Product n x result }
 {
-    wide(n) * wide(x)
+    u64::from(n) * u64::from(x)
 }
 
 // W(q) of task n, start by start of the frame: from the ticks that q + 1 loads of its own and `once`, one load of each task above, take, on with those of the demand in
-// the t just tried; the largest of the starts. Without a frame there is one start, and every t of the search counts.
+// the t just tried; the largest of the starts. None where it is over the horizon H, or there is none. Without a frame there is one start, and every t of the search counts.
 fn window_of(
-    loads: &[u32],
-    periods: &[u32],
-    highs: &[u32],
-    lows: &[u32],
+    columns: &TaskColumns,
+    factors: &FactorColumns,
     keeps: &[u32],
-    framed: bool,
-    ticks: u32,
-    per: u32,
-    count: usize,
-    first: &[u32],
-    size: &[u32],
+    supply: &Supply,
     n: usize,
     once: u64,
     q: u32,
-) -> Window
-    requires searched { Searched loads.now periods.now keeps.now n once q }
-    requires factored { Factored periods.now highs.now lows.now n }
-    requires supplies { Supplies framed ticks per count first.now size.now }
-    ensures { WindowOf (column_frame framed ticks count first.now size.now) loads.now periods.now keeps.now n q result }
+) -> Option<Window>
+    requires searched { Searched columns.now.loads columns.now.periods keeps.now n once q }
+    requires factored { HasFactors columns.now factors.now n }
+    requires supplies { IsSupply supply.now }
+    ensures { WindowOf (frame_in supply.now) columns.now.loads columns.now.periods keeps.now n q result }
 {
-    let own = product(q + 1, loads[n]);
+    let own = product(q + 1, columns.loads[n]);
     let need = own + once;
-    let starts = starts_of(framed, count);
-    let tally = tally_of(framed);
-    let begin = start_at(framed, ticks, per, count, first, size, 0, need);
+    let starts = supply.starts();
+    let tally = tally_of(supply.framed);
+    let begin = start_at(supply, 0, need);
     let mut at = begin.at;
     let mut before = begin.before;
     let mut t = begin.t;
@@ -84,23 +73,23 @@ fn window_of(
     loop {
         tries += tally;
         if 10000000 < t {
-            return Window::Over;
+            return None;
         }
-        let d = own + above_load(loads, periods, highs, lows, keeps, n, t as u32);
-        let x = reach_from(framed, ticks, per, count, first, size, at, before, d);
+        let d = own + above_load(columns, factors, keeps, n, t as u32);
+        let x = supply.reach_from(at, before, d);
         if t < x {
             t = x;
             continue;
         }
-        w = larger(w, t);
+        w = w.max(t);
         k += 1;
         if starts <= k {
-            return Window::Within {
-                window: w as u32,
-                tries: tries,
-            };
+            return Some(Window {
+                ticks: w as u32,
+                tries,
+            });
         }
-        let next = start_at(framed, ticks, per, count, first, size, k, need);
+        let next = start_at(supply, k, need);
         at = next.at;
         before = next.before;
         t = next.t;
@@ -112,73 +101,59 @@ fn step_at(period: u32, jitter: u32, deadline: u32, high: u32, q: u32, w: u32) -
     requires { Stepped period jitter deadline high q w }
     ensures { result ≡ step_of period jitter deadline high q w }
 {
-    let t = wide(w);
+    let t = u64::from(w);
     let picked = t + PICKUP;
-    let d = wide(deadline);
+    let d = u64::from(deadline);
     let base = product(q, period);
-    if d + less(base, wide(jitter)) < picked {
+    if d + base.saturating_sub(u64::from(jitter)) < picked {
         return Step::Fails;
     }
-    let next = larger(wide(high), less(picked + wide(jitter), base));
-    let keep = less(next, d) as u32;
+    let next = u64::from(high).max((picked + u64::from(jitter)).saturating_sub(base));
+    let keep = next.saturating_sub(d) as u32;
     if t <= shaper::gap(period, keep, q + 1) {
         return Step::Stops {
-            keep: keep,
-            worst: (next - wide(keep)) as u32,
+            keep,
+            worst: (next - u64::from(keep)) as u32,
         };
     }
     Step::Next(next as u32)
 }
 
-// The least kept jitter at which task i fits, given the kept jitters of the tasks above. W(q) does not depend on the task's own K, so one walk over q finds it.
-// It takes the q that the verdict at that kept jitter takes.
+// The least kept jitter at which task i fits, given the kept jitters of the tasks above; None where there is none. W(q) does not depend on the task's own K, so one walk
+// over q finds it. It takes the q that the verdict at that kept jitter takes.
 pub fn least_keep(
-    loads: &[u32],
-    periods: &[u32],
-    highs: &[u32],
-    lows: &[u32],
+    columns: &TaskColumns,
+    factors: &FactorColumns,
     keeps: &[u32],
-    framed: bool,
-    ticks: u32,
-    per: u32,
-    count: usize,
-    first: &[u32],
-    size: &[u32],
+    supply: &Supply,
     i: usize,
     jitter: u32,
     deadline: u32,
-) -> Least
-    requires walkable { Walkable loads.now periods.now keeps.now i jitter deadline }
-    requires factored { Factored periods.now highs.now lows.now i }
-    requires supplies { Supplies framed ticks per count first.now size.now }
-    ensures { LeastOf (column_frame framed ticks count first.now size.now) loads.now periods.now keeps.now i jitter deadline
-        result }
+) -> Option<Least>
+    requires walkable { Walkable columns.now.loads columns.now.periods keeps.now i jitter deadline }
+    requires factored { HasFactors columns.now factors.now i }
+    requires supplies { IsSupply supply.now }
+    ensures { LeastOf (frame_in supply.now) columns.now.loads columns.now.periods keeps.now i jitter deadline result }
 {
-    let period = periods[i];
-    let once = once_each(loads, periods, keeps, i);
+    let period = columns.periods[i];
+    let once = once_each(columns, i);
     let mut q: u32 = 0;
     let mut high: u32 = 0;
     let mut evaluations: u64 = 0;
     loop {
-        let found = window_of(
-            loads, periods, highs, lows, keeps, framed, ticks, per, count, first, size, i, once, q,
-        );
-        let Window::Within { window, tries } = found else {
-            return Least::Unfit;
-        };
-        evaluations += tries;
-        let seen = step_at(period, jitter, deadline, high, q, window);
-        match seen {
+        let window = window_of(columns, factors, keeps, supply, i, once, q)?;
+        evaluations += window.tries;
+        match step_at(period, jitter, deadline, high, q, window.ticks) {
             Step::Fails => {
-                return Least::Unfit;
+                return None;
             }
             Step::Stops { keep, worst } => {
-                return Least::Keep {
-                    keep: keep,
-                    worst: worst,
+                return Some(Least {
+                    keep,
+                    worst,
                     last: q,
-                    evaluations: evaluations,
-                };
+                    evaluations,
+                });
             }
             Step::Next(next) => {
                 high = next;

@@ -2,6 +2,7 @@
 use Prim.Native.Nat.{ℕ, suc, ◌+◌, ◌-◌, ◌≤◌, ◌<◌}
 use mathlib.Core.Path.{◌≡◌, refl, sym, ap, subst, ◌∙◌}
 use mathlib.Core.Bool.{Bool, true, false, and-false, true≢false}
+use mathlib.Core.Logic.{⊎_elim}
 use mathlib.Core.Option.{Option, some, none}
 use mathlib.Core.List.{List, [], ◌∷◌, ◌++◌, append-nil}
 use native.Mathlib.Omega.{arith}
@@ -9,12 +10,13 @@ use lib.Dec.{eqb}
 use lib.ListN.{length, set, replicate, length-append}
 use lib.Seq.{append_snoc, set-append_seam}
 use borrow.Author.Tests.{eqb-true, eqb-false}
+use Rattle.std.specs.Prelude.{Result, Ok, Err}
 use Rattle.model.specs.Limits.{max_tasks}
 use Rattle.model.specs.Refusal.{Answer, refused, answered}
+use Rattle.refusal.specs.declared.Refusal.{Refusal}
+use Rattle.refusal.specs.Refusal.{number_of, reason_of}
 use Rattle.taskset.specs.declared.Task.{Task}
 use Rattle.taskset.specs.declared.TaskSet.{TaskSet}
-use Rattle.taskset.specs.declared.Checked.{Checked}
-use Rattle.taskset.specs.declared.Checked.TheVariants.{Fine, Refused}
 use Rattle.taskset.specs.TaskSet.{no_task}
 use Rattle.fileformat.specs.File.{task_fault, end_fault}
 use Rattle.fileformat.specs.FileCalls.{tasks_in, set_with, set_of}
@@ -27,15 +29,15 @@ use Rattle.textformat.specs.TextTrips.{cut_at}
 use Rattle.textformat.proofs.LineLaws.{line_ends, line_stays}
 use Rattle.textformat.proofs.TextTrips.{load_stop, load_next, load_none, load_end}
 use Rattle.textformat.proofs.EarliestLine.{other_line}
+use Rattle.textformat.proofs.TextPlaces.{task_number}
 use Rattle.textformat.proofs.AnyNumbers.{same_fault, uncut}
 use Rattle.loader.specs.declared.LineSoFar.{LineSoFar}
 use Rattle.loader.specs.declared.Taken.{Taken}
 use Rattle.loader.specs.declared.Taken.TheVariants.{Ends}
 use Rattle.loader.specs.declared.Loader.{Loader}
-use Rattle.loader.specs.declared.Loaded.{Loaded}
-use Rattle.loader.specs.Loader.{cap, no_line, taken, fresh, halted, pushed, after, stepped, fed, begun, decided, refusal, closed, loaded_in, LoadSays, Finishes}
+use Rattle.loader.specs.Loader.{cap, no_line, taken, fresh, going, halted, pushed, after, stepped, fed, begun, decided, refusal, closed, loaded_in, LoadSays, Finishes}
 use Rattle.loader.specs.Pieces.{ClosedSays, DecidedStays}
-use Rattle.loader.proofs.FeedLaws.{going, stopped, fed_refused, refused_fed}
+use Rattle.loader.proofs.FeedLaws.{stopped, fed_refused}
 use Rattle.loader.proofs.PieceLaws.{pieces_join}
 use Rattle.loader.proofs.SeenLaws.{Seen, seen_nothing, some_byte, some_last, Steps, goes, breaks, seen_steps, Closes, forms, fails, seen_closes}
 
@@ -50,17 +52,31 @@ set_more ts t h =
     ∙ sym (append_snoc ts t (replicate (max_tasks - (length ts + 1)) no_task)) in
     rw n (ap (λ l. record { tasks = l; count = length ts + 1; charge = 0 }) a)
 
+-- a number of the table
+abbrev pub Known : ℕ → Type 0
+Known k = number_of (reason_of k) ≡ k
+
+pub known_task : (n : ℕ) (t : Task) (k : ℕ) → task_fault 0 n 0 t ≡ some k → Known k
+known_task n t k g = ⊎_elim (λ e. rw e) (λ e. rw e) (task_number n t k g)
+
+known_end : (n k : ℕ) → end_fault n ≡ some k → Known k
+unfolding end_fault
+known_end n k g = go (eqb n 0) refl
+  where
+    go : (b : Bool) → eqb n 0 ≡ b → Known k
+    go true e = let w : some 5 ≡ some k = sym (rw (end_fault, e)) ∙ g in let f : k ≡ 5 = cc in rw f
+    go false e = let w : none ≡ some k = sym (rw (end_fault, e)) ∙ g in cc
+
 -- a refusal, and no task
-says_refused : (k n : ℕ) (a : Answer (List Task)) → a ≡ refused (record { number = k; place = n }) → LoadSays a (refusal k n)
-unfolding load_sheet
-says_refused k n a e = record { answer = sym e; sheet = ap load_sheet (sym e) }
+says_refused : (k n : ℕ) (a : Answer (List Task)) → Known k → a ≡ refused (record { number = k; place = n }) → LoadSays a (refusal k n)
+says_refused k n a v e = record { answer = ap (λ x. refused (record { number = x; place = n })) v ∙ sym e; sheet = λ s z. cc }
 
 -- a loader that is refused
 stopped_says
-    : (s : TaskSet) (m : LineSoFar) (k n : ℕ) (r : List ℕ) (a : Answer (List Task)) → a ≡ refused (record { number = k; place = n })
+    : (s : TaskSet) (m : LineSoFar) (k n : ℕ) (r : List ℕ) (a : Answer (List Task)) → Known k → a ≡ refused (record { number = k; place = n })
     → LoadSays a (closed (fed (stopped s m k n) r))
 unfolding closed
-stopped_says s m k n r a e = rw (fed_refused s m k n r) (says_refused k n a e)
+stopped_says s m k n r a v e = rw (fed_refused (stopped s m k n) _ r refl) (says_refused k n a v e)
 
 -- the end of the text
 no_line_more : (ts : List Task) (m : LineSoFar) → begun m ≡ false → LoadSays (load_from ts []) (closed (going (set_of ts) m))
@@ -68,14 +84,14 @@ unfolding closed set_with load_sheet
 no_line_more ts m b = go (end_fault (length ts)) refl
   where
     go : (o : Option ℕ) → end_fault (length ts) ≡ o → LoadSays (load_from ts []) (closed (going (set_of ts) m))
-    go (some k) e = rw (closed, b, e) (says_refused k (length ts) _ (load_none ts k e))
+    go (some k) e = rw (closed, b, e) (says_refused k (length ts) _ (known_end (length ts) k e) (load_none ts k e))
     go none e =
         rw (closed, b, e)
-        (record { answer = ap answered (tasks_of_set 0 ts) ∙ sym (load_end ts e); sheet = ap load_sheet (sym (load_end ts e)) })
+        (record { answer = ap answered (tasks_of_set 0 ts) ∙ sym (load_end ts e); sheet = λ s z. (let y : s ≡ set_of ts = cc in y) ∙ ap load_sheet (sym (load_end ts e)) })
 
 line_open : (ts : List Task) (m : LineSoFar) (x : Line) → begun m ≡ true → x.ended ≡ false → LoadSays (load_from ts (x ∷ [])) (closed (going (set_of ts) m))
 unfolding closed set_with has_form
-line_open ts m x b e = rw (closed, b) (says_refused 16 (length ts) _ (other_line ts x [] (rw e)))
+line_open ts m x b e = rw (closed, b) (says_refused 16 (length ts) _ refl (other_line ts x [] (rw e)))
 
 at_end : (ts : List Task) (m : LineSoFar) (p : List ℕ) → Seen m p → LoadSays (load_from ts (last_line p)) (closed (going (set_of ts) m))
 unfolding last_line some_byte
@@ -127,7 +143,7 @@ module _ (r : List ℕ) (ih : Rest r) (ts : List Task) (m : LineSoFar) (p : List
   on_byte b _ (breaks f) =
       let w = starts_with (p ++ (b ∷ [])) r (some_last p b) in
       let z : is_four (fields_of ((p ++ (b ∷ [])) ++ w.rest)) ≡ false = ap (λ x. is_four (fields_of x)) (append_snoc p b w.rest) ∙ f w.rest in
-      stopped_says (set_of ts) m 16 (length ts) r _ (ap (load_from ts) w.is ∙ other_line ts _ w.more (rw z (and-false w.ended)))
+      stopped_says (set_of ts) m 16 (length ts) r _ refl (ap (load_from ts) w.is ∙ other_line ts _ w.more (rw z (and-false w.ended)))
 
   -- a line feed after four numbers
   abbrev line : Line
@@ -143,7 +159,7 @@ module _ (r : List ℕ) (ih : Rest r) (ts : List Task) (m : LineSoFar) (p : List
   unfolding after halted pushed set_with task_in
   on_task t f e (some k) g =
       let a : task_fault 0 (length ts) 0 t ≡ some k = ap (task_fault 0 (length ts) 0) e ∙ same_fault cap (omega arith) (length ts) (task_of (fields_of p)) ∙ g in
-      rw (after, a) (stopped_says (set_of ts) m k (length ts) r _ (load_stop ts line (lines_from [] r) k (four_fault f (some k) g)))
+      rw (after, a) (stopped_says (set_of ts) m k (length ts) r _ (known_task _ _ k a) (load_stop ts line (lines_from [] r) k (four_fault f (some k) g)))
   on_task t f e none g =
       let a : task_fault 0 (length ts) 0 t ≡ none = ap (task_fault 0 (length ts) 0) e ∙ same_fault cap (omega arith) (length ts) (task_of (fields_of p)) ∙ g in
       let u : t ≡ task_of (fields_of p) = e ∙ uncut_fields (length ts) (fields_of p) g in
@@ -156,7 +172,7 @@ module _ (r : List ℕ) (ih : Rest r) (ts : List Task) (m : LineSoFar) (p : List
   -- a line feed
   on_feed : (t : Taken) → Closes p t → LoadSays (load_from ts (record { bytes = p; ended = true } ∷ lines_from [] r)) (closed (fed (after (going (set_of ts) m) t) r))
   unfolding after halted set_with has_form
-  on_feed _ (fails f) = stopped_says (set_of ts) m 16 (length ts) r _ (other_line ts _ (lines_from [] r) f)
+  on_feed _ (fails f) = stopped_says (set_of ts) m 16 (length ts) r _ refl (other_line ts _ (lines_from [] r) f)
   on_feed _ (forms t f e) = on_task t f e (task_fault 0 (length ts) 0 (task_of (fields_of p))) refl
 
 rest_says : (r : List ℕ) → Rest r
@@ -175,11 +191,11 @@ closed_says text =
     record { answer = h.answer; sheet = h.sheet }
 
 -- the end of the text, case by case
-pub closed_refused : (s : Loader) (k n : ℕ) → s.answer ≡ Refused k n → refusal k n ≡ closed s
+pub closed_refused : (s : Loader) (q : Refusal) → s.answer ≡ Err q → Err q ≡ closed s
 unfolding closed
-closed_refused s k n e = rw (closed, e)
+closed_refused s q e = rw (closed, e)
 
-module _ (s : Loader) (e : s.answer ≡ Fine) where
+module _ (s : Loader) (e : s.answer ≡ Ok tt) where
   pub closed_open : begun s.line ≡ true → refusal 16 s.tasks.count ≡ closed s
   unfolding closed
   closed_open b = rw (closed, e, b)
@@ -188,38 +204,38 @@ module _ (s : Loader) (e : s.answer ≡ Fine) where
   unfolding closed
   closed_none b z = rw (closed, e, b, end_early s.tasks.count z) (ap (refusal 5) (sym z))
 
-  pub closed_fine : begun s.line ≡ false → 1 ≤ s.tasks.count → record { answer = Fine; tasks = s.tasks } ≡ closed s
+  pub closed_fine : begun s.line ≡ false → 1 ≤ s.tasks.count → Ok s.tasks ≡ closed s
   unfolding closed
   closed_fine b l = rw (closed, e, b, end_fine s.tasks.count l)
 
 -- what the end of the text answers
-pub finishes : (s : Loader) (r : Loaded) → r ≡ closed s → Finishes s r
+pub finishes : (s : Loader) (r : Result TaskSet Refusal) → r ≡ closed s → Finishes s r
 finishes s r e = record {
   is = e;
   says = λ text f. subst (LoadSays (load text)) (ap closed (sym f) ∙ sym e) (closed_says text);
 }
 
 -- what a loader said of a text: number and place, or the tasks
-module _ (a : Answer (List Task)) (got : Loaded) (s : LoadSays a got) where
-  pub said_refused : (number place : ℕ) → got.answer ≡ Refused number place → a ≡ refused (record { number = number; place = place })
-  said_refused number place e = sym (rw e at s.answer)
+module _ (a : Answer (List Task)) (got : Result TaskSet Refusal) (s : LoadSays a got) where
+  pub said_refused : (q : Refusal) → got ≡ Err q → a ≡ refused (record { number = number_of q.reason; place = q.place })
+  said_refused q e = sym (rw e at s.answer)
 
-  pub said_tasks : got.answer ≡ Fine → a ≡ answered (tasks_in got.tasks)
-  said_tasks e = sym (rw e at s.answer)
+  pub said_tasks : (t : TaskSet) → got ≡ Ok t → a ≡ answered (tasks_in t)
+  said_tasks t e = sym (rw e at s.answer)
 
   -- and the sheet of these tasks
-  pub said_sheet : got.answer ≡ Fine → got.tasks ≡ set_of (tasks_in got.tasks)
+  pub said_sheet : (t : TaskSet) → got ≡ Ok t → t ≡ set_of (tasks_in t)
   unfolding load_sheet
-  said_sheet e = s.sheet ∙ ap load_sheet (said_tasks e)
+  said_sheet t e = s.sheet t e ∙ ap load_sheet (said_tasks t e)
 
 -- a refusal stays
 decided_refused : (s : Loader) (l : List ℕ) → decided s ≡ true → s ≡ fed s l
 unfolding decided
 decided_refused s l e = go s.answer refl
   where
-    go : (a : Checked) → s.answer ≡ a → s ≡ fed s l
-    go Fine h = absurd (true≢false (sym e ∙ rw h))
-    go (Refused k p) h = refused_fed s k p l h
+    go : (a : Result Unit Refusal) → s.answer ≡ a → s ≡ fed s l
+    go (Ok u) h = absurd (true≢false (sym e ∙ rw h))
+    go (Err q) h = sym (fed_refused s q l h)
 
 pub decided_stays : DecidedStays
 decided_stays text more e =

@@ -8,11 +8,13 @@ use mathlib.Core.List.{List, [], ◌∷◌, ◌++◌}
 use native.Mathlib.Omega.{arith}
 use lib.Dec.{eqb, ltb}
 use borrow.Author.Tests.{eqb-true, eqb-false, ltb-true, ltb-false}
-use Rattle.model.specs.Refusal.{Refusal, Answer, refused, answered}
+use Rattle.std.specs.Prelude.{Result, Ok, Err}
+use Rattle.model.specs.Refusal as model
+use Rattle.model.specs.Refusal.{Answer, refused, answered}
+use Rattle.refusal.specs.declared.Refusal.{Refusal}
+use Rattle.refusal.specs.Refusal.{number_of, reason_of}
 use Rattle.taskset.specs.declared.Task.{Task}
 use Rattle.taskset.specs.declared.TaskSet.{TaskSet}
-use Rattle.taskset.specs.declared.Checked.{Checked}
-use Rattle.taskset.specs.declared.Checked.TheVariants.{Fine, Refused}
 use Rattle.fileformat.specs.File.{task_fault}
 use Rattle.text.specs.Text.{line_feed}
 use Rattle.textformat.specs.Numerals.{is_digit}
@@ -23,12 +25,11 @@ use Rattle.loader.specs.declared.LineSoFar.{LineSoFar}
 use Rattle.loader.specs.declared.Taken.{Taken}
 use Rattle.loader.specs.declared.Taken.TheVariants.{Goes, Ends, Broken}
 use Rattle.loader.specs.declared.Loader.{Loader}
-use Rattle.loader.specs.Loader.{with_digit, with_comma, task_so_far, after_zero, taken, fresh, halted, pushed, after, stepped, fed, begun, decided, closed, loaded_in}
+use Rattle.loader.specs.Loader.{with_digit, with_comma, task_so_far, after_zero, taken, fresh, going, halted, pushed, after, stepped, fed, begun, decided, closed, loaded_in}
 use Rattle.loader.specs.Pieces.{Open, UndecidedOpen}
 use Rattle.loader.proofs.TakenLaws.{taken_leading, taken_digit, taken_early, taken_comma, taken_comma_over, taken_other, taken_short, taken_end}
-use Rattle.loader.proofs.FeedLaws.{going}
 use Rattle.loader.proofs.PieceLaws.{pieces_join}
-use Rattle.loader.proofs.LoadLaws.{closed_says, closed_fine}
+use Rattle.loader.proofs.LoadLaws.{known_task, closed_says, closed_fine}
 
 -- what a byte may do to a line so far
 data Takes (m : LineSoFar) (b : ℕ) : Taken → Type 0 where
@@ -69,9 +70,9 @@ unfolding fed stepped
 fed_few [] s h = h
 fed_few (b ∷ l) s h = fed_few l (stepped s b) (go s.answer refl)
   where
-    go : (a : Checked) → s.answer ≡ a → (stepped s b).line.commas ≤ 3
-    go Fine e = rw (stepped, e) (after_few s b _ (takes s.line b) h)
-    go (Refused k p) e = rw (stepped, e) h
+    go : (a : Result Unit Refusal) → s.answer ≡ a → (stepped s b).line.commas ≤ 3
+    go (Ok u) e = rw (stepped, e) (after_few s b _ (takes s.line b) h)
+    go (Err q) e = rw (stepped, e) h
 
 -- an answer that is not 16
 abbrev Formed : Answer (List Task) → Type 0
@@ -79,8 +80,8 @@ Formed a = (n : ℕ) → a ≡ refused (record { number = 16; place = n }) → �
 
 formed_refused : (k p : ℕ) → (k ≡ 16 → ⊥) → Formed (refused (record { number = k; place = p }))
 formed_refused k p h n e =
-    let w : ◌≡◌ {A = Refusal} (record { number = k; place = p }) (record { number = 16; place = n }) = cc in
-    h (ap (λ (r : Refusal). r.number) w)
+    let w : ◌≡◌ {A = model.Refusal} (record { number = k; place = p }) (record { number = 16; place = n }) = cc in
+    h (ap (λ (r : model.Refusal). r.number) w)
 
 formed_answered : (ts : List Task) → Formed (answered ts)
 formed_answered ts n e = let z : ◌≡◌ {A = ℕ} 0 1 = cc in omega arith
@@ -91,7 +92,7 @@ unfolding fed stepped is_digit closed begun after halted pushed
 formed_end s m d c = subst (λ t. Formed (loaded_in (closed (after (going s m) t)))) (taken_end m line_feed refl refl d c) (go (task_fault 0 s.count 0 (task_so_far m)) refl)
   where
     go : (o : Option ℕ) → task_fault 0 s.count 0 (task_so_far m) ≡ o → Formed (loaded_in (closed (after (going s m) (Ends (task_so_far m)))))
-    go (some k) e = rw (after, e) (formed_refused k s.count (λ z. ⊎_elim (λ f. omega arith) (λ f. omega arith) (task_number s.count (task_so_far m) k e)))
+    go (some k) e = rw (after, e) (formed_refused (number_of (reason_of k)) s.count (λ y. let z : k ≡ 16 = sym (known_task s.count (task_so_far m) k e) ∙ y in ⊎_elim (λ f. omega arith) (λ f. omega arith) (task_number s.count (task_so_far m) k e)))
     go none e =
         rw (after, e) (subst (λ r. Formed (loaded_in r)) (closed_fine (pushed (going s m) (task_so_far m)) refl refl (omega arith)) (formed_answered _))
 
@@ -137,7 +138,7 @@ broken_letter s m =
 goes_on : (text more : List ℕ) → load (text ++ more) ≡ loaded_in (closed (fed (fed fresh text) more))
 goes_on text more = sym (closed_says (text ++ more)).answer ∙ ap (λ q. loaded_in (closed q)) (sym (pieces_join fresh text more))
 
-open_from : (text : List ℕ) (s : Loader) → s ≡ fed fresh text → s.line.commas ≤ 3 → s.answer ≡ Fine → Open text
+open_from : (text : List ℕ) (s : Loader) → s ≡ fed fresh text → s.line.commas ≤ 3 → s.answer ≡ Ok tt → Open text
 open_from text s e h f =
     let a : s ≡ going s.tasks s.line = ap (λ q. record { tasks = s.tasks; line = s.line; answer = q }) f in
     let g : (more : List ℕ) → load (text ++ more) ≡ loaded_in (closed (fed (going s.tasks s.line) more)) =
@@ -154,6 +155,6 @@ pub undecided_open : UndecidedOpen
 unfolding decided
 undecided_open text e = go (fed fresh text).answer refl
   where
-    go : (a : Checked) → (fed fresh text).answer ≡ a → Open text
-    go Fine h = open_from text (fed fresh text) refl (fed_few text fresh (omega arith)) h
-    go (Refused k p) h = absurd (true≢false (sym (rw h) ∙ e))
+    go : (a : Result Unit Refusal) → (fed fresh text).answer ≡ a → Open text
+    go (Ok u) h = open_from text (fed fresh text) refl (fed_few text fresh (omega arith)) h
+    go (Err q) h = absurd (true≢false (sym (rw h) ∙ e))

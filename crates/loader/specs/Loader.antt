@@ -1,9 +1,11 @@
 -- The loader: one pass over a text with a small state, byte by byte.
-use Rattle.std.specs.Prelude.{ℕ, ◌+◌, ◌*◌, ◌-◌, min, ◌≡◌, Bool, true, false, ◌&&◌, ◌||◌, List, [], ◌∷◌, ltb, eqb, set}
+use Rattle.std.specs.Prelude.{ℕ, Result, Ok, Err, ◌+◌, ◌*◌, ◌-◌, min, ◌≡◌, Bool, true, false, ◌&&◌, ◌||◌, List, [], ◌∷◌, ltb, eqb, set}
 use Rattle.std.proofs.Math.Option.{some, none}
-use Rattle.model.specs.Refusal.{Answer, refused, answered}
+use Rattle.model.specs.Refusal.{Answer}
+use Rattle.refusal.specs.declared.Refusal.{Refusal}
+use Rattle.refusal.specs.Refusal.{reason_of, answer_in}
 use Rattle.taskset.specs.declared.Task.{Task}
-use Rattle.taskset.specs.declared.Checked.TheVariants.{Fine, Refused}
+use Rattle.taskset.specs.declared.TaskSet.{TaskSet}
 use Rattle.fileformat.specs.File.{task_fault, end_fault}
 use Rattle.fileformat.specs.FileCalls.{tasks_in, set_of}
 use Rattle.text.specs.Text.{line_feed}
@@ -14,7 +16,6 @@ use Rattle.loader.specs.declared.LineSoFar.{LineSoFar}
 use Rattle.loader.specs.declared.Taken.{Taken}
 use Rattle.loader.specs.declared.Taken.TheVariants.{Goes, Ends, Broken}
 use Rattle.loader.specs.declared.Loader.{Loader}
-use Rattle.loader.specs.declared.Loaded.{Loaded}
 
 -- a number over every limit; a larger one counts as this
 abbrev pub cap : ℕ
@@ -59,31 +60,35 @@ taken m b =
           ]
     ]
 
+-- a loader that is not refused
+abbrev pub going : TaskSet → LineSoFar → Loader
+going s m = record { tasks = s; line = m; answer = Ok tt }
+
 -- nothing is read yet
 abbrev pub fresh : Loader
-fresh = record { tasks = set_of []; line = no_line; answer = Fine }
+fresh = going (set_of []) no_line
 
 -- a refusal with the number of the present line, which is the number of tasks
 unfoldable pub halted : Loader → ℕ → Loader
-halted s k = record { tasks = s.tasks; line = s.line; answer = Refused k s.tasks.count }
+halted s k = record { tasks = s.tasks; line = s.line; answer = Err (record { reason = reason_of k; place = s.tasks.count }) }
 
 -- one task more, and a new line
 unfoldable pub pushed : Loader → Task → Loader
 pushed s t = record {
   tasks = record { tasks = set s.tasks.tasks s.tasks.count t; count = s.tasks.count + 1; charge = s.tasks.charge };
   line = no_line;
-  answer = Fine;
+  answer = Ok tt;
 }
 
 -- what a byte does: 16 as soon as the line has another form, and at its end 4, then 6, as for a task without a charge
 unfoldable pub after : Loader → Taken → Loader
 after s Broken = halted s 16
-after s (Goes m) = record { tasks = s.tasks; line = m; answer = Fine }
+after s (Goes m) = record { tasks = s.tasks; line = m; answer = Ok tt }
 after s (Ends t) = elim (task_fault 0 s.tasks.count 0 t) [ some k ↦ halted s k | none ↦ pushed s t ]
 
 -- once refused, nothing that follows changes the answer
 unfoldable pub stepped : Loader → ℕ → Loader
-stepped s b = elim s.answer [ Fine ↦ after s (taken s.line b) | Refused n p ↦ s ]
+stepped s b = elim s.answer [ Ok u ↦ after s (taken s.line b) | Err e ↦ s ]
 
 -- a piece of text
 unfoldable pub fed : Loader → List ℕ → Loader
@@ -96,38 +101,38 @@ begun m = m.digit || ltb 0 m.commas
 
 -- whether the answer is decided, whatever follows
 unfoldable pub decided : Loader → Bool
-decided s = elim s.answer [ Fine ↦ false | Refused n p ↦ true ]
+decided s = elim s.answer [ Ok u ↦ false | Err e ↦ true ]
 
--- no task and a refusal
-abbrev pub refusal : ℕ → ℕ → Loaded
-refusal n p = record { answer = Refused n p; tasks = set_of [] }
+-- a refusal, with its number and its place
+abbrev pub refusal : ℕ → ℕ → Result TaskSet Refusal
+refusal n p = Err (record { reason = reason_of n; place = p })
 
 -- the answer where the text ends here: a refusal made before, 16 for a line that no line feed ends, 5 for no line, else the tasks
-unfoldable pub closed : Loader → Loaded
+unfoldable pub closed : Loader → Result TaskSet Refusal
 closed s =
     elim s.answer [
-      | Refused n p ↦ refusal n p
-      | Fine ↦
+      | Err e ↦ Err e
+      | Ok u ↦
           elim (begun s.line) [
             | true ↦ refusal 16 s.tasks.count
             | false ↦
                 elim (end_fault s.tasks.count) [
                   | some k ↦ refusal k s.tasks.count
-                  | none ↦ record { answer = Fine; tasks = s.tasks }
+                  | none ↦ Ok s.tasks
                 ]
           ]
     ]
 
 -- the answer of a load: the tasks, or number and place
-abbrev pub loaded_in : Loaded → Answer (List Task)
-loaded_in r = elim r.answer [ Fine ↦ answered (tasks_in r.tasks) | Refused n p ↦ refused (record { number = n; place = p }) ]
+abbrev pub loaded_in : Result TaskSet Refusal → Answer (List Task)
+loaded_in r = answer_in tasks_in r
 
--- what a load promises of its answer, given the definition's: it is the same, and so is the sheet, with 0 past its count, no charge, and no task after a refusal
-pub record LoadSays (a : Answer (List Task)) (r : Loaded) : Type 0 where
+-- what a load promises of its answer, given the definition's: it is the same, and so is the sheet, with 0 past its count and no charge
+pub record LoadSays (a : Answer (List Task)) (r : Result TaskSet Refusal) : Type 0 where
   pub answer : loaded_in r ≡ a
-  pub sheet : r.tasks ≡ load_sheet a
+  pub sheet : (s : TaskSet) → r ≡ Ok s → s ≡ load_sheet a
 
 -- what the end of a text promises of any loader; where the loader was fed a text, however many pieces it came in, it answers as the whole
-pub record Finishes (s : Loader) (r : Loaded) : Type 0 where
+pub record Finishes (s : Loader) (r : Result TaskSet Refusal) : Type 0 where
   pub is : r ≡ closed s
   pub says : (text : List ℕ) → s ≡ fed fresh text → LoadSays (load text) r

@@ -1,5 +1,5 @@
 -- The columns of all tasks: cleared, then counted into job by job.
-use Prim.Native.Nat.{ℕ, suc, ◌+◌, ◌≤◌, ◌<◌, max}
+use Prim.Native.Nat.{ℕ, ◌+◌, ◌≤◌, ◌<◌, max}
 use mathlib.Core.Path.{◌≡◌, refl, sym, ap, ap₂, ◌∙◌}
 use mathlib.Core.Logic.{◌⊎◌, inl, inr}
 use mathlib.Core.Option.{some, none}
@@ -8,8 +8,9 @@ use native.Mathlib.Omega.{arith}
 use native.Mathlib.Numerals.{add-one}
 use borrow.Author.Tests.{lt-ltb, le-ltb}
 use lib.Dec.{ltb}
-use lib.ListN.{length, get_or, drop, set, length-append, length-drop, length-set, get_or-append}
-use lib.Seq.{drop-cons, drop_at, set_at, append_snoc, set-append_left}
+use lib.ListN.{length, get_or, drop, set, replicate, length-append, length-drop, get_or-append}
+use Rattle.std.proofs.lemmas.List.{ext_get_or, length-replicate, get_or-replicate}
+use lib.Seq.{drop_at, set-append_left}
 use Rattle.model.specs.Series.{on, table}
 use Rattle.model.specs.Refusal.{Refusal, refuse}
 use Rattle.model.specs.Checks.{check_slots}
@@ -23,25 +24,15 @@ use Rattle.monitor.specs.Layout.{window_slots, tasks_in, deadline_in, job_in, us
 use Rattle.monitor.specs.MonitorCalls.{check_window, columns_lent, all_refusal, jobs_column, late_column, largest_column, slot_with, Countable}
 use Rattle.monitor.proofs.TallyLaws.{shown_held}
 
--- the first i slots of a column are 0
-pub record Cleared (l₀ l : List ℕ) (i : ℕ) : Type 0 where
-  pub same : length l ≡ length l₀
-  pub is : l ≡ table (λ k. 0) i ++ drop i l₀
-
-pub cleared_none : (l : List ℕ) → Cleared l l 0
-unfolding table
-cleared_none l = record { same = refl; is = refl }
-
-pub cleared_next : (l₀ l : List ℕ) (i : ℕ) → Cleared l₀ l i → i < length l₀ → Cleared l₀ (set l i 0) (i + 1)
-unfolding table
-cleared_next l₀ l i f h =
-    record { same = length-set l i 0 ∙ f.same; is = rw (add-one, f.is, drop-cons l₀ i 0 h) (put ∙ sym (append_snoc (table (λ k. 0) i) 0 (drop (suc i) l₀))) }
-  where
-    put : set (table (λ k. 0) i ++ get_or l₀ i 0 ∷ drop (suc i) l₀) i 0 ≡ table (λ k. 0) i ++ 0 ∷ drop (suc i) l₀
-    put = set_at (table (λ k. 0) i) (get_or l₀ i 0) (drop (suc i) l₀) 0 i (length_table (λ k. 0) i)
-
-pub cleared_all : (l₀ l : List ℕ) (i n : ℕ) → Cleared l₀ l i → i ≡ n → l ≡ table (λ k. 0) n ++ drop n l₀
-cleared_all l₀ l i n f e = f.is ∙ ap (λ m. table (λ k. 0) m ++ drop m l₀) e
+-- the first n slots of a column are set to 0
+pub cleared_lem : (n m : ℕ) (z o : List ℕ) → z ≡ replicate m 0 → m ≡ n → z ++ drop n o ≡ table (λ i. 0) n ++ drop n o
+cleared_lem n m z o e k =
+    ap (λ x. x ++ drop n o)
+    (e
+    ∙ ap (λ x. replicate x 0) k
+    ∙ ext_get_or 0 (replicate n 0) (table (λ i. 0) n) (length-replicate {A = ℕ} n 0 ∙ sym (length_table (λ i. 0) n))
+    (λ i b.
+    let h : i < n = omega (arith, length-replicate {A = ℕ} n 0) in get_or-replicate {A = ℕ} n i 0 0 h ∙ sym (get_or_table (λ i. 0) 0 n i h)))
 
 -- a slot changed, or none
 module _ (n i : ℕ) (f : ℕ → ℕ) (l : List ℕ) where

@@ -1,5 +1,5 @@
 -- The calls on a lent window: what each checks and answers, and what stands in the lent slots afterwards.
-use Rattle.std.specs.Prelude.{ℕ, ◌+◌, ◌≤◌, ◌<◌, max, true, false, List, [], ◌∷◌, leb, ltb, eqb, length, get_or, set}
+use Rattle.std.specs.Prelude.{ℕ, Result, ◌+◌, ◌≤◌, ◌<◌, max, true, false, List, [], ◌∷◌, leb, ltb, eqb, length, get_or, set}
 use Rattle.std.proofs.Math.Option.{Option, some, none}
 use Rattle.model.specs.Limits.{max_tasks}
 use Rattle.model.specs.Series.{on, table}
@@ -9,8 +9,8 @@ use Rattle.model.specs.Checks.{Lent, refuse_if, check_slots, Inputs, refusal_of}
 use Rattle.model.specs.Calls.{lends, column_after}
 use Rattle.model.specs.LastJobs.{Completion, jobs_of, late_of, largest_of, Shown, shown_of}
 use Rattle.monitor.specs.Layout.{window_slots, tasks_in, deadline_in, held_in, with_job, opened_on}
-use Rattle.monitor.specs.declared.ShowAnswer.{ShowAnswer}
-use Rattle.monitor.specs.declared.ShowAnswer.TheVariants.{Showing, Refused}
+use Rattle.refusal.specs.declared.Refusal as refusal
+use Rattle.refusal.specs.Refusal.{answer_in}
 use Rattle.monitor.specs.declared.Tally.{Tally}
 
 -- open: the sheet's checks (5, 4, then 6 and 17 by task; the sheets of the calls have no frame), then 13 for the window
@@ -71,9 +71,8 @@ abbrev pub tallied : Tally → Shown
 tallied t = record { jobs = t.jobs; late = t.late; largest = t.largest }
 
 -- what a show answers
-abbrev pub shown_in : ShowAnswer → Answer Shown
-shown_in (Showing j l m) = answered (record { jobs = j; late = l; largest = m })
-shown_in (Refused n p) = refused (record { number = n; place = p })
+abbrev pub shown_in : Result Tally refusal.Refusal → Answer Shown
+shown_in = answer_in tallied
 
 -- a count of task i with deadline D after one more job, of whichever task
 unfoldable pub tallied_with : Shown → ℕ → ℕ → Completion → Shown

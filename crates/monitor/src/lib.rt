@@ -10,7 +10,8 @@ ghost use Rattle.model.specs.Series.{on, table};
 ghost use Rattle.model.specs.Checks.{check_slots, refusal_of};
 ghost use Rattle.model.specs.Calls.{column_after};
 ghost use Rattle.model.specs.LastJobs.{shown_of, window_jobs};
-ghost use Rattle.taskset.specs.TaskSet.{view_of, refusal_in};
+ghost use Rattle.refusal.specs.Refusal.{refusal_in};
+ghost use Rattle.taskset.specs.TaskSet.{view_of};
 ghost use Rattle.monitor.specs.Layout.{window_slots, tasks_in, deadline_in, job_in, used_in, held_in, counted, opened_on};
 ghost use Rattle.monitor.specs.MonitorCalls.{
   open_inputs,
@@ -31,22 +32,33 @@ ghost use Rattle.monitor.specs.MonitorCalls.{
   shown_in,
 };
 
-use numbers::larger;
-use taskset::{Checked, TaskSet};
+use refusal::{Reason, Refusal};
+use taskset::TaskSet;
+
+// The most tasks that a window has.
+const TASKS: usize = 32;
+
+// The jobs that it holds.
+const JOBS: usize = 256;
+
+// Its slots.
+const SLOTS: usize = 546;
+
+// The first slot of the deadlines.
+const DEADLINES: usize = 2;
+
+// The first slot of the tasks of the jobs.
+const TASKS_OF: usize = 34;
+
+// The first slot of their responses.
+const RESPONSES: usize = 290;
 
 // What is counted of one task: its jobs, the late ones among them, and the largest response.
-#[derive(Clone, Copy)]
+#[derive(Clone, Copy, Debug, PartialEq, Eq)]
 pub struct Tally {
     pub jobs: u32,
     pub late: u32,
     pub largest: u64,
-}
-
-// What the display shows of one task, or document 01's number and place.
-#[derive(Clone, Copy)]
-pub enum ShowAnswer {
-    Showing { jobs: u32, late: u32, largest: u64 },
-    Refused { number: u32, place: usize },
 }
 
 // Writes a window without a job: the number of tasks of a sheet, and their deadlines.
@@ -57,101 +69,91 @@ fn put_deadlines(s: TaskSet, window: &mut [u64])
     let count = s.count;
     window[0] = count as u64;
     window[1] = 0;
-    let mut i = 0;
-    while i < count {
+    for i in 0..count {
         let t = s.tasks[i];
-        window[2 + i] = t.deadline as u64;
-        i += 1;
+        window[DEADLINES + i] = t.deadline as u64;
     }
 }
 
 // Opens a window on a sheet: no job. It checks the sheet (5, 4, then 6 and 17 by task), then the window's slots (13).
-pub fn open_window(s: TaskSet, window: &mut [u64]) -> Checked
+pub fn open_window(s: TaskSet, window: &mut [u64]) -> Result<(), Refusal>
     ensures code { refusal_in result ≡ refusal_of (open_inputs (view_of s) window.old) }
     ensures slots { window.new ≡ open_after (view_of s) window.old }
 {
-    let checked = taskset::check(s);
-    let Checked::Fine = checked else {
-        return checked;
-    };
-    if window.len() < 546 {
-        return Checked::Refused {
-            number: 13,
-            place: 546,
-        };
+    taskset::check(s)?;
+    if window.len() < SLOTS {
+        return Err(Refusal {
+            reason: Reason::ShortSlice,
+            place: SLOTS,
+        });
     }
     put_deadlines(s, window);
-    Checked::Fine
+    Ok(())
 }
 
 // The check of a lent window: 13 where it is too short, then 5 and 4 of its number of tasks.
-fn check_window(window: &[u64]) -> Checked
+fn check_window(window: &[u64]) -> Result<(), Refusal>
     ensures { refusal_in result ≡ check_window window.now }
 {
-    if window.len() < 546 {
-        return Checked::Refused {
-            number: 13,
-            place: 546,
-        };
+    if window.len() < SLOTS {
+        return Err(Refusal {
+            reason: Reason::ShortSlice,
+            place: SLOTS,
+        });
     }
     let tasks = window[0];
     if tasks == 0 {
-        return Checked::Refused {
-            number: 5,
+        return Err(Refusal {
+            reason: Reason::NoTask,
             place: 0,
-        };
+        });
     }
-    if 32 < tasks {
-        return Checked::Refused {
-            number: 4,
-            place: 32,
-        };
+    if tasks > TASKS as u64 {
+        return Err(Refusal {
+            reason: Reason::TooManyTasks,
+            place: TASKS,
+        });
     }
-    Checked::Fine
+    Ok(())
 }
 
 // The check of a lent window and of a task of it: 14 where there is no such task.
-fn check_task(window: &[u64], task: usize) -> Checked
+fn check_task(window: &[u64], task: usize) -> Result<(), Refusal>
     ensures { refusal_in result ≡ check_task_in window.now task }
 {
-    let checked = check_window(window);
-    let Checked::Fine = checked else {
-        return checked;
-    };
+    check_window(window)?;
     if window[0] <= task as u64 {
-        return Checked::Refused {
-            number: 14,
+        return Err(Refusal {
+            reason: Reason::NoSuchTask,
             place: task,
-        };
+        });
     }
-    Checked::Fine
+    Ok(())
 }
 
 // The count of jobs after one more.
 fn counted_on(count: u64) -> u64
     ensures { result ≡ counted count }
 {
-    if count < 256 {
+    let jobs = JOBS as u64;
+    if count < jobs {
         return count + 1;
     }
-    256 + (count % 256 + 1) % 256
+    jobs + (count % jobs + 1) % jobs
 }
 
 // Takes one finished job: it goes to the next place of the ring, that of the oldest job once the ring is full.
-pub fn take_job(window: &mut [u64], task: usize, response: u64) -> Checked
+pub fn take_job(window: &mut [u64], task: usize, response: u64) -> Result<(), Refusal>
     ensures code { refusal_in result ≡ check_task_in window.old task }
     ensures slots { window.new ≡ job_after window.old (record { task = task; response = response }) }
 {
-    let checked = check_task(window, task);
-    let Checked::Fine = checked else {
-        return checked;
-    };
+    check_task(window, task)?;
     let count = window[1];
-    let place = (count % 256) as usize;
-    window[34 + place] = task as u64;
-    window[290 + place] = response;
+    let place = (count % JOBS as u64) as usize;
+    window[TASKS_OF + place] = task as u64;
+    window[RESPONSES + place] = response;
     window[1] = counted_on(count);
-    Checked::Fine
+    Ok(())
 }
 
 // How many places of the ring are in use.
@@ -159,11 +161,7 @@ fn used_in(window: &[u64]) -> usize
     requires { window_slots ≤ length window.now }
     ensures { result ≡ used_in window.now }
 {
-    let count = window[1];
-    if 256 < count {
-        return 256;
-    }
-    count as usize
+    window[1].min(JOBS as u64) as usize
 }
 
 // The number of late jobs after one with this response.
@@ -182,13 +180,10 @@ fn with_one(t: Tally, deadline: u64, response: u64) -> Tally
     requires { (t.jobs < 4294967295) × (t.late < 4294967295) }
     ensures { tallied result ≡ record { jobs = t.jobs + 1; late = t.late + on (ltb deadline response) 1; largest = max t.largest response } }
 {
-    let jobs = t.jobs + 1;
-    let late = late_with(t.late, deadline, response);
-    let largest = larger(t.largest, response);
     Tally {
-        jobs: jobs,
-        late: late,
-        largest: largest,
+        jobs: t.jobs + 1,
+        late: late_with(t.late, deadline, response),
+        largest: t.largest.max(response),
     }
 }
 
@@ -209,39 +204,25 @@ fn tally_of(window: &[u64], task: usize) -> Tally
     ensures { tallied result ≡ shown_of task (deadline_in window.now task) (held_in window.now) }
 {
     let of = task as u64;
-    let deadline = window[2 + task];
+    let deadline = window[DEADLINES + task];
     let used = used_in(window);
     let mut t = Tally {
         jobs: 0,
         late: 0,
         largest: 0,
     };
-    let mut k = 0;
-    while k < used {
-        let next = with_next(t, of, deadline, window[34 + k], window[290 + k]);
-        t = next;
-        k += 1;
+    for k in 0..used {
+        t = with_next(t, of, deadline, window[TASKS_OF + k], window[RESPONSES + k]);
     }
     t
 }
 
 // Shows one task: its jobs among the last 256, how many of them were late, and their largest response, 0 with no job.
-pub fn show_task(window: &[u64], task: usize) -> ShowAnswer
+pub fn show_task(window: &[u64], task: usize) -> Result<Tally, Refusal>
     ensures { shown_in result ≡ show_call window.now task }
 {
-    let checked = check_task(window, task);
-    if let Checked::Refused { number, place } = checked {
-        return ShowAnswer::Refused {
-            number: number,
-            place: place,
-        };
-    }
-    let t = tally_of(window, task);
-    ShowAnswer::Showing {
-        jobs: t.jobs,
-        late: t.late,
-        largest: t.largest,
-    }
+    check_task(window, task)?;
+    Ok(tally_of(window, task))
 }
 
 // Sets the slots of n tasks to 0 in three columns.
@@ -251,13 +232,9 @@ fn clear(n: usize, jobs: &mut [u32], late: &mut [u32], largest: &mut [u64])
     ensures late_after { late.new ≡ table (λ i. 0) n ++ drop n late.old }
     ensures largest_after { largest.new ≡ table (λ i. 0) n ++ drop n largest.old }
 {
-    let mut i = 0;
-    while i < n {
-        jobs[i] = 0;
-        late[i] = 0;
-        largest[i] = 0;
-        i += 1;
-    }
+    jobs[..n].fill(0);
+    late[..n].fill(0);
+    largest[..n].fill(0);
 }
 
 // Counts the job at a place of the ring in the slots of its task, if that is one of the n tasks.
@@ -283,7 +260,7 @@ fn count_job(
     ensures largest_after { largest.new
         ≡ slot_with n (job_in window.now k).task (λ x. max x (job_in window.now k).response) largest.old }
 {
-    let of = window[34 + k];
+    let of = window[TASKS_OF + k];
     if n as u64 <= of {
         return;
     }
@@ -293,7 +270,7 @@ fn count_job(
         late: late[i],
         largest: largest[i],
     };
-    let next = with_one(t, window[2 + i], window[290 + k]);
+    let next = with_one(t, window[DEADLINES + i], window[RESPONSES + k]);
     jobs[i] = next.jobs;
     late[i] = next.late;
     largest[i] = next.largest;
@@ -312,40 +289,43 @@ fn count_all(window: &[u64], n: usize, jobs: &mut [u32], late: &mut [u32], large
 {
     clear(n, jobs, late, largest);
     let used = used_in(window);
-    let mut k = 0;
-    while k < used {
+    for k in 0..used {
         count_job(window, n, k, jobs, late, largest);
-        k += 1;
     }
 }
 
 // The slots of three columns of n tasks: 13 at the first that is too short.
-fn check_columns(n: usize, jobs: usize, late: usize, largest: usize) -> Checked
+fn check_columns(n: usize, jobs: usize, late: usize, largest: usize) -> Result<(), Refusal>
     ensures { refusal_in result ≡ check_slots (columns_lent n jobs late largest) }
 {
     if jobs < n {
-        return Checked::Refused {
-            number: 13,
+        return Err(Refusal {
+            reason: Reason::ShortSlice,
             place: n,
-        };
+        });
     }
     if late < n {
-        return Checked::Refused {
-            number: 13,
+        return Err(Refusal {
+            reason: Reason::ShortSlice,
             place: n,
-        };
+        });
     }
     if largest < n {
-        return Checked::Refused {
-            number: 13,
+        return Err(Refusal {
+            reason: Reason::ShortSlice,
             place: n,
-        };
+        });
     }
-    Checked::Fine
+    Ok(())
 }
 
 // Shows all tasks: a slot for each in three columns. A refusal leaves them.
-pub fn show_all(window: &[u64], jobs: &mut [u32], late: &mut [u32], largest: &mut [u64]) -> Checked
+pub fn show_all(
+    window: &[u64],
+    jobs: &mut [u32],
+    late: &mut [u32],
+    largest: &mut [u64],
+) -> Result<(), Refusal>
     ensures code { refusal_in result ≡ all_refusal window.now jobs.old late.old largest.old }
     ensures jobs_shown { jobs.new
         ≡ column_after (all_refusal window.now jobs.old late.old largest.old)
@@ -357,15 +337,9 @@ pub fn show_all(window: &[u64], jobs: &mut [u32], late: &mut [u32], largest: &mu
         ≡ column_after (all_refusal window.now jobs.old late.old largest.old)
         (largest_column (tasks_in window.now) (held_in window.now)) largest.old }
 {
-    let checked = check_window(window);
-    let Checked::Fine = checked else {
-        return checked;
-    };
+    check_window(window)?;
     let n = window[0] as usize;
-    let lent = check_columns(n, jobs.len(), late.len(), largest.len());
-    let Checked::Fine = lent else {
-        return lent;
-    };
+    check_columns(n, jobs.len(), late.len(), largest.len())?;
     count_all(window, n, jobs, late, largest);
-    Checked::Fine
+    Ok(())
 }

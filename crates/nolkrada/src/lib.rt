@@ -2,7 +2,7 @@
 // Every call returns 0 where it answered, else number · 2^32 + place of its refusal, and a refusal leaves every lent slot as it was.
 #![tactic(auto)]
 
-ghost use Rattle.std.specs.Prelude.{◌≡◌};
+ghost use Rattle.std.specs.Prelude.{◌≡◌, ℕ};
 ghost use Rattle.model.specs.Checks.{refusal_of};
 ghost use Rattle.model.specs.Choice.{choice, column};
 ghost use Rattle.model.specs.Ready.{ready_list};
@@ -21,7 +21,7 @@ ghost use Rattle.model.specs.Calls.{
 ghost use Rattle.taskset.specs.TaskSet.{view_of};
 ghost use Rattle.fileformat.specs.File.{decode};
 ghost use Rattle.fileformat.specs.FileCalls.{read_count};
-ghost use Rattle.reader.specs.Reader.{outcome_in};
+ghost use Rattle.refusal.specs.Refusal.{answer_in};
 ghost use Rattle.monitor.specs.Layout.{tasks_in, deadline_in, held_in};
 ghost use Rattle.monitor.specs.MonitorCalls.{open_inputs, open_after, check_task_in, job_after, show_call, all_refusal, jobs_column, late_column, largest_column};
 ghost use Rattle.frame.specs.FrameView.{frame_from};
@@ -37,20 +37,13 @@ ghost use Rattle.nolkrada.specs.Runs.{jump_answer, choice_answer, ColumnsEnd};
 ghost use Rattle.enumeration.specs.SmallCalls.{count_call};
 ghost use Rattle.smallcalls.specs.SmallWords.{small_answer, SmallWordsEnd, WordsEnd};
 
-use choice::ChoiceAnswer;
-use demand::ArrivalAnswer;
+use choice::Extent;
 use frame::frame_from;
 use interface::{
-    code_of, put_four, put_one, put_sheet, put_three, put_two, refusal_code, sheet_from,
-    slots_code, task_at,
+    code_of, put_sheet, put_words, refusal_code, sheet_from, short_code, slots_code, task_at,
 };
-use jumps::JumpAnswer;
-use monitor::ShowAnswer;
-use reader::ReadOutcome;
-use taskset::Checked;
-use trace::TraceAnswer;
-use verdict::VerdictAnswer;
-use writer::WriteAnswer;
+use refusal::{Reason, Refusal};
+use verdict::Verdict;
 
 // Arrival count of one task in t ticks, with kept jitters: one word.
 #[unsafe(no_mangle)]
@@ -67,10 +60,9 @@ pub extern "C" fn nolkrada_arrival_count(
         answer.old result answer.new }
 {
     let s = sheet_from(sheet, count, charge);
-    let got = demand::arrival_count(s, task as usize, kept, t);
-    match got {
-        ArrivalAnswer::Refused { number, place } => slots_code(number, place, 1, answer.len()),
-        ArrivalAnswer::Count(n) => put_one(answer, n),
+    match demand::arrival_count(s, task as usize, kept, t) {
+        Err(r) => slots_code(r, 1, answer.len()),
+        Ok(n) => put_words(answer, &[n]),
     }
 }
 
@@ -90,20 +82,25 @@ pub extern "C" fn nolkrada_verdict(
 {
     let s = sheet_from(sheet, count, charge);
     let f = frame_from(frame);
-    let got = verdict::verdict(s, f, task as usize, kept);
-    match got {
-        VerdictAnswer::Refused { number, place } => slots_code(number, place, 4, answer.len()),
-        VerdictAnswer::Horizon { q, evaluations } => put_four(answer, 0, q as u64, 0, evaluations),
-        VerdictAnswer::Late {
-            q,
-            bound,
-            evaluations,
-        } => put_four(answer, 1, q as u64, bound as u64, evaluations),
-        VerdictAnswer::Fits {
-            worst,
-            q,
-            evaluations,
-        } => put_four(answer, 2, q as u64, worst as u64, evaluations),
+    match verdict::verdict_of(s, f, task as usize, kept) {
+        Err(r) => slots_code(r, 4, answer.len()),
+        Ok(Verdict::Horizon { q, evaluations }) => {
+            put_words(answer, &[0, u64::from(q), 0, evaluations])
+        }
+        Ok(
+            Verdict::Late {
+                q,
+                bound,
+                evaluations,
+            },
+        ) => put_words(answer, &[1, u64::from(q), u64::from(bound), evaluations]),
+        Ok(
+            Verdict::Fits {
+                worst,
+                q,
+                evaluations,
+            },
+        ) => put_words(answer, &[2, u64::from(q), u64::from(worst), evaluations]),
     }
 }
 
@@ -126,17 +123,15 @@ pub extern "C" fn nolkrada_choice(
     let s = sheet_from(sheet, count, charge);
     let f = frame_from(frame);
     if answer.len() < 1 {
-        let checked = choice::check_room(s, f, kept.len(), worst.len());
-        if let Checked::Refused { number, place } = checked {
-            return slots_code(number, place, 1, answer.len());
-        }
-        return refusal_code(13, 1);
+        return match choice::check_room(s, f, kept.len(), worst.len()) {
+            Err(r) => slots_code(r, 1, answer.len()),
+            Ok(()) => short_code(1),
+        };
     }
-    let got = choice::choose(s, f, kept, worst);
-    match got {
-        ChoiceAnswer::Refused { number, place } => refusal_code(number, place),
-        ChoiceAnswer::Ordinary => put_one(answer, 0),
-        ChoiceAnswer::HighOnly => put_one(answer, 1),
+    match choice::choose(s, f, kept, worst) {
+        Err(r) => refusal_code(r),
+        Ok(Extent::All) => put_words(answer, &[0]),
+        Ok(Extent::HighOnly) => put_words(answer, &[1]),
     }
 }
 
@@ -156,11 +151,10 @@ pub extern "C" fn nolkrada_trace_check(
         answer.old result answer.new }
 {
     let s = sheet_from(sheet, count, charge);
-    let got = trace::check_trace(s, n as usize, task, tick, cost);
-    match got {
-        TraceAnswer::Refused { number, place } => slots_code(number, place, 2, answer.len()),
-        TraceAnswer::Legal => put_two(answer, 0, 0),
-        TraceAnswer::TooClose { release } => put_two(answer, 1, release as u64),
+    match trace::check_trace(s, n as usize, task, tick, cost) {
+        Err(r) => slots_code(r, 2, answer.len()),
+        Ok(None) => put_words(answer, &[0, 0]),
+        Ok(Some(p)) => put_words(answer, &[1, p as u64]),
     }
 }
 
@@ -256,7 +250,7 @@ pub extern "C" fn nolkrada_jump(
     let s = sheet_from(sheet, count, charge);
     let f = frame_from(frame);
     if answer.len() < 1 {
-        let checked = queues::check_two(
+        return match queues::check_two(
             s,
             f,
             kept,
@@ -266,58 +260,54 @@ pub extern "C" fn nolkrada_jump(
             cost,
             ready.len(),
             finish.len(),
-        );
-        if let Checked::Refused { number, place } = checked {
-            return slots_code(number, place, 1, answer.len());
-        }
-        return refusal_code(13, 1);
+        ) {
+            Err(r) => slots_code(r, 1, answer.len()),
+            Ok(()) => short_code(1),
+        };
     }
-    let got = jumps::run(s, f, kept, n as usize, task, tick, cost, ready, finish);
-    match got {
-        JumpAnswer::Refused { number, place } => refusal_code(number, place),
-        JumpAnswer::Ran { stops } => put_one(answer, stops as u64),
+    match jumps::run(s, f, kept, n as usize, task, tick, cost, ready, finish) {
+        Err(r) => refusal_code(r),
+        Ok(stops) => put_words(answer, &[u64::from(stops)]),
     }
 }
 
 // How many releases a file has, or what is wrong with it. The reader tells the number even where its columns are too short: as the place of its 13.
-fn releases_in(file: &[u8]) -> ReadOutcome
-    ensures { outcome_in result ≡ read_count (decode file.now) }
+fn releases_in(file: &[u8]) -> Result<usize, Refusal>
+    ensures { answer_in (λ (n : ℕ). n) result ≡ read_count (decode file.now) }
 {
     let mut task = [0; 1];
     let mut tick = [0; 1];
     let mut cost = [0; 1];
-    let got = reader::read(file, &mut task, &mut tick, &mut cost);
-    let outcome = got.outcome;
-    if let ReadOutcome::Refused { number, place } = outcome {
-        if number == 13 {
-            return ReadOutcome::Read { releases: place };
-        }
+    match reader::read(file, &mut task, &mut tick, &mut cost) {
+        Ok(read) => Ok(read.releases),
+        Err(r) => match r.reason {
+            Reason::ShortSlice => Ok(r.place),
+            _ => Err(r),
+        },
     }
-    outcome
 }
 
 // What a read returns, given how many slots are lent for the sheet, each column and the answer. It changes none of them.
 fn read_code(file: &[u8], sheet: usize, task: usize, tick: usize, cost: usize, answer: usize) -> u64
     ensures { result ≡ code_in (read_within (decode file.now) sheet task tick cost answer) }
 {
-    let found = releases_in(file);
-    match found {
-        ReadOutcome::Refused { number, place } => refusal_code(number, place),
-        ReadOutcome::Read { releases } => {
+    match releases_in(file) {
+        Err(r) => refusal_code(r),
+        Ok(releases) => {
             if sheet < 160 {
-                return refusal_code(13, 160);
+                return short_code(160);
             }
             if task < releases {
-                return refusal_code(13, releases);
+                return short_code(releases);
             }
             if tick < releases {
-                return refusal_code(13, releases);
+                return short_code(releases);
             }
             if cost < releases {
-                return refusal_code(13, releases);
+                return short_code(releases);
             }
             if answer < 3 {
-                return refusal_code(13, 3);
+                return short_code(3);
             }
             0
         }
@@ -358,18 +348,18 @@ pub extern "C" fn nolkrada_read(
             answer.len(),
         );
     }
-    let got = reader::read(file, task, tick, cost);
-    let outcome = got.outcome;
-    let tasks = got.tasks;
-    match outcome {
-        ReadOutcome::Refused { number, place } => refusal_code(number, place),
-        ReadOutcome::Read { releases } => {
+    match reader::read(file, task, tick, cost) {
+        Err(r) => refusal_code(r),
+        Ok(read) => {
+            let tasks = read.tasks;
             put_sheet(tasks, sheet);
-            put_three(
+            put_words(
                 answer,
-                tasks.count as u64,
-                releases as u64,
-                tasks.charge as u64,
+                &[
+                    tasks.count as u64,
+                    read.releases as u64,
+                    u64::from(tasks.charge),
+                ],
             )
         }
     }
@@ -381,21 +371,20 @@ pub extern "C" fn nolkrada_load(text: &[u8], sheet: &mut [u32], answer: &mut [u6
     ensures { LoadEnds (load_answer text.now sheet.old answer.old) sheet.old answer.old result sheet.new
         answer.new }
 {
-    let got = loader::load(text);
-    let checked = got.answer;
-    let tasks = got.tasks;
-    if let Checked::Refused { number, place } = checked {
-        return refusal_code(number, place);
+    match loader::load(text) {
+        Err(r) => refusal_code(r),
+        Ok(tasks) => {
+            let slots = sheet.len();
+            if slots < 160 {
+                return short_code(160);
+            }
+            if answer.len() < 1 {
+                return short_code(1);
+            }
+            put_sheet(tasks, sheet);
+            put_words(answer, &[tasks.count as u64])
+        }
     }
-    let slots = sheet.len();
-    if slots < 160 {
-        return refusal_code(13, 160);
-    }
-    if answer.len() < 1 {
-        return refusal_code(13, 1);
-    }
-    put_sheet(tasks, sheet);
-    put_one(answer, tasks.count as u64)
 }
 
 // Writes a file: its bytes, and how many as one word.
@@ -416,16 +405,14 @@ pub extern "C" fn nolkrada_write(
 {
     let s = sheet_from(sheet, count, charge);
     if answer.len() < 1 {
-        let checked = writer::check_write(s, n as usize, task, tick, cost, out.len());
-        if let Checked::Refused { number, place } = checked {
-            return slots_code(number, place, 1, answer.len());
-        }
-        return refusal_code(13, 1);
+        return match writer::check_write(s, n as usize, task, tick, cost, out.len()) {
+            Err(r) => slots_code(r, 1, answer.len()),
+            Ok(()) => short_code(1),
+        };
     }
-    let got = writer::write(s, n as usize, task, tick, cost, out);
-    match got {
-        WriteAnswer::Refused { number, place } => refusal_code(number, place),
-        WriteAnswer::Written { bytes } => put_one(answer, bytes as u64),
+    match writer::write(s, n as usize, task, tick, cost, out) {
+        Err(r) => refusal_code(r),
+        Ok(bytes) => put_words(answer, &[bytes as u64]),
     }
 }
 
@@ -460,14 +447,12 @@ pub extern "C" fn nolkrada_monitor_take(window: &mut [u64], task: u32, response:
 pub extern "C" fn nolkrada_monitor_show(window: &[u64], task: u32, answer: &mut [u64]) -> u64
     ensures { Ends 3 (as_words shown_words (show_call window.now task)) answer.old result answer.new }
 {
-    let got = monitor::show_task(window, task as usize);
-    match got {
-        ShowAnswer::Refused { number, place } => slots_code(number, place, 3, answer.len()),
-        ShowAnswer::Showing {
-            jobs,
-            late,
-            largest,
-        } => put_three(answer, jobs as u64, late as u64, largest),
+    match monitor::show_task(window, task as usize) {
+        Err(r) => slots_code(r, 3, answer.len()),
+        Ok(tally) => put_words(
+            answer,
+            &[u64::from(tally.jobs), u64::from(tally.late), tally.largest],
+        ),
     }
 }
 

@@ -8,6 +8,7 @@ use native.Mathlib.Omega.{arith}
 use borrow.Author.Tests.{lt-ltb, le-leb, lt-leb, leb-true, leb-false}
 use lib.Dec.{ltb, eqb, leb}
 use lib.ListN.{get_or-append, replicate}
+use Rattle.std.specs.Prelude as std
 use Rattle.model.specs.Series.{table}
 use Rattle.model.specs.Limits.{max_tasks}
 use Rattle.model.specs.Tasks.{Tasks}
@@ -66,7 +67,7 @@ entry_inserted s p t i = go (entry_of s i) (entry_of s (pred i)) (ltb i p) (eqb 
 
 -- the new sheet says what the definition says
 pub inserted_same
-    : (s : TaskSet) (f : Frame) (p : ℕ) (t : Task) → SameTasks (framed_of (inserted_sheet s p t) f) (with_task p (task_entry t) (framed_of s f))
+    : (s : TaskSet) (f : std.Option Frame) (p : ℕ) (t : Task) → SameTasks (framed_of (inserted_sheet s p t) f) (with_task p (task_entry t) (framed_of s f))
 inserted_same s f p t = same_by _ _ refl refl each (frame_itself (frame_of f))
   where
     each : (i : ℕ) → i < suc s.count → entry_at (framed_of (inserted_sheet s p t) f) i ≡ entry_at (with_task p (task_entry t) (framed_of s f)) i
@@ -120,13 +121,13 @@ module _ (s : Tasks) (t : Entry) (p : ℕ) where
       many true e h = h ∙ refused_tasks (plan_inputs (with_task p t s)) _ (refuses_many (with_task p t s) (omega (arith, leb-true max_tasks s.count e)))
       many false e h = let z : ◌≡◌ {A = ℕ} 0 1 = cc in absurd (omega arith)
 
-  pub ask_stopped : (o : Option Refusal) (a : Plan) (r : Refusal) → some r ≡ o → o ≡ ask_first s p → SameAnswer (answer_by o a) (ask_call s t p)
+  pub ask_stopped : (r : Refusal) → some r ≡ ask_first s p → SameAnswer (refused r) (ask_call s t p)
   unfolding ask_call answer_by
-  ask_stopped o a r h e = rw (← h, ← stops r (h ∙ e))
+  ask_stopped r e = rw (← stops r e)
 
 -- what is answered for the new sheet is what the ask answers
 pub ask_made
-    : (s : TaskSet) (f : Frame) (t : Task) (p : ℕ) (a : Answer Plan) → none ≡ ask_first (framed_of s f) p → a ≡ plan_call (framed_of (inserted_sheet s p t) f)
+    : (s : TaskSet) (f : std.Option Frame) (t : Task) (p : ℕ) (a : Answer Plan) → none ≡ ask_first (framed_of s f) p → a ≡ plan_call (framed_of (inserted_sheet s p t) f)
     → SameAnswer a (ask_call (framed_of s f) (task_entry t) p)
 unfolding ask_first ask_refusal plan_call ask_call
 ask_made s f t p a h e =

@@ -10,19 +10,15 @@ use lib.Seq.{take-append_seam}
 use lib.IntN.{nat_abs}
 use Rattle.model.specs.Limits.{max_tasks}
 use Rattle.model.specs.Tasks.{Tasks}
-use Rattle.model.specs.Choice.{Scope, ordinary, high_only, scope_in, scope, choice}
+use Rattle.model.specs.Choice.{Scope, scope_in, scope, choice}
 use Rattle.model.specs.Refusal.{Refusal, refused, answered, first_refusal}
 use Rattle.model.specs.Checks.{check_tasks, check_task, check_count, check_slots, check_kept, check_releases, check_choice, refusal_of}
 use Rattle.model.specs.Calls.{column_after, unfit_of, choice_inputs, choice_call, kept_column, worst_column}
 use Rattle.model.proofs.CheckLaws.{valid_of, slots_next, chosen_of}
 use Rattle.model.proofs.OrderLaws.{refused_tasks, accepted_of, answered_of, refused_of}
 use Rattle.response.proofs.ChoiceLaws.{choice_length, chosen_to}
-use Rattle.choice.specs.declared.ChoiceAnswer.{ChoiceAnswer}
-use Rattle.choice.specs.declared.ChoiceAnswer.TheVariants.{Ordinary, HighOnly, Refused}
-use Rattle.choice.specs.Choices.{scope_told}
-use Rattle.admission.specs.Offers.{plan_of, plan_inputs, answer_by, plan_call}
+use Rattle.admission.specs.Offers.{plan_of, plan_inputs, plan_call}
 use Rattle.admission.proofs.AskedLaws.{by_passed, by_refused}
-use Rattle.offer.specs.Plans.{choice_refusal, choice_partial}
 
 -- columns of 32 slots are long enough, so the choice checks what it checks without them
 pub room_free : (s : Tasks) (kept worst : List ℕ) → max_tasks ≤ length kept → max_tasks ≤ length worst → refusal_of (choice_inputs s kept worst) ≡ refusal_of (plan_inputs s)
@@ -71,7 +67,7 @@ module _ (s : Tasks) (held keep worst : List ℕ) (long : max_tasks ≤ length h
   room = refusal_of (choice_inputs s held held)
 
   -- a choice that is made
-  made
+  pub made
       : (c : Scope) (partial : Bool) → answered c ≡ choice_call s held held → scope_in partial ≡ c
       → keep ≡ column_after room (kept_column (choice s)) held → worst ≡ column_after room (worst_column (choice s)) held
       → answered (record { tasks = s; kept = take s.count keep; worst = take s.count worst; scope = scope_in partial }) ≡ plan_call s
@@ -84,20 +80,9 @@ module _ (s : Tasks) (held keep worst : List ℕ) (long : max_tasks ≤ length h
       let sc : scope_in partial ≡ scope s = p ∙ sym a.1 in
       (λ x. answered (record { tasks = s; kept = ks x; worst = ws x; scope = sc x })) ∙ sym (by_passed _ (plan_of s) fine)
 
-  pub planned
-      : (got : ChoiceAnswer) (o : Option Refusal) (partial : Bool)
-      → scope_told got ≡ choice_call s held held
-      → keep ≡ column_after room (kept_column (choice s)) held
-      → worst ≡ column_after room (worst_column (choice s)) held
-      → o ≡ choice_refusal got
-      → partial ≡ choice_partial got
-      → answer_by o (record { tasks = s; kept = take s.count keep; worst = take s.count worst; scope = scope_in partial }) ≡ plan_call s
-  unfolding scope_told choice_refusal choice_partial choice_call plan_call
-  planned Ordinary o partial e k w r p = by_passed o _ (sym r) ∙ made ordinary partial e (ap scope_in p) k w
-  planned HighOnly o partial e k w r p = by_passed o _ (sym r) ∙ made high_only partial e (ap scope_in p) k w
-  planned (Refused n q) o partial e k w r p = by_refused o _ _ (sym r) ∙ refuses e
-    where
-      refuses : refused (record { number = n; place = q }) ≡ choice_call s held held → refused (record { number = n; place = q }) ≡ plan_call s
-      refuses h =
-          let a = refused_of (choice_inputs s held held) (scope s) (record { number = n; place = q }) (sym h) in
-          sym (by_refused _ (plan_of s) _ (a ∙ room_free s held held long long))
+  -- one that is refused
+  pub not_made : (r : Refusal) → refused r ≡ choice_call s held held → refused r ≡ plan_call s
+  unfolding choice_call plan_call
+  not_made r h =
+      let a = refused_of (choice_inputs s held held) (scope s) r (sym h) in
+      sym (by_refused _ (plan_of s) _ (a ∙ room_free s held held long long))

@@ -1,5 +1,5 @@
 -- A sheet with its choice, and a board, by value as the definitions see them.
-use Rattle.std.specs.Prelude.{take}
+use Rattle.std.specs.Prelude.{Option, take}
 use Rattle.model.specs.Choice.{scope_in}
 use Rattle.taskset.specs.declared.Task.{Task}
 use Rattle.frame.specs.declared.Frame.{Frame}
@@ -14,7 +14,7 @@ abbrev pub task_entry : Task → admission_offers.Entry
 task_entry t = record { period = t.period; jitter = t.jitter; cost = t.cost; deadline = t.deadline; low = t.low }
 
 -- the sheet of a record with this frame, and the choice in it: slots past the count are not looked at
-abbrev pub plan_view : Plan → Frame → admission_offers.Plan
+abbrev pub plan_view : Plan → Option Frame → admission_offers.Plan
 plan_view p f = record {
   tasks = framed_of p.tasks f;
   kept = take p.tasks.count p.keep;

@@ -14,10 +14,10 @@ pub struct Plan {
     pub partial: bool,
 }
 
-// A board: the sheet in force with its choice, its frame, and the tick of the last commit, 0 where there is none yet.
+// A board: the sheet in force with its choice, its frame, if there is one, and the tick of the last commit, 0 where there is none yet.
 #[derive(Clone, Copy)]
 pub struct Board {
     pub plan: Plan,
-    pub frame: Frame,
+    pub frame: Option<Frame>,
     pub last: u64,
 }

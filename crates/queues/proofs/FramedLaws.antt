@@ -1,32 +1,23 @@
 -- Laws of a run in a frame: what its checks find, ready ticks that do not depend on the frame, and jobs in two frames with the same windows.
 use Prim.Native.Nat.{ℕ}
 use mathlib.Core.Path.{◌≡◌, refl, ap₂}
-use mathlib.Core.Bool.{Bool, true, false, not}
+use mathlib.Core.Bool.{Bool}
 use mathlib.Core.Option.{Option, some, none}
 use mathlib.Core.List.{List}
 use native.Mathlib.Omega.{arith}
-use borrow.Author.Tests.{not-true, not-false}
 use Rattle.model.specs.Frame.{Frame}
 use Rattle.model.specs.Tasks.{Tasks, with_frame, Release}
 use Rattle.model.specs.Ready.{ready_at, ready_list}
 use Rattle.model.specs.Refusal.{Refusal}
-use Rattle.model.specs.Checks.{check_tasks, refusal_of}
+use Rattle.model.specs.Checks.{refusal_of}
 use Rattle.model.specs.SameTasks.{SameFrame}
 use Rattle.model.specs.Run.{Jobs}
 use Rattle.model.proofs.FrameLaws.{Ruled, ours_same, turn_same}
 use Rattle.model.proofs.FramedLaws.{framed_refusal}
 use Rattle.model.proofs.OrderLaws.{refused_tasks}
-use Rattle.frame.specs.FrameView.{given}
 use Rattle.trace.specs.TraceCalls.{call_inputs}
 use Rattle.queues.specs.Framed.{framed_first}
 use Rattle.queues.specs.Queues.{jobs_of, Runnable}
-
--- no frame, and a frame that is there
-pub first_absent : (b : Bool) (f : Frame) (s : Tasks) → not b ≡ true → none ≡ framed_first (given b f) s
-first_absent b f s h = rw (not-true b h)
-
-pub first_present : (b : Bool) (f : Frame) (s : Tasks) → not b ≡ false → check_tasks (with_frame (given b f) s) ≡ framed_first (given b f) s
-first_present b f s h = rw (not-false b h)
 
 module _ (s : Tasks) (kept : List ℕ) (n : ℕ) (task tick cost : List ℕ) (m : ℕ) where
   -- a refusal of the sheet with its frame is the call's

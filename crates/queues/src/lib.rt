@@ -8,24 +8,19 @@ ghost use Rattle.model.specs.Choice.{column};
 ghost use Rattle.model.specs.Checks.{refusal_of};
 ghost use Rattle.model.specs.Ready.{ready_list};
 ghost use Rattle.model.specs.Calls.{releases_of, column_after};
-ghost use Rattle.taskset.specs.TaskSet.{view_of, refusal_in};
+ghost use Rattle.refusal.specs.Refusal.{refusal_in};
+ghost use Rattle.taskset.specs.TaskSet.{view_of};
 ghost use Rattle.frame.specs.FrameView.{frame_of, framed_of};
 ghost use Rattle.trace.specs.TraceCalls.{call_inputs};
 ghost use Rattle.queues.specs.Framed.{framed_first};
 ghost use Rattle.queues.specs.Queues.{start_of, next_of, never, wake_of, top_ready, wake_all, work_of, Timely, Workable};
 
 use frame::Frame;
-use taskset::{Checked, PICKUP, TaskSet};
+use refusal::Refusal;
+use taskset::{PICKUP, TaskSet};
 
 // A tick over every start and finish tick of a run.
 pub const NEVER: u64 = 18446744073709551615;
-
-// The smaller of two numbers.
-pub fn smaller(a: u64, b: u64) -> u64
-    ensures { result ≡ min a b }
-{
-    if b < a { b } else { a }
-}
 
 // The first tick in which a job may run, given its ready tick.
 fn start_of(ready: u64) -> u64
@@ -40,12 +35,10 @@ pub fn next_of(task: &[u32], n: usize, i: u32, from: usize) -> usize
     requires { (from ≤ n) × (n ≤ length task.now) }
     ensures { result ≡ next_of task.now n i from }
 {
-    let mut p = from;
-    while p < n {
+    for p in from..n {
         if task[p] == i {
             return p;
         }
-        p += 1;
     }
     n
 }
@@ -77,12 +70,10 @@ pub fn top_ready(head: &[usize; 32], ready: &[u64], n: usize, tasks: usize, t: u
     requires { (tasks ≤ 32) × Timely n ready.now }
     ensures { result ≡ top_ready head.now ready.now n tasks t }
 {
-    let mut i = 0;
-    while i < tasks {
+    for i in 0..tasks {
         if may_run(ready, n, head[i], t) {
             return i;
         }
-        i += 1;
     }
     tasks
 }
@@ -93,10 +84,8 @@ pub fn wake_all(head: &[usize; 32], ready: &[u64], n: usize, tasks: usize) -> u6
     ensures { result ≡ wake_all head.now ready.now n tasks }
 {
     let mut wake = NEVER;
-    let mut i = 0;
-    while i < tasks {
-        wake = smaller(wake, wake_of(ready, n, head[i]));
-        i += 1;
+    for i in 0..tasks {
+        wake = wake.min(wake_of(ready, n, head[i]));
     }
     wake
 }
@@ -107,10 +96,8 @@ pub fn first_jobs(task: &[u32], n: usize, tasks: usize) -> [usize; 32]
     ensures { Holds (λ i. next_of task.now n i 0) tasks 32 result }
 {
     let mut head = [0; 32];
-    let mut i = 0;
-    while i < tasks {
+    for i in 0..tasks {
         head[i] = next_of(task, n, i as u32, 0);
-        i += 1;
     }
     head
 }
@@ -138,28 +125,26 @@ pub fn first_work(
     ensures { Holds (λ i. work_of cost.now charge n (get_or head.now i 0)) tasks 32 result }
 {
     let mut left = [0; 32];
-    let mut i = 0;
-    while i < tasks {
+    for i in 0..tasks {
         left[i] = work_of(cost, charge, n, head[i]);
-        i += 1;
     }
     left
 }
 
 // The check of a sheet with its frame, where there is one; fine where there is none.
-fn check_framed(s: TaskSet, f: Frame) -> Checked
+fn check_framed(s: TaskSet, f: Option<Frame>) -> Result<(), Refusal>
     ensures { refusal_in result ≡ framed_first (frame_of f) (view_of s) }
 {
-    if !f.present {
-        return Checked::Fine;
+    match f {
+        None => Ok(()),
+        Some(_) => frame::check_sheet(s, f),
     }
-    frame::check_sheet(s, f)
 }
 
 // The checks of a run to which two columns of so many slots are lent.
 pub fn check_two(
     s: TaskSet,
-    f: Frame,
+    f: Option<Frame>,
     kept: &[u32],
     count: usize,
     task: &[u32],
@@ -167,21 +152,18 @@ pub fn check_two(
     cost: &[u32],
     first: usize,
     second: usize,
-) -> Checked
+) -> Result<(), Refusal>
     ensures { refusal_in result
         ≡ refusal_of (call_inputs (framed_of s f) kept.now count task.now tick.now cost.now (min first second)) }
 {
-    let framed = check_framed(s, f);
-    let Checked::Fine = framed else {
-        return framed;
-    };
+    check_framed(s, f)?;
     trace::check_two(s, kept, count, task, tick, cost, first, second)
 }
 
 // The checks of a run, with `slots` for the finish ticks; where they pass, the ready ticks are written to the first slots of `ready`.
 pub fn check_and_shape(
     s: TaskSet,
-    f: Frame,
+    f: Option<Frame>,
     kept: &[u32],
     count: usize,
     task: &[u32],
@@ -189,7 +171,7 @@ pub fn check_and_shape(
     cost: &[u32],
     ready: &mut [u64],
     slots: usize,
-) -> Checked
+) -> Result<(), Refusal>
     ensures refusal { refusal_in result
         ≡ refusal_of (call_inputs (framed_of s f) kept.now count task.now tick.now cost.now
         (min (length ready.old) slots)) }
@@ -197,9 +179,6 @@ pub fn check_and_shape(
         ≡ column_after (refusal_in result)
         (ready_list (framed_of s f) (column kept.now) (releases_of count task.now tick.now cost.now)) ready.old }
 {
-    let framed = check_framed(s, f);
-    let Checked::Fine = framed else {
-        return framed;
-    };
+    check_framed(s, f)?;
     trace::check_and_shape(s, kept, count, task, tick, cost, ready, slots)
 }

@@ -5,8 +5,6 @@ ghost use Rattle.std.specs.Prelude.{◌≡◌, ◌≤◌};
 ghost use Rattle.model.specs.Arrival as model_arrival;
 ghost use Rattle.quotient.specs.Factor.{parts_of, Divided};
 
-use numbers::wide;
-
 // The factor of a period, 2^44 ÷ P rounded up, in two parts: high × 2^20 + low.
 #[derive(Clone, Copy)]
 pub struct Factor {
@@ -19,7 +17,7 @@ pub fn factor_of(period: u32) -> Factor
     requires { 1 ≤ period }
     ensures { result ≡ parts_of period }
 {
-    let p = wide(period);
+    let p = u64::from(period);
     let m = (17592186044416 + p - 1) / p;
     Factor {
         high: (m >> 20) as u32,
@@ -32,6 +30,6 @@ pub fn ceil_div(x: u32, period: u32, high: u32, low: u32) -> u32
     requires { Divided x period high low }
     ensures { result ≡ model_arrival.ceil_div x period }
 {
-    let y = wide(x + period - 1);
-    ((y * wide(high) + ((y * wide(low)) >> 20)) >> 24) as u32
+    let y = u64::from(x + period - 1);
+    ((y * u64::from(high) + ((y * u64::from(low)) >> 20)) >> 24) as u32
 }

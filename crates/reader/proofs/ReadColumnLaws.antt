@@ -1,30 +1,28 @@
 -- Laws of the columns that a read writes, and of its answer.
 use Prim.Native.Nat.{ℕ, ◌+◌, ◌*◌, ◌-◌, ◌≤◌, ◌<◌}
 use mathlib.Core.Path.{◌≡◌, refl, sym, ap, ap₂, ◌∙◌}
-use mathlib.Core.Option.{Option, some, none}
+use mathlib.Core.Option.{some, none}
 use mathlib.Core.List.{List, [], ◌∷◌, ◌++◌, map}
+use Rattle.std.specs.Prelude.{Ok, Err}
 use native.Mathlib.Omega.{arith}
 use native.Mathlib.Numerals.{add-one}
 use lib.Dec.{eqb}
 use lib.ListN.{length, get_or, take, drop, set, length-set, length-map, take-append-drop, get_or-map}
 use lib.Seq.{take-suc, take-suc-set, take-length, drop-set-lt, drop-drop}
 use Rattle.model.specs.Tasks.{Release, no_release}
-use Rattle.model.specs.Refusal.{Refusal, refuse, Answer, refused, answered, first_refusal}
+use Rattle.model.specs.Refusal.{Refusal, refuse, refused, answered}
+use Rattle.refusal.specs.declared.Refusal.{Refusal as Refused}
+use Rattle.refusal.specs.Refusal.{number_of}
 use Rattle.model.specs.Checks.{Lent, check_slots}
 use Rattle.model.specs.Calls.{lends, column_after}
 use Rattle.model.proofs.TableLaws.{get_or_table}
 use Rattle.records.specs.declared.Job.{Job}
 use Rattle.records.specs.RecordIn.{release_of}
 use Rattle.reader.specs.declared.Scanned.{Scanned}
-use Rattle.reader.specs.declared.ReadOutcome.TheVariants.{Read, Refused as Halted}
-use Rattle.taskset.specs.declared.TaskSet.{TaskSet}
-use Rattle.taskset.specs.declared.Checked.{Checked}
-use Rattle.taskset.specs.declared.Checked.TheVariants.{Fine, Refused}
-use Rattle.taskset.specs.TaskSet.{refusal_in}
 use Rattle.fileformat.specs.Records.{width_in, Width, short, long, kind_of, body_size, release_record, release_from, release_size}
 use Rattle.fileformat.specs.File.{File, decode}
-use Rattle.fileformat.specs.FileCalls.{set_of, read_call, read_count, read_sheet, read_column}
-use Rattle.reader.specs.Reader.{record_there, offset_of, release_in, releases_at, AreReleases, Listed, Copied, Putting, answer_with, start_in, file_in, ScanSays, ReadSays}
+use Rattle.fileformat.specs.FileCalls.{read_call, read_count, read_sheet, read_column}
+use Rattle.reader.specs.Reader.{record_there, offset_of, release_in, releases_at, AreReleases, Listed, Copied, Putting, start_in, file_in, ScanSays, ReadSays}
 use Rattle.fileformat.proofs.ReleasePlaces.{Placed, placed}
 use Rattle.reader.proofs.ScanLaws.{length_releases, offset_more}
 
@@ -199,21 +197,6 @@ module _ (f : List ℕ) (start count : ℕ) (task₀ tick₀ cost₀ : List ℕ)
           cost_column = column_all f start count _ _ _ i p.cost_copied h p.within;
         }
 
--- the first of two refusals
-pub first_of_two : (a b : Option Refusal) {q : Refusal} → a ≡ some q → first_refusal (a ∷ b ∷ []) ≡ some q
-unfolding first_refusal
-first_of_two a b e = rw (first_refusal, e)
-
-pub second_of_two : (a b : Option Refusal) → a ≡ none → first_refusal (a ∷ b ∷ []) ≡ b
-unfolding first_refusal
-second_of_two a none e = rw (first_refusal, e)
-second_of_two a (some q) e = rw (first_refusal, e)
-
--- a refusal as the answer of a file
-abbrev answer_or : Option Refusal → Answer File
-answer_or none = refused (record { number = 0; place = 0 })
-answer_or (some q) = refused q
-
 -- the answer of a read: the file's own refusal, then 13, else what the file holds
 module _ (f task tick cost : List ℕ) where
   call_refused : (q : Refusal) → refused q ≡ decode f → refused q ≡ read_call f task tick cost
@@ -236,65 +219,44 @@ module _ (f task tick cost : List ℕ) where
 
   -- a refusal changes no slot
   says_refused
-      : (n p : ℕ) (s : TaskSet) → s ≡ set_of [] → refused (record { number = n; place = p }) ≡ read_call f task tick cost
-      → ReadSays f task tick cost (record { outcome = Halted n p; tasks = s }) task tick cost
-  unfolding read_count read_sheet read_column column_after
-  says_refused n p s z e =
+      : (e : Refused) → refused (record { number = number_of e.reason; place = e.place }) ≡ read_call f task tick cost
+      → ReadSays f task tick cost (Err e) task tick cost
+  unfolding read_count read_column column_after
+  says_refused e h =
       record {
-        outcome = ap read_count e;
-        sheet = z ∙ ap read_sheet e;
-        task_column = ap (λ a. read_column (λ y. y.task) a task) e;
-        tick_column = ap (λ a. read_column (λ y. y.tick) a tick) e;
-        cost_column = ap (λ a. read_column (λ y. y.cost) a cost) e;
+        outcome = ap read_count h;
+        sheet = record {};
+        task_column = ap (λ a. read_column (λ y. y.task) a task) h;
+        tick_column = ap (λ a. read_column (λ y. y.tick) a tick) h;
+        cost_column = ap (λ a. read_column (λ y. y.cost) a cost) h;
       }
 
+  -- the file is refused
+  pub reads_halted : (e : Refused) → ScanSays f (Err e) → ReadSays f task tick cost (Err e) task tick cost
+  reads_halted e h = says_refused e (call_refused _ h.answer)
+
   -- the columns by the number of slots that are needed
-  abbrev pub slots : ℕ → List Lent
+  abbrev slots : ℕ → List Lent
   slots k = lends k task ∷ lends k tick ∷ lends k cost ∷ []
 
-  module _ (r : Scanned) (h : ScanSays f r) where
-    length_in_lem : r.releases ≡ length (file_in f r).releases
-    length_in_lem = sym (length_releases f (start_in r.tasks) r.releases)
+  module _ (s : Scanned) (h : ScanSays f (Ok s)) where
+    length_in_lem : s.releases ≡ length (file_in f s).releases
+    length_in_lem = sym (length_releases f (start_in s.tasks) s.releases)
 
-    found : r.answer ≡ Fine → answered (file_in f r) ≡ decode f
-    found e = ap (answer_with (file_in f r)) (sym e) ∙ h.answer
-
-    -- a refusal of the file, or of the columns after it
-    pub reads_halted
-        : (n p : ℕ) (s : TaskSet) → s ≡ set_of [] → refuse n p ≡ first_refusal (refusal_in r.answer ∷ check_slots (slots r.releases) ∷ [])
-        → ReadSays f task tick cost (record { outcome = Halted n p; tasks = s }) task tick cost
-    reads_halted n p s z g = says_refused n p s z (go r.answer refl (check_slots (slots r.releases)) refl)
-      where
-        go : (a : Checked) → r.answer ≡ a → (o : Option Refusal) → check_slots (slots r.releases) ≡ o → refused (record { number = n; place = p }) ≡ read_call f task tick cost
-        go (Refused m k) e o d =
-            let q : refuse n p ≡ refuse m k = g ∙ first_of_two _ _ (ap refusal_in e) in
-            call_refused _ (ap answer_or q ∙ ap (answer_with (file_in f r)) (sym e) ∙ h.answer)
-        go Fine e o d =
-            let q : refuse n p ≡ check_slots (slots r.releases) = g ∙ second_of_two _ _ (ap refusal_in e) in
-            call_short (file_in f r) _ (found e) (q ∙ ap (λ k. check_slots (slots k)) length_in_lem)
+    -- the columns are refused
+    pub reads_short : (e : Refused) → refuse (number_of e.reason) e.place ≡ check_slots (slots s.releases) → ReadSays f task tick cost (Err e) task tick cost
+    reads_short e g = says_refused e (call_short (file_in f s) _ h.answer (g ∙ ap (λ k. check_slots (slots k)) length_in_lem))
 
     -- neither
-    pub reads_passed : none ≡ first_refusal (refusal_in r.answer ∷ check_slots (slots r.releases) ∷ []) → (r.answer ≡ Fine) × (none ≡ check_slots (slots r.releases))
-    reads_passed g = go r.answer refl
-      where
-        go : (a : Checked) → r.answer ≡ a → (r.answer ≡ Fine) × (none ≡ check_slots (slots r.releases))
-        go Fine e = (e, g ∙ second_of_two _ _ (ap refusal_in e))
-        go (Refused m k) e =
-            let q : none ≡ refuse m k = g ∙ first_of_two _ _ (ap refusal_in e) in
-            let w : ◌≡◌ {A = ℕ} 0 1 = cc in absurd (omega arith)
-
     pub reads_fine
-        : (task' tick' cost' : List ℕ)
-        → r.answer ≡ Fine
-        → none ≡ check_slots (slots r.releases)
-        → Listed (file_in f r).releases task tick cost task' tick' cost'
-        → ReadSays f task tick cost (record { outcome = Read r.releases; tasks = r.tasks }) task' tick' cost'
-    unfolding read_count read_sheet read_column
-    reads_fine task' tick' cost' e g c =
-        let a : answered (file_in f r) ≡ read_call f task tick cost = call_fine (file_in f r) (found e) (g ∙ ap (λ k. check_slots (slots k)) length_in_lem) in
+        : (task' tick' cost' : List ℕ) → none ≡ check_slots (slots s.releases) → Listed (file_in f s).releases task tick cost task' tick' cost'
+        → ReadSays f task tick cost (Ok (record { tasks = s.tasks; releases = s.releases })) task' tick' cost'
+    unfolding read_count read_column
+    reads_fine task' tick' cost' g c =
+        let a : answered (file_in f s) ≡ read_call f task tick cost = call_fine (file_in f s) h.answer (g ∙ ap (λ k. check_slots (slots k)) length_in_lem) in
         record {
           outcome = ap answered length_in_lem ∙ ap read_count a;
-          sheet = h.sheet (file_in f r) (sym (found e)) ∙ ap read_sheet (sym (found e)) ∙ ap read_sheet a;
+          sheet = h.found.sheet ∙ ap read_sheet (sym h.answer) ∙ ap read_sheet a;
           task_column = c.task_column ∙ ap (λ b. read_column (λ y. y.task) b task) a;
           tick_column = c.tick_column ∙ ap (λ b. read_column (λ y. y.tick) b tick) a;
           cost_column = c.cost_column ∙ ap (λ b. read_column (λ y. y.cost) b cost) a;

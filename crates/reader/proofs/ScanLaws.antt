@@ -3,6 +3,7 @@ use Prim.Native.Nat.{ℕ, suc, ◌+◌, ◌*◌, ◌-◌, ◌≤◌, ◌<◌}
 use mathlib.Core.Path.{◌≡◌, refl, sym, ap, ap₂, ◌∙◌}
 use mathlib.Core.Option.{some, none}
 use mathlib.Core.List.{List, [], ◌∷◌, ◌++◌}
+use Rattle.std.specs.Prelude.{Ok, Err}
 use native.Mathlib.Omega.{arith}
 use native.Mathlib.Numerals.{add-one}
 use lib.ListN.{length, get_or, drop, set, replicate, length-set, drop_of_length-le}
@@ -11,11 +12,12 @@ use Rattle.model.specs.Limits.{max_tasks}
 use Rattle.model.specs.Series.{sum, table}
 use Rattle.model.specs.Tasks.{Release}
 use Rattle.model.specs.Refusal.{Refusal, refused, answered}
+use Rattle.refusal.specs.declared.Refusal.{Refusal as Refused}
+use Rattle.refusal.specs.Refusal.{number_of}
 use Rattle.model.proofs.SeriesLaws.{sum_eq}
 use Rattle.model.proofs.TableLaws.{length_table}
 use Rattle.taskset.specs.declared.Task.{Task}
 use Rattle.taskset.specs.declared.TaskSet.{TaskSet}
-use Rattle.taskset.specs.declared.Checked.TheVariants.{Fine}
 use Rattle.taskset.specs.TaskSet.{no_task, view_of}
 use Rattle.model.specs.Checks.{fault_at}
 use Rattle.model.proofs.CheckLaws.{fault_of_lem, faultless_of}
@@ -33,12 +35,7 @@ use Rattle.fileformat.proofs.WidthLaws.{size_low}
 use Rattle.fileformat.proofs.TaskSizeLaws.{tasks_bytes_more}
 use Rattle.records.specs.declared.Job.{Job}
 use Rattle.records.specs.RecordIn.{release_of}
-use Rattle.reader.specs.declared.Scanned.{Scanned}
-use Rattle.reader.specs.Reader.{record_there, offset_of, release_in, releases_at, AreReleases, answer_with, start_in, file_in, ScanSays, Refuses}
-
--- an answer is no refusal
-never_both : {A B : Type 0} (a : A) (q : Refusal) → answered a ≡ refused q → B
-never_both a q e = let z : ◌≡◌ {A = ℕ} 0 1 = cc in absurd (omega arith)
+use Rattle.reader.specs.Reader.{record_there, offset_of, release_in, releases_at, AreReleases, start_in, ScanSays}
 
 -- the releases from an offset on
 pub length_releases : (f : List ℕ) (start n : ℕ) → length (releases_at f start n) ≡ n
@@ -207,7 +204,8 @@ module _ (f : List ℕ) (s : TaskSet) (n before start at : ℕ) (i : Scanning f 
       ∙ ap (drop 1) (i.padded ∙ ap (λ k. replicate k no_task) e)
 
   state_task
-      : (t : Task) → s.count < max_tasks → n ≡ 0 → record { charge = s.charge; tasks = tasks_in s ++ (t ∷ []); releases = state.releases; before = before } ≡ state_of f (with_task t) n before
+      : (t : Task) → s.count < max_tasks → n ≡ 0
+      → record { charge = s.charge; tasks = tasks_in s ++ (t ∷ []); releases = state.releases; before = before } ≡ state_of f (with_task t) n before
   state_task t h z =
       ap₂ (λ a b. record { charge = s.charge; tasks = a; releases = b; before = before }) (sym (tasks_more t h)) (no_releases f _ n z ∙ sym (no_releases f _ n z))
 
@@ -311,32 +309,23 @@ module _ (f : List ℕ) (s : TaskSet) (n before start at : ℕ) (i : Scanning f 
   scan_end e h g = sym (at_last e h ∙ ap (after_end state (at + 1)) (drop_of_length-le f g))
 
   pub scan_says
-      : (r : Scanned) → r ≡ record { answer = Fine; tasks = s; releases = n; start = start } → end_record ≡ record_of (drop at f) → 1 ≤ s.count → length f ≤ at + 1 → ScanSays f r
+      : end_record ≡ record_of (drop at f) → 1 ≤ s.count → length f ≤ at + 1 → ScanSays f (Ok (record { tasks = s; releases = n; start = start }))
   unfolding read_sheet
-  scan_says r q e h g =
-      rw q
-      (record {
-        answer = scan_end e h g;
-        sheet = λ x d. set_of_tasks s in_array i.padded ∙ ap read_sheet (scan_end e h g);
-        few_tasks = i.few_tasks;
-        begins = i.begins;
-        inside = omega (arith, i.far, i.within);
-        stand = i.stand;
-        none_refused = λ q d. never_both _ q (scan_end e h g ∙ d);
-      })
-
-  -- a refusal of the scan
-  pub scan_refuses : (k p : ℕ) (r : Scanned) → Refuses k p s start r → refused (record { number = k; place = p }) ≡ decode f → ScanSays f r
-  scan_refuses k p r h e =
+  scan_says e h g =
       record {
-        answer = ap (answer_with (file_in f r)) h.answer ∙ e;
-        sheet = λ x d. never_both x (record { number = k; place = p }) (sym d ∙ sym e);
-        few_tasks = omega (arith, ap (λ t. t.count) h.tasks, i.few_tasks);
-        begins = h.begin ∙ i.begins ∙ sym (ap start_in h.tasks);
-        inside = omega (arith, ap start_in h.tasks, i.far, i.within);
-        stand = λ q l. absurd (omega (arith, h.no_release_lem));
-        none_refused = λ q d. h.no_release_lem;
+        answer = scan_end e h g;
+        found = record {
+          sheet = set_of_tasks s in_array i.padded ∙ ap read_sheet (scan_end e h g);
+          few_tasks = i.few_tasks;
+          begins = i.begins;
+          inside = omega (arith, i.far, i.within);
+          stand = i.stand;
+        };
       }
+
+-- a refusal of the scan
+pub scan_refuses : (f : List ℕ) (e : Refused) → refused (record { number = number_of e.reason; place = e.place }) ≡ decode f → ScanSays f (Err e)
+scan_refuses f e h = record { answer = h; found = record {} }
 
 -- where the scan begins
 pub scan_begins : (f : List ℕ) (s : TaskSet) → s ≡ set_of [] → Scanning f s 0 0 0 0

@@ -1,21 +1,19 @@
 -- What the reader's structs and answers mean.
-use Rattle.std.specs.Prelude.{ℕ, zero, suc, ◌+◌, ◌≤◌, ◌<◌, ◌≡◌, List, map, length, take, drop}
+use Rattle.std.specs.Prelude.{ℕ, zero, suc, ◌+◌, ◌≤◌, ◌<◌, ◌≡◌, List, map, length, take, drop, Result, IfOk}
 use Rattle.std.proofs.Math.Option.{none}
 use Rattle.model.specs.Limits.{max_tasks}
 use Rattle.model.specs.Calls.{column_after}
 use Rattle.model.specs.Series.{table}
 use Rattle.model.specs.Tasks.{Release, no_release}
-use Rattle.model.specs.Refusal.{Refusal, Answer, refused, answered}
-use Rattle.taskset.specs.declared.Checked.{Checked}
-use Rattle.taskset.specs.declared.Checked.TheVariants.{Fine, Refused}
+use Rattle.model.specs.Refusal.{Answer}
+use Rattle.refusal.specs.declared.Refusal.{Refusal}
+use Rattle.refusal.specs.Refusal.{answer_in}
 use Rattle.fileformat.specs.Records.{Width, Record, broken, wrong_mark, task_record, release_record, charge_record, end_record, record_of, size_of}
 use Rattle.fileformat.specs.File.{File, decode}
 use Rattle.taskset.specs.declared.TaskSet.{TaskSet}
 use Rattle.taskset.specs.TaskSet.{view_of}
 use Rattle.fileformat.specs.FileCalls.{tasks_in, sheet_bytes, read_call, read_count, read_sheet, read_column}
 use Rattle.reader.specs.declared.Scanned.{Scanned}
-use Rattle.reader.specs.declared.ReadOutcome.{ReadOutcome}
-use Rattle.reader.specs.declared.ReadOutcome.TheVariants.{Read, Refused as Halted}
 use Rattle.reader.specs.declared.ReadAnswer.{ReadAnswer}
 
 -- the record at an offset of a file, and the offset of the record r places after one
@@ -68,11 +66,6 @@ pub record Putting (f : List ℕ) (start count : ℕ) (task₀ tick₀ cost₀ t
   pub tick_copied : Copied (map (λ r. r.tick) (releases_at f start count)) tick₀ tick i
   pub cost_copied : Copied (map (λ r. r.cost) (releases_at f start count)) cost₀ cost i
 
--- a refusal, or else a file
-abbrev pub answer_with : File → Checked → Answer File
-answer_with x Fine = answered x
-answer_with x (Refused n p) = refused (record { number = n; place = p })
-
 -- where the releases of a file begin: after the charge and the tasks of its sheet
 abbrev pub start_in : TaskSet → ℕ
 start_in s = sheet_bytes (view_of s)
@@ -81,33 +74,27 @@ start_in s = sheet_bytes (view_of s)
 abbrev pub file_in : List ℕ → Scanned → File
 file_in f r = record { charge = r.tasks.charge; tasks = tasks_in r.tasks; releases = releases_at f (start_in r.tasks) r.releases }
 
--- what a scan promises: its answer is the file's, charge and tasks are those of a file that is accepted, and the records that follow theirs, from the offset given on,
--- are releases; a refusal has none
-pub record ScanSays (f : List ℕ) (r : Scanned) : Type 0 where
-  pub answer : answer_with (file_in f r) r.answer ≡ decode f
-  pub sheet : (x : File) → decode f ≡ answered x → r.tasks ≡ read_sheet (decode f)
+-- what a scan promises of what it found: charge and tasks are those of the file, and the records that follow theirs, from the offset given on, are releases
+pub record ScanFinds (f : List ℕ) (r : Scanned) : Type 0 where
+  pub sheet : r.tasks ≡ read_sheet (decode f)
   pub few_tasks : r.tasks.count ≤ max_tasks
   pub begins : r.start ≡ start_in r.tasks
   pub inside : start_in r.tasks ≤ length f
   pub stand : AreReleases f (start_in r.tasks) r.releases
-  pub none_refused : (q : Refusal) → decode f ≡ refused q → r.releases ≡ 0
 
--- a refusal of a scan, with the tasks met and the offset after them
-pub record Refuses (number place : ℕ) (s : TaskSet) (start : ℕ) (r : Scanned) : Type 0 where
-  pub answer : r.answer ≡ Refused number place
-  pub tasks : r.tasks ≡ s
-  pub begin : r.start ≡ start
-  pub no_release_lem : r.releases ≡ 0
+-- and of its answer: it is the file's
+pub record ScanSays (f : List ℕ) (r : Result Scanned Refusal) : Type 0 where
+  pub answer : answer_in (file_in f) r ≡ decode f
+  pub found : IfOk r (ScanFinds f)
 
--- the answer of a read
-abbrev pub outcome_in : ReadOutcome → Answer ℕ
-outcome_in (Read n) = answered n
-outcome_in (Halted n p) = refused (record { number = n; place = p })
+-- the answer of a read: the number of releases
+abbrev pub outcome_in : Result ReadAnswer Refusal → Answer ℕ
+outcome_in = answer_in (λ a. a.releases)
 
 -- what a read promises of its answer and of the columns afterwards
-pub record ReadSays (f task tick cost : List ℕ) (r : ReadAnswer) (task' tick' cost' : List ℕ) : Type 0 where
-  pub outcome : outcome_in r.outcome ≡ read_count (read_call f task tick cost)
-  pub sheet : r.tasks ≡ read_sheet (read_call f task tick cost)
+pub record ReadSays (f task tick cost : List ℕ) (r : Result ReadAnswer Refusal) (task' tick' cost' : List ℕ) : Type 0 where
+  pub outcome : outcome_in r ≡ read_count (read_call f task tick cost)
+  pub sheet : IfOk r (λ a. a.tasks ≡ read_sheet (read_call f task tick cost))
   pub task_column : task' ≡ read_column (λ q. q.task) (read_call f task tick cost) task
   pub tick_column : tick' ≡ read_column (λ q. q.tick) (read_call f task tick cost) tick
   pub cost_column : cost' ≡ read_column (λ q. q.cost) (read_call f task tick cost) cost

@@ -1,41 +1,24 @@
 // Reader of the file.
 #![tactic(auto)]
 
-ghost use Rattle.std.specs.Prelude.{◌≡◌, ◌≤◌, ◌+◌, ◌*◌, length, [], ◌∷◌};
-ghost use Rattle.taskset.specs.TaskSet.{refusal_in};
-ghost use Rattle.model.specs.Refusal.{first_refusal};
-ghost use Rattle.reader.specs.Reader.{releases_at, AreReleases, Listed, Putting, ScanSays, Refuses, ReadSays};
+ghost use Rattle.std.specs.Prelude.{◌≤◌, ◌+◌, ◌*◌, length};
+ghost use Rattle.reader.specs.Reader.{releases_at, AreReleases, Listed, Putting, ScanSays, ReadSays};
 
-use records::{Found, check_job, job_at, record_at};
-use taskset::{Checked, TaskSet};
+use records::{Fault, Record, check_job, job_at, record_at};
+use refusal::{Reason, Refusal};
+use taskset::TaskSet;
 
-// What the scan of a whole file gives: a refusal, or the tasks with the charge, the number of releases and the offset at which they start.
+// What the scan of a whole file finds: the tasks with the charge, the number of releases and the offset at which they start.
 #[derive(Clone, Copy)]
 pub struct Scanned {
-    pub answer: Checked,
     pub tasks: TaskSet,
     pub releases: usize,
     pub start: usize,
 }
 
-// A refusal of the scan, with the tasks that it has met and the offset after them.
-fn halted(number: u32, place: usize, tasks: TaskSet, start: usize) -> Scanned
-    ensures { Refuses number place tasks start result }
-{
-    Scanned {
-        answer: Checked::Refused {
-            number: number,
-            place: place,
-        },
-        tasks: tasks,
-        releases: 0,
-        start: start,
-    }
-}
-
 // The whole file, record by record. The releases are checked and counted. Each kind of release has a branch of its own, in which the ticks
 // that it may have are known.
-fn scan(f: &[u8]) -> Scanned
+fn scan(f: &[u8]) -> Result<Scanned, Refusal>
     ensures { ScanSays f.now result }
 {
     let mut tasks = entries::no_tasks();
@@ -44,99 +27,94 @@ fn scan(f: &[u8]) -> Scanned
     let mut start = 0;
     let mut at = 0;
     loop {
-        let r = record_at(f, at);
-        match r {
-            Found::Broken { number } => return halted(number, at, tasks, start),
-            Found::WrongMark => return halted(
-                entries::mark_fault(tasks.count, releases),
-                at,
-                tasks,
-                start,
-            ),
-            Found::OfTask { task } => {
+        match record_at(f, at) {
+            Err(Fault::Reason(reason)) => return Err(Refusal { reason, place: at }),
+            Err(Fault::Mark) => return Err(Refusal {
+                reason: entries::mark_fault(tasks.count, releases),
+                place: at,
+            }),
+            Ok(Record::Task(task)) => {
                 let n = tasks.count;
-                let k = entries::check_task(tasks.charge, n, releases, at, task);
-                if let Checked::Refused { number, place } = k {
-                    return halted(number, place, tasks, start);
-                }
+                entries::check_task(tasks.charge, n, releases, at, task)?;
                 tasks.tasks[n] = task;
                 tasks.count = n + 1;
                 at += entries::task_size(task.low);
                 start = at;
             }
-            Found::OfRelease { job } => {
+            Ok(Record::Release(job)) => {
                 if tasks.count == 0 {
-                    return halted(5, at, tasks, start);
+                    return Err(Refusal {
+                        reason: Reason::NoTask,
+                        place: at,
+                    });
                 }
                 let i = job.task as usize;
                 if tasks.count <= i {
-                    return halted(7, at, tasks, start);
+                    return Err(Refusal {
+                        reason: Reason::ReleaseTask,
+                        place: at,
+                    });
                 }
                 let own = tasks.tasks[i];
-                let k = check_job(releases, at, before, own.cost, false, job);
-                if let Checked::Refused { number, place } = k {
-                    return halted(number, place, tasks, start);
-                }
+                check_job(releases, at, before, own.cost, false, job)?;
                 releases += 1;
                 before = job.tick;
                 at += 10;
             }
-            Found::OfLongRelease { job } => {
+            Ok(Record::LongRelease(job)) => {
                 if tasks.count == 0 {
-                    return halted(5, at, tasks, start);
+                    return Err(Refusal {
+                        reason: Reason::NoTask,
+                        place: at,
+                    });
                 }
                 let whose = job.task as usize;
                 if tasks.count <= whose {
-                    return halted(7, at, tasks, start);
+                    return Err(Refusal {
+                        reason: Reason::ReleaseTask,
+                        place: at,
+                    });
                 }
                 let own = tasks.tasks[whose];
-                let k = check_job(releases, at, before, own.cost, true, job);
-                if let Checked::Refused { number, place } = k {
-                    return halted(number, place, tasks, start);
-                }
+                check_job(releases, at, before, own.cost, true, job)?;
                 releases += 1;
                 before = job.tick;
                 at += 14;
             }
-            Found::OfCharge { charge } => {
-                let k = entries::check_charge(tasks.charge, tasks.count, releases, at, charge);
-                if let Checked::Refused { number, place } = k {
-                    return halted(number, place, tasks, start);
-                }
+            Ok(Record::Charge(charge)) => {
+                entries::check_charge(tasks.charge, tasks.count, releases, at, charge)?;
                 tasks.charge = charge;
                 at += 2;
                 start = at;
             }
-            Found::End => {
+            Ok(Record::End) => {
                 if tasks.count == 0 {
-                    return halted(5, at, tasks, start);
+                    return Err(Refusal {
+                        reason: Reason::NoTask,
+                        place: at,
+                    });
                 }
                 if at + 1 < f.len() {
-                    return halted(11, at + 1, tasks, start);
+                    return Err(Refusal {
+                        reason: Reason::ByteAfterEnd,
+                        place: at + 1,
+                    });
                 }
-                return Scanned {
-                    answer: Checked::Fine,
-                    tasks: tasks,
-                    releases: releases,
-                    start: start,
-                };
+                return Ok(Scanned {
+                    tasks,
+                    releases,
+                    start,
+                });
             }
         }
     }
 }
 
-// The answer of a read: the number of releases, or document 01's number and place.
-#[derive(Clone, Copy)]
-pub enum ReadOutcome {
-    Read { releases: usize },
-    Refused { number: u32, place: usize },
-}
-
-// The answer and the sheet; after a refusal a sheet of no task and no charge. Entries past the count are 0.
+// What a read finds: the sheet, of which the entries past the count are 0, and the number of releases.
 #[derive(Clone, Copy)]
 pub struct ReadAnswer {
-    pub outcome: ReadOutcome,
     pub tasks: TaskSet,
+    pub releases: usize,
 }
 
 // Writes to three columns the releases whose records stand one after another from an offset on, as long as they are short; the answer is how
@@ -157,8 +135,7 @@ fn put_shorts(
     ensures { Putting f.now start count task.old tick.old cost.old
         task.new tick.new cost.new (start + 10 * result) result }
 {
-    let mut i = 0;
-    while i < count {
+    for i in 0..count {
         let at = start + 10 * i;
         if f[at] != 2 {
             return i;
@@ -167,9 +144,8 @@ fn put_shorts(
         task[i] = job.task;
         tick[i] = job.tick;
         cost[i] = job.cost;
-        i += 1;
     }
-    i
+    count
 }
 
 // Goes on with a list of which the first releases are written, all of them short: writes the others, whatever their kinds.
@@ -187,15 +163,13 @@ fn put_rest(
         task.new tick.new cost.new }
 {
     let mut at = start + 10 * from;
-    let mut i = from;
-    while i < count {
+    for i in from..count {
         let long = f[at] == 4;
         let j = job_at(f, at + 1, long);
         task[i] = j.task;
         tick[i] = j.tick;
         cost[i] = j.cost;
         at += entries::release_size(long);
-        i += 1;
     }
 }
 
@@ -221,43 +195,21 @@ fn put_columns(
     put_rest(f, start, count, shorts, task, tick, cost);
 }
 
-// The first of two refusals.
-fn first_refusal(a: Checked, b: Checked) -> Checked
-    ensures { refusal_in result ≡ first_refusal (refusal_in a ∷ refusal_in b ∷ []) }
-{
-    if let Checked::Refused { number, place } = a {
-        return Checked::Refused {
-            number: number,
-            place: place,
-        };
-    }
-    b
-}
-
 // Reads a file: the sheet and, to the columns lent, its releases. The columns are checked (13) after the whole file; a refusal changes no slot.
-pub fn read(f: &[u8], task: &mut [u32], tick: &mut [u64], cost: &mut [u32]) -> ReadAnswer
+pub fn read(
+    f: &[u8],
+    task: &mut [u32],
+    tick: &mut [u64],
+    cost: &mut [u32],
+) -> Result<ReadAnswer, Refusal>
     ensures { ReadSays f.now task.old tick.old cost.old result task.new tick.new cost.new }
 {
-    let s = scan(f);
+    let s = scan(f)?;
     let count = s.releases;
-    let room = releases::check_columns(count, task, tick, cost);
-    let answer = s.answer;
-    let k = first_refusal(answer, room);
-    if let Checked::Refused { number, place } = k {
-        let none = entries::no_tasks();
-        return ReadAnswer {
-            outcome: ReadOutcome::Refused {
-                number: number,
-                place: place,
-            },
-            tasks: none,
-        };
-    }
-    let start = s.start;
-    put_columns(f, start, count, task, tick, cost);
-    let tasks = s.tasks;
-    ReadAnswer {
-        outcome: ReadOutcome::Read { releases: count },
-        tasks: tasks,
-    }
+    releases::check_columns(count, task, tick, cost)?;
+    put_columns(f, s.start, count, task, tick, cost);
+    Ok(ReadAnswer {
+        tasks: s.tasks,
+        releases: count,
+    })
 }

@@ -4,14 +4,14 @@
 ghost use Rattle.std.specs.Prelude.{◌≡◌, ◌≤◌, ◌<◌, ◌+◌, length, drop};
 ghost use Rattle.model.specs.Tasks.{Tasks};
 ghost use Rattle.model.specs.Checks.{fault_at};
-ghost use Rattle.taskset.specs.TaskSet.{refusal_in};
+ghost use Rattle.refusal.specs.Refusal.{refusal_in};
 ghost use Rattle.fileformat.specs.Numbers.{field};
 ghost use Rattle.fileformat.specs.Records.{width_in, body_size, task_from, release_from, record_of};
 ghost use Rattle.fileformat.specs.File.{low_tick, high_tick, list_fault};
 ghost use Rattle.records.specs.RecordIn.{release_of, record_in};
 
-use numbers::{larger, wide, wide_byte};
-use taskset::{Checked, Task};
+use refusal::{Reason, Refusal};
+use taskset::Task;
 
 // A release as it stands in a file.
 #[derive(Clone, Copy)]
@@ -21,17 +21,21 @@ pub struct Job {
     pub cost: u32,
 }
 
-// The record at an offset, or what is wrong with it: a number, or that the last byte of a kind 6 record is not 0. The tick of a long release
-// record (kind 4) has eight bytes.
+// A record. The tick of a long release record (kind 4) has eight bytes.
 #[derive(Clone, Copy)]
-pub enum Found {
-    Broken { number: u32 },
-    WrongMark,
-    OfTask { task: Task },
-    OfRelease { job: Job },
-    OfLongRelease { job: Job },
-    OfCharge { charge: u8 },
+pub enum Record {
+    Task(Task),
+    Release(Job),
+    LongRelease(Job),
+    Charge(u8),
     End,
+}
+
+// What is wrong with a record: 1 or 2, or that the last byte of a kind 6 record is not 0.
+#[derive(Clone, Copy, Debug, PartialEq, Eq)]
+pub enum Fault {
+    Reason(Reason),
+    Mark,
 }
 
 // The number of the four bytes at an offset, the low byte first.
@@ -39,10 +43,10 @@ fn number_at(f: &[u8], at: usize) -> u32
     requires { at + 4 ≤ length f.now }
     ensures { result ≡ field at 4 f.now }
 {
-    let a = wide_byte(f[at]);
-    let b = wide_byte(f[at + 1]);
-    let c = wide_byte(f[at + 2]);
-    let d = wide_byte(f[at + 3]);
+    let a = u32::from(f[at]);
+    let b = u32::from(f[at + 1]);
+    let c = u32::from(f[at + 2]);
+    let d = u32::from(f[at + 3]);
     a + 256 * b + 65536 * c + 16777216 * d
 }
 
@@ -51,8 +55,8 @@ fn wide_number_at(f: &[u8], at: usize) -> u64
     requires { at + 8 ≤ length f.now }
     ensures { result ≡ field at 8 f.now }
 {
-    let low = wide(number_at(f, at));
-    let high = wide(number_at(f, at + 4));
+    let low = u64::from(number_at(f, at));
+    let high = u64::from(number_at(f, at + 4));
     low + 4294967296 * high
 }
 
@@ -66,11 +70,11 @@ fn task_at(f: &[u8], at: usize, low: bool) -> Task
     let cost = number_at(f, at + 8);
     let deadline = number_at(f, at + 12);
     Task {
-        period: period,
-        jitter: jitter,
-        cost: cost,
-        deadline: deadline,
-        low: low,
+        period,
+        jitter,
+        cost,
+        deadline,
+        low,
     }
 }
 
@@ -79,79 +83,75 @@ pub fn job_at(f: &[u8], at: usize, long: bool) -> Job
     requires { at + body_size (width_in long) ≤ length f.now }
     ensures { release_of result ≡ release_from (width_in long) (drop at f.now) }
 {
-    let task = wide_byte(f[at]);
+    let task = u32::from(f[at]);
     if long {
         let late = wide_number_at(f, at + 1);
         let cost = number_at(f, at + 9);
         return Job {
-            task: task,
+            task,
             tick: late,
-            cost: cost,
+            cost,
         };
     }
-    let tick = wide(number_at(f, at + 1));
+    let tick = u64::from(number_at(f, at + 1));
     let cost = number_at(f, at + 5);
-    Job {
-        task: task,
-        tick: tick,
-        cost: cost,
-    }
+    Job { task, tick, cost }
 }
 
 // The record at an offset: 1 where there is no such kind, 2 where the file ends inside it or where a kind is due.
-pub fn record_at(f: &[u8], at: usize) -> Found
+pub fn record_at(f: &[u8], at: usize) -> Result<Record, Fault>
     requires { at ≤ length f.now }
     ensures { record_in result ≡ record_of (drop at f.now) }
 {
     let left = f.len() - at;
     if left == 0 {
-        return Found::Broken { number: 2 };
+        return Err(Fault::Reason(Reason::CutOff));
     }
     let kind = f[at];
     if kind < 3 {
         if kind == 2 {
             if left < 10 {
-                return Found::Broken { number: 2 };
+                return Err(Fault::Reason(Reason::CutOff));
             }
             let job = job_at(f, at + 1, false);
-            return Found::OfRelease { job: job };
+            return Ok(Record::Release(job));
         }
         if kind == 1 {
             if left < 17 {
-                return Found::Broken { number: 2 };
+                return Err(Fault::Reason(Reason::CutOff));
             }
             let task = task_at(f, at + 1, false);
-            return Found::OfTask { task: task };
+            return Ok(Record::Task(task));
         }
-        return Found::Broken { number: 1 };
+        return Err(Fault::Reason(Reason::UnknownKind));
     }
     if kind == 3 {
-        return Found::End;
+        return Ok(Record::End);
     }
     if kind == 4 {
         if left < 14 {
-            return Found::Broken { number: 2 };
+            return Err(Fault::Reason(Reason::CutOff));
         }
         let job = job_at(f, at + 1, true);
-        return Found::OfLongRelease { job: job };
+        return Ok(Record::LongRelease(job));
     }
     if kind == 5 {
         if left < 2 {
-            return Found::Broken { number: 2 };
+            return Err(Fault::Reason(Reason::CutOff));
         }
-        return Found::OfCharge { charge: f[at + 1] };
+        return Ok(Record::Charge(f[at + 1]));
     }
     if kind == 6 {
         if left < 18 {
-            return Found::Broken { number: 2 };
+            return Err(Fault::Reason(Reason::CutOff));
         }
         if f[at + 17] != 0 {
-            return Found::WrongMark;
+            return Err(Fault::Mark);
         }
         let task = task_at(f, at + 1, true);
-        return Found::OfTask { task: task };
+        return Ok(Record::Task(task));
     }
-    Found::Broken { number: 1 }
+    Err(Fault::Reason(Reason::UnknownKind))
 }
 
 // The least tick that a release record may have after the tick before it.
@@ -159,7 +159,7 @@ fn low_tick(long: bool, before: u64) -> u64
     ensures { result ≡ low_tick (width_in long) before }
 {
     if long {
-        return larger(before, 1000000001);
+        return before.max(1000000001);
     }
     before
 }
@@ -172,20 +172,24 @@ fn high_tick(long: bool) -> u64
 }
 
 // What is wrong with a release record of a task whose cost is `most`, after so many releases: 8, 9 or 10, with the offset given.
-pub fn check_job(releases: usize, at: usize, before: u64, most: u32, long: bool, j: Job) -> Checked
+pub fn check_job(
+    releases: usize,
+    at: usize,
+    before: u64,
+    most: u32,
+    long: bool,
+    j: Job,
+) -> Result<(), Refusal>
     ensures { (s : Tasks) → j.task < s.count → s.cost j.task ≡ most → refusal_in result ≡ fault_at at (list_fault s releases before (width_in long) (release_of j)) }
 {
     let low = low_tick(long, before);
     let high = high_tick(long);
-    let k = releases::check_release(at, low, high, most, j.tick, j.cost);
-    let Checked::Fine = k else {
-        return k;
-    };
+    releases::check_release(at, low, high, most, j.tick, j.cost)?;
     if 1024 <= releases {
-        return Checked::Refused {
-            number: 10,
+        return Err(Refusal {
+            reason: Reason::TooManyReleases,
             place: at,
-        };
+        });
     }
-    Checked::Fine
+    Ok(())
 }

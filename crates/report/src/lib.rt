@@ -1,13 +1,15 @@
 // The programs' text, written into a lent buffer.
 #![tactic(auto)]
 
-ghost use Rattle.std.specs.Prelude.{◌≡◌, ◌+◌, ◌≤◌, ◌-◌, length};
+ghost use Rattle.std.specs.Prelude.{◌≡◌, ◌+◌, ◌≤◌, length};
 ghost use Rattle.model.specs.Choice.{scope_in};
+ghost use Rattle.refusal.specs.Refusal.{number_of};
 ghost use Rattle.taskset.specs.TaskSet.{view_of};
 ghost use Rattle.text.specs.Text.{lines};
 ghost use Rattle.report.specs.Report.{choice_fields, choice_line, last_line, choice_text, run_fields, run_line, run_text, refusal_text};
 ghost use Rattle.report.specs.PutLine.{PutLine};
 
+use refusal::Refusal;
 use taskset::{Task, TaskSet};
 
 // The line of one task: task, P, J, E, D, K, largest R.
@@ -15,13 +17,13 @@ fn put_task(out: &mut [u8], at: usize, i: u32, t: Task, k: u32, w: u32) -> usize
     requires { at + 77 ≤ length out.old }
     ensures { PutLine 77 out.old at (choice_fields i t.period t.jitter t.cost t.deadline k w) out.new result }
 {
-    let a = text::put_field(out, at, i, 32);
-    let b = text::put_field(out, a, t.period, 32);
-    let c = text::put_field(out, b, t.jitter, 32);
-    let d = text::put_field(out, c, t.cost, 32);
-    let e = text::put_field(out, d, t.deadline, 32);
-    let f = text::put_field(out, e, k, 32);
-    text::put_field(out, f, w, 10)
+    let a = text::put_field::<11>(out, at, u64::from(i), 32);
+    let b = text::put_field::<11>(out, a, u64::from(t.period), 32);
+    let c = text::put_field::<11>(out, b, u64::from(t.jitter), 32);
+    let d = text::put_field::<11>(out, c, u64::from(t.cost), 32);
+    let e = text::put_field::<11>(out, d, u64::from(t.deadline), 32);
+    let f = text::put_field::<11>(out, e, u64::from(k), 32);
+    text::put_field::<11>(out, f, u64::from(w), 10)
 }
 
 // The line of one release: place in the list, task, release, ready, finish, response.
@@ -38,23 +40,24 @@ fn put_job(
     requires { at + 106 ≤ length out.old }
     ensures { PutLine 106 out.old at (run_fields p i tick ready finish response) out.new result }
 {
-    let a = text::put_field(out, at, p, 32);
-    let b = text::put_field(out, a, i, 32);
-    let c = text::put_wide_field(out, b, tick, 32);
-    let d = text::put_wide_field(out, c, ready, 32);
-    let e = text::put_wide_field(out, d, finish, 32);
-    text::put_wide_field(out, e, response, 10)
+    let a = text::put_field::<11>(out, at, u64::from(p), 32);
+    let b = text::put_field::<11>(out, a, u64::from(i), 32);
+    let c = text::put_field::<21>(out, b, tick, 32);
+    let d = text::put_field::<21>(out, c, ready, 32);
+    let e = text::put_field::<21>(out, d, finish, 32);
+    text::put_field::<21>(out, e, response, 10)
 }
 
 // The line of a refusal.
-pub fn put_refusal(out: &mut [u8], number: u32, place: u32) -> usize
+pub fn put_refusal(out: &mut [u8], r: Refusal) -> usize
     requires { 64 ≤ length out.old }
-    ensures { PutLine 64 out.old 0 (refusal_text number place) out.new result }
+    ensures { PutLine 64 out.old 0 (refusal_text (number_of r.reason) r.place) out.new result }
 {
+    let number = u64::from(r.reason.number());
     let a = text::put_bytes(out, 0, b"refused ");
-    let b = text::put_field(out, a, number, 32);
+    let b = text::put_field::<21>(out, a, number, 32);
     let c = text::put_bytes(out, b, b"at ");
-    text::put_field(out, c, place, 10)
+    text::put_field::<21>(out, c, r.place as u64, 10)
 }
 
 // The lines of all tasks.
@@ -62,13 +65,9 @@ fn put_tasks(out: &mut [u8], from: usize, s: TaskSet, kept: &[u32], worst: &[u32
     requires { (from + 2464 ≤ length out.old) × (s.count ≤ 32) × (s.count ≤ length kept.now) × (s.count ≤ length worst.now) }
     ensures { PutLine 2464 out.old from (lines (choice_line (view_of s) kept.now worst.now) s.count) out.new result }
 {
-    let count = s.count;
     let mut at = from;
-    let mut i = 0;
-    while i < count {
-        let t = s.tasks[i];
-        at = put_task(out, at, i as u32, t, kept[i], worst[i]);
-        i += 1;
+    for i in 0..s.count {
+        at = put_task(out, at, i as u32, s.tasks[i], kept[i], worst[i]);
     }
     at
 }
@@ -94,13 +93,6 @@ pub fn put_choice(out: &mut [u8], s: TaskSet, kept: &[u32], worst: &[u32], high_
     put_last(out, b, high_only)
 }
 
-// The response of a job.
-fn response(finish: u64, tick: u64) -> u64
-    ensures { result ≡ finish - tick }
-{
-    if finish < tick { 0 } else { finish - tick }
-}
-
 // The lines of all releases.
 fn put_jobs(
     out: &mut [u8],
@@ -120,8 +112,7 @@ fn put_jobs(
     ensures { PutLine 108544 out.old from (lines (run_line task.now tick.now ready.now finish.now) n) out.new result }
 {
     let mut at = from;
-    let mut p = 0;
-    while p < n {
+    for p in 0..n {
         at = put_job(
             out,
             at,
@@ -130,9 +121,8 @@ fn put_jobs(
             tick[p],
             ready[p],
             finish[p],
-            response(finish[p], tick[p]),
+            finish[p].saturating_sub(tick[p]),
         );
-        p += 1;
     }
     at
 }

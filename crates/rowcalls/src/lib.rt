@@ -10,42 +10,40 @@ ghost use Rattle.rows.specs.Rows as rows_rows;
 ghost use Rattle.interface.specs.Interface.{as_words, Ends};
 
 use frame::Frame;
-use interface::{refusal_code, slots_code};
+use interface::{short_code, slots_code};
 use plan::Plan;
-use taskset::{Checked, Task, TaskSet};
+use taskset::{Task, TaskSet};
 
 // Opens a board in a row of 264 numbers.
-pub fn open_row(s: TaskSet, f: Frame, row: &mut [u32]) -> u64
+pub fn open_row(s: TaskSet, f: Option<Frame>, row: &mut [u32]) -> u64
     ensures { Ends rows_rows.board_numbers (as_words rows_rows.board_row (admission_boards.open_call (framed_of s f))) row.old result row.new }
 {
-    let got = board::open(s, f);
-    let answer = got.answer;
-    if let Checked::Refused { number, place } = answer {
-        return slots_code(number, place, 264, row.len());
+    match board::open(s, f) {
+        Err(r) => slots_code(r, 264, row.len()),
+        Ok(board) => {
+            if row.len() < 264 {
+                return short_code(264);
+            }
+            rows::put_board(board, row);
+            0
+        }
     }
-    if row.len() < 264 {
-        return refusal_code(13, 264);
-    }
-    let next = got.board;
-    rows::put_board(next, row);
-    0
 }
 
 // Asks for a new task at a place of a sheet with its frame, and puts the offer into a row of 227 numbers.
-pub fn ask_row(s: TaskSet, f: Frame, t: Task, place: usize, row: &mut [u32]) -> u64
+pub fn ask_row(s: TaskSet, f: Option<Frame>, t: Task, place: usize, row: &mut [u32]) -> u64
     ensures { Ends rows_rows.offer_numbers (as_words rows_rows.plan_row (admission_offers.ask_call (framed_of s f) (task_entry t) place)) row.old result row.new }
 {
-    let got = offer::ask(s, f, t, place);
-    let answer = got.answer;
-    if let Checked::Refused { number, place } = answer {
-        return slots_code(number, place, 227, row.len());
+    match offer::ask(s, f, t, place) {
+        Err(r) => slots_code(r, 227, row.len()),
+        Ok(plan) => {
+            if row.len() < 227 {
+                return short_code(227);
+            }
+            rows::put_plan(plan, row);
+            0
+        }
     }
-    if row.len() < 227 {
-        return refusal_code(13, 227);
-    }
-    let plan = got.plan;
-    rows::put_plan(plan, row);
-    0
 }
 
 // Commits an offer to the board that a row of 264 numbers holds.
@@ -53,7 +51,7 @@ pub fn commit_row(
     row: &mut [u32],
     o: Plan,
     s: TaskSet,
-    f: Frame,
+    f: Option<Frame>,
     count: usize,
     task: &[u32],
     tick: &[u64],
@@ -65,16 +63,15 @@ pub fn commit_row(
         (admission_boards.commit_call (board_view (rows_rows.board_from row.old))
         (commit_of o s f count task.now tick.now cost.now at))) row.old result row.new }
 {
-    let b = rows::board_from(row);
-    let got = board::commit(b, o, s, f, count, task, tick, cost, at);
-    let answer = got.answer;
-    if let Checked::Refused { number, place } = answer {
-        return slots_code(number, place, 264, row.len());
+    let mut b = rows::board_from(row);
+    match board::commit(&mut b, o, s, f, count, task, tick, cost, at) {
+        Err(r) => slots_code(r, 264, row.len()),
+        Ok(()) => {
+            if row.len() < 264 {
+                return short_code(264);
+            }
+            rows::put_board(b, row);
+            0
+        }
     }
-    if row.len() < 264 {
-        return refusal_code(13, 264);
-    }
-    let next = got.board;
-    rows::put_board(next, row);
-    0
 }

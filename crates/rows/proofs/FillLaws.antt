@@ -5,7 +5,9 @@ use mathlib.Core.Bool.{not}
 use mathlib.Core.List.{List}
 use native.Mathlib.Omega.{arith}
 use native.Mathlib.Numerals.{add-one}
+use borrow.Author.Tests.{eq-eqb, ne_eqb}
 use lib.Dec.{eqb}
+use Rattle.std.specs.Prelude.{Option, Some, None}
 use lib.ListN.{length, take, set, length-set}
 use lib.Seq.{take-suc-set, take_all}
 use Rattle.model.specs.Series.{table}
@@ -15,7 +17,7 @@ use Rattle.frame.specs.declared.Frame.{Frame}
 use Rattle.interface.specs.Interface.{sheet_from}
 use Rattle.plan.specs.declared.Plan.{Plan}
 use Rattle.plan.specs.declared.Board.{Board}
-use Rattle.rows.specs.Rows.{at, plan_from, window_in, frame_in, board_from}
+use Rattle.rows.specs.Rows.{at, plan_from, window_in, frame_numbers, frame_in, board_from}
 
 module _ {A : Type 0} (f : ℕ → A) (n : ℕ) where
   -- of n places the first i hold the values of f
@@ -56,13 +58,26 @@ plan_made l n c m tasks keep worst en ec em et ek ew =
     let e = et ∙ ap₂ (λ (x y : ℕ). sheet_from l x (y % 256)) en ec in
     λ x. record { tasks = e x; keep = ek x; worst = ew x; partial = not (eqb (em x) 0) }
 
+pub frame_none : (l : List ℕ) → at l 227 ≡ 0 → frame_in l ≡ None
+unfolding frame_in
+frame_none l e = rw (frame_in, eq-eqb (at l 227) 0 e)
+
+pub frame_some : (l : List ℕ) → (at l 227 ≡ 0 → ⊥) → frame_in l ≡ Some (frame_numbers l)
+unfolding frame_in
+frame_some l h = rw (frame_in, ne_eqb (at l 227) 0 h)
+
+pub no_frame_made : (l : List ℕ) (p : ℕ) → p ≡ at l 227 → p ≡ 0 → None ≡ frame_in l
+no_frame_made l p e h = sym (frame_none l (sym e ∙ h))
+
 pub frame_made
-    : (l : List ℕ) (p t n : ℕ) (windows : List Window) → p ≡ at l 227 → t ≡ at l 228 → n ≡ at l 229 → windows ≡ table (window_in l) 16
-    → ◌≡◌ {A = Frame} (record { present = not (eqb p 0); ticks = t; count = n; windows = windows }) (frame_in l)
-frame_made l p t n windows ep et en ew = λ x. record { present = not (eqb (ep x) 0); ticks = et x; count = en x; windows = ew x }
+    : (l : List ℕ) (p t n : ℕ) (windows : List Window) → p ≡ at l 227 → (p ≡ 0 → ⊥) → t ≡ at l 228 → n ≡ at l 229 → windows ≡ table (window_in l) 16
+    → Some (record { ticks = t; count = n; windows = windows }) ≡ frame_in l
+frame_made l p t n windows ep h et en ew =
+    let k : Some (record { ticks = t; count = n; windows = windows }) ≡ Some (frame_numbers l) = cc in
+    k ∙ sym (frame_some l (λ e. h (ep ∙ e)))
 
 pub board_made
-    : (l : List ℕ) (p : Plan) (f : Frame) (low high low' high' : ℕ)
+    : (l : List ℕ) (p : Plan) (f : Option Frame) (low high low' high' : ℕ)
     → p ≡ plan_from l
     → f ≡ frame_in l
     → low ≡ at l 262

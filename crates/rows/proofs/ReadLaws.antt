@@ -1,11 +1,12 @@
 -- What is read of a row, part by part, where the row begins with what was written.
 use Prim.Native.Nat.{ℕ, ◌+◌, ◌-◌, ◌*◌, ◌≤◌, ◌<◌, min}
-use mathlib.Core.Path.{◌≡◌, refl, sym, ap, ◌∙◌}
+use mathlib.Core.Path.{◌≡◌, refl, sym, ap, subst, ◌∙◌}
 use mathlib.Core.Bool.{Bool, true, false, not}
 use mathlib.Core.Option.{Option, some, none}
 use mathlib.Core.List.{List, [], ◌∷◌, ◌++◌, append_assoc}
 use native.Mathlib.Omega.{arith}
 use lib.Dec.{eqb}
+use Rattle.std.specs.Prelude as std
 use lib.ListN.{length, get_or, take, replicate, length-append, get_or-append}
 use lib.Seq.{get_or-take, ext_get_or, length-take-le}
 use Rattle.model.specs.Series.{table}
@@ -24,8 +25,9 @@ use Rattle.interface.specs.TaskNumbers.{mark_number}
 use Rattle.admission.specs.Offers.{entry_at}
 use Rattle.admission.proofs.SameLaws.{same_by}
 use Rattle.plan.specs.PlanView.{task_entry}
-use Rattle.rows.specs.Rows.{window_in, frame_in, tasks_row, windows_row, padded, scope_number, frame_row}
+use Rattle.rows.specs.Rows.{window_in, frame_numbers, frame_in, tasks_row, windows_row, padded, scope_number, frame_row}
 use Rattle.rows.proofs.BlockLaws.{get_or_joined, get_d_past}
+use Rattle.rows.proofs.FillLaws.{frame_none, frame_some}
 use Rattle.rows.proofs.RowLaws.{task_group, window_group, tasks_joined, windows_joined}
 
 -- a mark, and which of the two choices
@@ -77,7 +79,7 @@ module _ (s : Tasks) (n : ℕ) (rest : List ℕ) where
 
 -- the sheet that is read
 pub sheet_back
-    : (s : Tasks) (f : Frame) (l rest : List ℕ) (n c : ℕ)
+    : (s : Tasks) (f : std.Option Frame) (l rest : List ℕ) (n c : ℕ)
     → s.count ≤ 32
     → l ≡ tasks_row s s.count ++ rest
     → n ≡ s.count
@@ -102,18 +104,19 @@ windows_back f n rest k j h l =
     ap (λ (x : List ℕ). get_or (x ++ rest) (k * 2 + j) 0) (windows_joined f n) ∙ get_or_joined (window_group f) 2 (λ i. refl) n rest k j h l
 
 -- the frame that is read
-none_by : (g : Frame) → g.present ≡ false → SameFrame (frame_of g) none
-none_by g e = rw e tt
+none_by : (l : List ℕ) → get_or l 227 0 ≡ 0 → SameFrame (frame_of (frame_in l)) none
+none_by l e = subst (λ (o : std.Option Frame). SameFrame (frame_of o) none) (sym (frame_none l e)) tt
 
-some_by : (g : Frame) (f : model_frame.Frame) → g.present ≡ true → SameWindows (windows_of g) f → SameFrame (frame_of g) (some f)
-some_by g f e same = rw e same
+some_by
+    : (l : List ℕ) (f : model_frame.Frame) → (get_or l 227 0 ≡ 0 → ⊥) → SameWindows (windows_of (frame_numbers l)) f → SameFrame (frame_of (frame_in l)) (some f)
+some_by l f h same = subst (λ (o : std.Option Frame). SameFrame (frame_of o) (some f)) (sym (frame_some l h)) same
 
 pub frame_back
     : (o : Option model_frame.Frame) (l a rest : List ℕ) → Ruled o → length a ≡ 227 → l ≡ a ++ (frame_row o ++ rest) → SameFrame (frame_of (frame_in l)) o
 unfolding frame_row
 frame_back none l a rest h n e =
-    none_by (frame_in l) (ap (λ (x : ℕ). not (eqb x 0)) (ap (λ (x : List ℕ). get_or x 227 0) e ∙ get_d_past a (frame_row none ++ rest) 227 0 n))
-frame_back (some f) l a rest h n e = some_by (frame_in l) f (ap (λ (x : ℕ). not (eqb x 0)) (number 0)) same
+    none_by l (ap (λ (x : List ℕ). get_or x 227 0) e ∙ get_d_past a (frame_row none ++ rest) 227 0 n)
+frame_back (some f) l a rest h n e = some_by l f (λ z. let k : get_or l 227 0 ≡ 1 = number 0 in omega arith) same
   where
     few : f.count ≤ 16
     few = (h f refl).count_high
@@ -132,7 +135,7 @@ frame_back (some f) l a rest h n e = some_by (frame_in l) f (ap (λ (x : ℕ). n
     listed : (k : ℕ) → k < f.count → get_or (table (window_in l) 16) k no_window ≡ window_in l k
     listed k b = get_or_table (window_in l) no_window 16 k (omega (arith, few))
 
-    same : SameWindows (windows_of (frame_in l)) f
+    same : SameWindows (windows_of (frame_numbers l)) f
     same = record {
       ticks = number 1;
       count = number 2;

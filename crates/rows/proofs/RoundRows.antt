@@ -1,4 +1,5 @@
 -- Rows: how long they are, that records which say the same have the same row, and that what was written is read back.
+use Rattle.std.specs.Prelude as std
 use Prim.Native.Nat.{ℕ, ◌+◌, ◌-◌, ◌*◌, ◌/◌, ◌%◌, ◌≤◌, ◌<◌}
 use mathlib.Core.Path.{◌≡◌, refl, sym, ap, ap₂, ◌∙◌}
 use mathlib.Core.Option.{Option, some, none}
@@ -81,7 +82,7 @@ pub rows_same : RowsSame
 rows_same = record { plan = plan_same; board = board_same }
 
 -- an offer is read back
-module _ (p : Plan) (f : Frame) (l rest : List ℕ) (h : Writable p) (e : l ≡ plan_row p ++ rest) (framed : SameFrame (frame_of f) p.tasks.frame) where
+module _ (p : Plan) (f : std.Option Frame) (l rest : List ℕ) (h : Writable p) (e : l ≡ plan_row p ++ rest) (framed : SameFrame (frame_of f) p.tasks.frame) where
   abbrev tasks : List ℕ
   tasks = tasks_row p.tasks p.tasks.count
 
@@ -139,7 +140,7 @@ module _ (p : Plan) (f : Frame) (l rest : List ℕ) (h : Writable p) (e : l ≡ 
   }
 
 pub plan_read
-    : (p : Plan) (f : Frame) (rest : List ℕ) → Writable p → SameFrame (frame_of f) p.tasks.frame → SamePlan (plan_view (plan_from (plan_row p ++ rest)) f) p
+    : (p : Plan) (f : std.Option Frame) (rest : List ℕ) → Writable p → SameFrame (frame_of f) p.tasks.frame → SamePlan (plan_view (plan_from (plan_row p ++ rest)) f) p
 plan_read p f rest h framed = read_plan p f (plan_row p ++ rest) rest h refl framed
 
 -- a board is read back

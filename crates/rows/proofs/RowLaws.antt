@@ -1,13 +1,13 @@
 -- What is written for a sheet, a choice, a frame and a board, block by block, and how long it is.
 use Prim.Native.Nat.{ℕ, zero, suc, ◌+◌, ◌-◌, ◌*◌, ◌/◌, ◌%◌, ◌≤◌, ◌<◌}
 use mathlib.Core.Path.{◌≡◌, refl, sym, ap, ap₂, ◌∙◌}
-use mathlib.Core.Bool.{Bool, true, false}
 use mathlib.Core.Option.{Option, some, none}
 use mathlib.Core.List.{List, [], ◌∷◌, ◌++◌}
 use native.Mathlib.Omega.{arith}
 use lib.ListN.{length, get_or, take, drop, set, replicate, length-append, length-take, get_or-eq_default}
 use lib.Seq.{sets, get_or-take}
-use Rattle.model.specs.Series.{on, table}
+use Rattle.std.specs.Prelude as std
+use Rattle.model.specs.Series.{table}
 use Rattle.model.specs.Frame as model_frame
 use Rattle.model.specs.Tasks.{Tasks, Valid}
 use Rattle.model.specs.Choice.{scope_in}
@@ -73,7 +73,7 @@ cleaned_all s tasks i l f h =
     filled_all (entry_of s) tasks i s.count (32 - s.count) f e (ap (λ (k : ℕ). 32 - k) e)
 
 pub cleaned_numbers
-    : (s : TaskSet) (f : Frame) (tasks : List Task) → s.count ≤ 32 → tasks ≡ table (entry_of s) s.count ++ replicate (32 - s.count) no_task
+    : (s : TaskSet) (f : std.Option Frame) (tasks : List Task) → s.count ≤ 32 → tasks ≡ table (entry_of s) s.count ++ replicate (32 - s.count) no_task
     → numbers_of tasks ≡ padded 160 (tasks_row (framed_of s f) s.count)
 cleaned_numbers s f tasks h e =
     let n = length_tasks (framed_of s f) s.count in
@@ -142,24 +142,24 @@ pub windows_all
     → now ≡ sets held 230 (padded 32 (windows_row (windows_of f) n))
 windows_all held f n now k b d h = written_All held 230 (cut_window f n) 2 16 now k d h ∙ ap (sets held 230) (windows_put f n b)
 
--- the windows of a frame within the rules
-pub count_there : (f : Frame) → Ruled (frame_of f) → f.present ≡ true → f.count ≤ 16
-count_there f h e = (h (windows_of f) (rw e)).count_high
+-- the windows of a frame within the rules are few
+pub count_there : (f : Frame) → Ruled (some (windows_of f)) → f.count ≤ 16
+count_there f h = (h (windows_of f) refl).count_high
 
--- the numbers of a frame
-pub frame_put
-    : (f : Frame)
-    → on f.present 1 ∷ on f.present f.ticks ∷ on f.present f.count ∷ padded 32 (windows_row (windows_of f) (on f.present f.count))
-    ≡ frame_row (frame_of f)
-unfolding on frame_row windows_row
-frame_put f = go f.present refl
-  where
-    go
-        : (b : Bool) → f.present ≡ b
-        → on f.present 1 ∷ on f.present f.ticks ∷ on f.present f.count ∷ padded 32 (windows_row (windows_of f) (on f.present f.count))
-        ≡ frame_row (frame_of f)
-    go true e = rw e
-    go false e = rw e
+-- the numbers of no frame
+unfoldable pub blank : ℕ → List ℕ
+blank = ones (λ i. 0)
+
+pub blank_next
+    : (held now : List ℕ) (i : ℕ) → Written held 227 blank 1 35 now i → i < 35 → Written held 227 blank 1 35 (set now (227 + i) 0) (i + 1)
+unfolding blank
+blank_next held now i f h =
+    let k : 227 + i ≡ 227 + i * 1 = omega arith in
+    written_next held 227 blank 1 35 now (set now (227 + i) 0) i (λ j. refl) f h (ap (λ (m : ℕ). set now m 0) k)
+
+pub blank_all : (held now : List ℕ) (i : ℕ) → Written held 227 blank 1 35 now i → 35 ≤ i → now ≡ sets held 227 (frame_row none)
+unfolding blank frame_row joined
+blank_all held now i f h = written_All held 227 blank 1 35 now i f h
 
 -- how long the rows are
 pub length_plan : (p : admission_offers.Plan) → p.tasks.count ≤ 32 → length p.kept ≤ 32 → length p.worst ≤ 32 → length (plan_row p) ≡ 227
@@ -194,7 +194,7 @@ length_board b h r k w =
 
 -- the blocks of a sheet with its choice, one after the other
 pub plan_put
-    : (p : Plan) (f : Frame) (held : List ℕ) (tasks : List Task) (r₁ r₂ r₃ r₄ : List ℕ)
+    : (p : Plan) (f : std.Option Frame) (held : List ℕ) (tasks : List Task) (r₁ r₂ r₃ r₄ : List ℕ)
     → offer_numbers ≤ length held
     → p.tasks.count ≤ 32
     → tasks ≡ table (entry_of p.tasks) p.tasks.count ++ replicate (32 - p.tasks.count) no_task
@@ -223,17 +223,11 @@ plan_put p f held tasks r₁ r₂ r₃ r₄ room few is e₁ e₂ e₃ e₄ =
 
 -- the blocks of a frame
 pub frame_blocks
-    : (f : Frame) (held : List ℕ) (a b n : ℕ) (r : List ℕ)
-    → n ≡ on f.present f.count
-    → a ≡ on f.present 1
-    → b ≡ on f.present f.ticks
-    → r ≡ sets (set (set (set held 227 a) 228 b) 229 n) 230 (padded 32 (windows_row (windows_of f) n))
-    → r ≡ sets held 227 (frame_row (frame_of f))
-frame_blocks f held a b n r c h g e =
-    e ∙ ap (λ (x : ℕ). sets (set (set (set held 227 x) 228 b) 229 n) 230 (padded 32 (windows_row (windows_of f) n))) h
-    ∙ ap (λ (x : ℕ). sets (set (set (set held 227 (on f.present 1)) 228 x) 229 n) 230 (padded 32 (windows_row (windows_of f) n))) g
-    ∙ ap (λ (x : ℕ). sets held 227 (on f.present 1 ∷ on f.present f.ticks ∷ x ∷ padded 32 (windows_row (windows_of f) x))) c
-    ∙ ap (sets held 227) (frame_put f)
+    : (f : Frame) (held : List ℕ) (r : List ℕ)
+    → r ≡ sets (set (set (set held 227 1) 228 f.ticks) 229 f.count) 230 (padded 32 (windows_row (windows_of f) f.count))
+    → r ≡ sets held 227 (frame_row (some (windows_of f)))
+unfolding frame_row
+frame_blocks f held r e = e
 
 -- the blocks of a board
 pub board_put

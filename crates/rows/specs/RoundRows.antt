@@ -1,5 +1,6 @@
 -- Rows: how long they are, that records which say the same have the same row, and that what was written is read back: the statements. proofs/RoundRows.antt proves them
 -- (`rows_long`, `rows_same`, `rows_read`).
+use Rattle.std.specs.Prelude as std
 use Rattle.std.specs.Prelude.{ℕ, ◌≤◌, ◌≡◌, List, ◌++◌, length}
 use Rattle.model.specs.Limits.{max_charge}
 use Rattle.model.specs.Tasks.{Valid}
@@ -36,6 +37,6 @@ pub record RowsSame : Type 0 where
 -- what was written is read back, whatever stands after it in the row. An offer holds no frame: it is read with one that says what the frame of its sheet says
 pub record RowsRead : Type 0 where
   pub plan
-      : (p : admission_offers.Plan) (f : Frame) (rest : List ℕ) → Writable p → SameFrame (frame_of f) p.tasks.frame
+      : (p : admission_offers.Plan) (f : std.Option Frame) (rest : List ℕ) → Writable p → SameFrame (frame_of f) p.tasks.frame
       → admission_offers.SamePlan (plan_view (plan_from (plan_row p ++ rest)) f) p
   pub board : (b : admission_boards.Board) (rest : List ℕ) → Writable b.plan → SameBoard (board_view (board_from (board_row b ++ rest))) b

@@ -1,5 +1,6 @@
 -- Rows of numbers for C (document 02, R-11): an offer has 227, a board 264. How a row is read, whatever it holds, and what is written.
-use Rattle.std.specs.Prelude.{ℕ, zero, suc, ◌+◌, ◌-◌, ◌*◌, ◌/◌, ◌%◌, not, List, [], ◌∷◌, ◌++◌, eqb, length, get_or, replicate}
+use Rattle.std.specs.Prelude as std
+use Rattle.std.specs.Prelude.{ℕ, zero, suc, ◌+◌, ◌-◌, ◌*◌, ◌/◌, ◌%◌, not, true, false, List, [], ◌∷◌, ◌++◌, eqb, length, get_or, replicate}
 use Rattle.std.proofs.Math.Option.{Option, some, none}
 use Rattle.model.specs.Series.{table}
 use Rattle.model.specs.Frame as model_frame
@@ -34,12 +35,15 @@ plan_from l = record {
   partial = not (eqb (at l 162) 0);
 }
 
--- the frame of a board: whether there is one (0 for none), its ticks, its count, first tick and length of 16 windows
+-- the frame of a board: whether there is one (0 for none), its ticks, its count, first tick and length of 16 windows, which count where there is one
 abbrev pub window_in : List ℕ → ℕ → Window
 window_in l k = record { first = at l (230 + 2 * k); length = at l (231 + 2 * k) }
 
-abbrev pub frame_in : List ℕ → Frame
-frame_in l = record { present = not (eqb (at l 227) 0); ticks = at l 228; count = at l 229; windows = table (window_in l) 16 }
+abbrev pub frame_numbers : List ℕ → Frame
+frame_numbers l = record { ticks = at l 228; count = at l 229; windows = table (window_in l) 16 }
+
+unfoldable pub frame_in : List ℕ → std.Option Frame
+frame_in l = elim (eqb (at l 227) 0) [ true ↦ std.None | false ↦ std.Some (frame_numbers l) ]
 
 -- a board: an offer, the frame, and the tick of the last commit, its low 32 bits first
 abbrev pub board_from : List ℕ → Board

@@ -1,7 +1,8 @@
 // A sheet with its choice, and a board, as rows of numbers for C: how they are read and written.
 #![tactic(auto)]
 
-ghost use Rattle.std.specs.Prelude.{◌≡◌, ◌+◌, ◌-◌, ◌*◌, ◌/◌, ◌%◌, ◌≤◌, ◌<◌, [], ◌∷◌, ◌++◌, length, get_or, take, drop, replicate};
+ghost use Rattle.std.specs.Prelude.{Option, ◌≡◌, ◌+◌, ◌-◌, ◌*◌, ◌/◌, ◌%◌, ◌≤◌, ◌<◌, [], ◌∷◌, ◌++◌, length, get_or, take, drop, replicate};
+ghost use Rattle.std.proofs.Math.Option.{some, none};
 ghost use Rattle.std.proofs.lemmas.List.Edits.{sets};
 ghost use Rattle.model.specs.Series as model_series;
 ghost use Rattle.model.specs.Choice.{scope_in};
@@ -13,7 +14,7 @@ ghost use Rattle.plan.specs.PlanView.{plan_view, board_view};
 ghost use Rattle.rows.specs.Rows as rows;
 
 use frame::{Frame, Window};
-use numbers::{number_at, wide, wide_byte};
+use numbers::number_at;
 use plan::{Board, Plan};
 use taskset::{Task, TaskSet};
 
@@ -23,11 +24,9 @@ fn numbers_from(row: &[u32], start: usize) -> [u32; 32]
     ensures { result ≡ model_series.table (λ i. get_or row.now (start + i) 0) 32 }
 {
     let mut column: [u32; 32] = [0; 32];
-    let mut i = 0;
-    while i < 32 {
+    for i in 0..32 {
         let x = number_at(row, start + i);
         column[i] = x;
-        i += 1;
     }
     column
 }
@@ -44,9 +43,9 @@ pub fn plan_from(row: &[u32]) -> Plan
     let keep = numbers_from(row, 163);
     let worst = numbers_from(row, 195);
     Plan {
-        tasks: tasks,
-        keep: keep,
-        worst: worst,
+        tasks,
+        keep,
+        worst,
         partial: scope != 0,
     }
 }
@@ -58,10 +57,7 @@ fn window_in(row: &[u32], k: usize) -> Window
 {
     let first = number_at(row, 230 + 2 * k);
     let length = number_at(row, 231 + 2 * k);
-    Window {
-        first: first,
-        length: length,
-    }
+    Window { first, length }
 }
 
 // The windows in the row of a board.
@@ -73,29 +69,28 @@ fn windows_in(row: &[u32]) -> [Window; 16]
         length: 0,
     };
     let mut windows = [none; 16];
-    let mut k = 0;
-    while k < 16 {
+    for k in 0..16 {
         let w = window_in(row, k);
         windows[k] = w;
-        k += 1;
     }
     windows
 }
 
-// The frame in the row of a board.
-fn frame_in(row: &[u32]) -> Frame
+// The frame in the row of a board: none where its first number is 0.
+fn frame_in(row: &[u32]) -> Option<Frame>
     ensures { result ≡ rows.frame_in row.now }
 {
-    let present = number_at(row, 227);
+    if number_at(row, 227) == 0 {
+        return None;
+    }
     let ticks = number_at(row, 228);
     let count = number_at(row, 229);
     let windows = windows_in(row);
-    Frame {
-        present: present != 0,
-        ticks: ticks,
+    Some(Frame {
+        ticks,
         count: count as usize,
-        windows: windows,
-    }
+        windows,
+    })
 }
 
 // The board that a row of 264 numbers holds: the sheet and its choice, the frame, and the tick of the last commit. Numbers past the end of the row count as 0.
@@ -107,9 +102,9 @@ pub fn board_from(row: &[u32]) -> Board
     let low = number_at(row, 262);
     let high = number_at(row, 263);
     Board {
-        plan: plan,
-        frame: frame,
-        last: wide(low) + wide(high) * 4294967296,
+        plan,
+        frame,
+        last: u64::from(low) + u64::from(high) * 4294967296,
     }
 }
 
@@ -127,15 +122,13 @@ fn cleaned(s: TaskSet) -> TaskSet
     };
     let mut tasks = [none; 32];
     let count = s.count;
-    let mut i = 0;
-    while i < count {
+    for i in 0..count {
         let t = s.tasks[i];
         tasks[i] = t;
-        i += 1;
     }
     TaskSet {
-        tasks: tasks,
-        count: count,
+        tasks,
+        count,
         charge: s.charge,
     }
 }
@@ -155,11 +148,9 @@ fn put_numbers(column: &[u32], count: usize, row: &mut [u32], start: usize)
     requires { (count ≤ 32) × (start ≤ 195) × (start + 32 ≤ length row.old) }
     ensures { row.new ≡ sets row.old start (rows.padded 32 (take count column.now)) }
 {
-    let mut i = 0;
-    while i < 32 {
+    for i in 0..32 {
         let x = number_below(column, count, i);
         row[start + i] = x;
-        i += 1;
     }
 }
 
@@ -176,14 +167,14 @@ fn put_head(count: usize, charge: u8, partial: bool, row: &mut [u32])
     ensures { row.new ≡ sets row.old 160 (count ∷ charge ∷ rows.scope_number (scope_in partial) ∷ []) }
 {
     row[160] = count as u32;
-    row[161] = wide_byte(charge);
+    row[161] = u32::from(charge);
     row[162] = scope_number(partial);
 }
 
 // Writes a sheet with its choice as 227 numbers. What stands past the count of the sheet is written as 0, and the rest of the row is kept.
 pub fn put_plan(p: Plan, row: &mut [u32])
     requires { (rows.offer_numbers ≤ length row.old) × (p.tasks.count ≤ 32) }
-    ensures { (f : Frame) → row.new ≡ rows.plan_row (plan_view p f) ++ drop rows.offer_numbers row.old }
+    ensures { (f : Option Frame) → row.new ≡ rows.plan_row (plan_view p f) ++ drop rows.offer_numbers row.old }
 {
     let tasks = p.tasks;
     let count = tasks.count;
@@ -194,21 +185,6 @@ pub fn put_plan(p: Plan, row: &mut [u32])
     put_numbers(&keep, count, row, 163);
     let worst = p.worst;
     put_numbers(&worst, count, row, 195);
-}
-
-// A number where there is a frame, else 0.
-fn shown(present: bool, x: u32) -> u32
-    ensures { result ≡ model_series.on present x }
-{
-    if present { x } else { 0 }
-}
-
-// The number of windows of a frame, 0 where there is none.
-fn window_count(f: Frame) -> usize
-    requires { Ruled (frame_of f) }
-    ensures { (result ≡ model_series.on f.present f.count) × (result ≤ 16) }
-{
-    if f.present { f.count } else { 0 }
 }
 
 // A window of a frame, 0 from the count on.
@@ -230,25 +206,43 @@ fn put_windows(f: Frame, count: usize, row: &mut [u32])
     requires { (count ≤ 16) × (262 ≤ length row.old) }
     ensures { row.new ≡ sets row.old 230 (rows.padded 32 (rows.windows_row (windows_of f) count)) }
 {
-    let mut k = 0;
-    while k < 16 {
+    for k in 0..16 {
         let w = window_below(f, count, k);
         row[230 + 2 * k] = w.first;
         row[231 + 2 * k] = w.length;
-        k += 1;
     }
 }
 
+// Writes 35 numbers for no frame: all are 0.
+fn put_none(row: &mut [u32])
+    requires { 262 ≤ length row.old }
+    ensures { row.new ≡ sets row.old 227 (rows.frame_row none) }
+{
+    for i in 0..35 {
+        row[227 + i] = 0;
+    }
+}
+
+// Writes a frame as 35 numbers: a 1, its ticks, its count, and the windows.
+fn put_some(f: Frame, row: &mut [u32])
+    requires { (262 ≤ length row.old) × (f.count ≤ 16) }
+    ensures { row.new ≡ sets row.old 227 (rows.frame_row (some (windows_of f))) }
+{
+    row[227] = 1;
+    row[228] = f.ticks;
+    row[229] = f.count as u32;
+    put_windows(f, f.count, row);
+}
+
 // Writes a frame as 35 numbers. All are 0 where there is none.
-fn put_frame(f: Frame, row: &mut [u32])
+fn put_frame(f: Option<Frame>, row: &mut [u32])
     requires { (262 ≤ length row.old) × Ruled (frame_of f) }
     ensures { row.new ≡ sets row.old 227 (rows.frame_row (frame_of f)) }
 {
-    let count = window_count(f);
-    row[227] = shown(f.present, 1);
-    row[228] = shown(f.present, f.ticks);
-    row[229] = count as u32;
-    put_windows(f, count, row);
+    match f {
+        None => put_none(row),
+        Some(frame) => put_some(frame, row),
+    }
 }
 
 // Writes the tick of the last commit, its low 32 bits first.

@@ -9,23 +9,20 @@ ghost use Rattle.model.specs.Checks.{refusal_of};
 ghost use Rattle.model.specs.Ready.{ready_list};
 ghost use Rattle.model.specs.Run.{finish_of, finish_list};
 ghost use Rattle.model.specs.Calls.{releases_of, column_after, run_inputs};
-ghost use Rattle.taskset.specs.TaskSet.{refusal_in};
+ghost use Rattle.refusal.specs.Refusal.{refusal_in};
 ghost use Rattle.frame.specs.FrameView.{framed_of};
-ghost use Rattle.frame.specs.WindowColumns.{column_frame, FrameColumns};
+ghost use Rattle.frame.specs.WindowColumns.{HasColumns, frame_in};
 ghost use Rattle.queues.specs.Queues.{jobs_of, Runnable};
 
-use frame::{Frame, is_ours};
+use frame::{Frame, Supply};
 use queues::{NEVER, first_jobs, first_work, next_of, top_ready, wake_all, work_of};
-use taskset::{Checked, TaskSet};
+use refusal::Refusal;
+use taskset::TaskSet;
 
 // The finish ticks of the run of n jobs in a frame, if any, in the first n slots of the column lent. `head` has the oldest unfinished job of
 // each task, `left` the ticks of work that it has left; before tick `wake` no unfinished job may run.
 fn fill_finish(
-    framed: bool,
-    ticks: u32,
-    windows: usize,
-    first: &[u32],
-    size: &[u32],
+    supply: &Supply,
     task: &[u32],
     cost: &[u32],
     charge: u32,
@@ -34,10 +31,10 @@ fn fill_finish(
     tasks: usize,
     finish: &mut [u64],
 )
-    requires frame_columns { FrameColumns framed ticks windows first.now size.now }
-    requires runnable { Runnable (column_frame framed ticks windows first.now size.now) n tasks task.now cost.now charge ready.now finish.old }
+    requires frame_columns { HasColumns supply.now }
+    requires runnable { Runnable (frame_in supply.now) n tasks task.now cost.now charge ready.now finish.old }
     ensures { finish.new
-        ≡ table (finish_of (jobs_of (column_frame framed ticks windows first.now size.now) n task.now cost.now charge
+        ≡ table (finish_of (jobs_of (frame_in supply.now) n task.now cost.now charge
         ready.now)) n
         ++ drop n finish.old }
 {
@@ -59,8 +56,8 @@ fn fill_finish(
             t += 1;
             continue;
         }
-        if framed {
-            if !is_ours(framed, ticks, windows, first, size, t) {
+        if supply.framed {
+            if !supply.is_ours(t) {
                 t += 1;
                 continue;
             }
@@ -83,7 +80,7 @@ fn fill_finish(
 // columns. A refusal has the documents' number and place, and leaves both columns as they were.
 pub fn run(
     s: TaskSet,
-    f: Frame,
+    f: Option<Frame>,
     kept: &[u32],
     count: usize,
     task: &[u32],
@@ -91,7 +88,7 @@ pub fn run(
     cost: &[u32],
     ready: &mut [u64],
     finish: &mut [u64],
-) -> Checked
+) -> Result<(), Refusal>
     ensures refusal { refusal_in result
         ≡ refusal_of (run_inputs (framed_of s f) kept.now count task.now tick.now cost.now ready.old
         finish.old) }
@@ -104,28 +101,10 @@ pub fn run(
         (run_inputs (framed_of s f) kept.now count task.now tick.now cost.now ready.old finish.old))
         (finish_list (framed_of s f) (column kept.now) (releases_of count task.now tick.now cost.now)) finish.old }
 {
-    let checked = queues::check_and_shape(s, f, kept, count, task, tick, cost, ready, finish.len());
-    let Checked::Fine = checked else {
-        return checked;
-    };
+    queues::check_and_shape(s, f, kept, count, task, tick, cost, ready, finish.len())?;
     let tasks = s.count;
     let charge = s.charge as u32;
     let supply = frame::supply_of(f);
-    let first = supply.first;
-    let size = supply.size;
-    fill_finish(
-        supply.framed,
-        supply.ticks,
-        supply.count,
-        &first,
-        &size,
-        task,
-        cost,
-        charge,
-        ready,
-        count,
-        tasks,
-        finish,
-    );
-    Checked::Fine
+    fill_finish(&supply, task, cost, charge, ready, count, tasks, finish);
+    Ok(())
 }

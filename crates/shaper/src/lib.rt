@@ -5,13 +5,11 @@ ghost use Rattle.std.specs.Prelude.{◌≡◌, []};
 ghost use Rattle.model.specs.Gap as model_gap;
 ghost use Rattle.shaper.specs.Shaper.{state_of, Small, Shapes};
 
-use numbers::{larger, less, wide};
-
 // d_K(k) = max(0, kP − K): the least distance between a ready tick and the one k places before, with kept jitter K.
 pub fn gap(period: u32, keep: u32, k: u32) -> u64
     ensures { result ≡ model_gap.gap period keep k }
 {
-    less(wide(k) * wide(period), wide(keep))
+    (u64::from(k) * u64::from(period)).saturating_sub(u64::from(keep))
 }
 
 // The state of one task's shaper between two of its jobs: period and kept jitter, the latest ready tick, and the largest of
@@ -37,8 +35,8 @@ impl Shaper {
         ensures { result ≡ state_of period keep [] }
     {
         Shaper {
-            period: period,
-            keep: keep,
+            period,
+            keep,
             last: 0,
             next: 0,
         }
@@ -50,17 +48,15 @@ impl Shaper {
         requires { Small self release }
         ensures { Shapes self release result }
     {
-        let floor = larger(self.last, less(self.next, wide(self.keep)));
-        let ready = larger(release, floor);
+        let due = self.next.saturating_sub(u64::from(self.keep));
+        let floor = self.last.max(due);
+        let ready = release.max(floor);
         let state = Shaper {
             period: self.period,
             keep: self.keep,
             last: ready,
-            next: larger(self.next, ready) + wide(self.period),
+            next: self.next.max(ready) + u64::from(self.period),
         };
-        Shaped {
-            state: state,
-            ready: ready,
-        }
+        Shaped { state, ready }
     }
 }

@@ -11,7 +11,8 @@ use Rattle.model.specs.Tasks.{Release}
 use Rattle.model.specs.Refusal.{Refusal, Answer, refused, answered}
 use Rattle.enumeration.specs.SmallCalls.{small_column}
 use Rattle.interface.specs.Interface.{refusal_code, code_in, words_after, as_words, with_slots, too_few, Ends}
-use Rattle.smalltraces.specs.declared.SmallAnswer.TheVariants as small
+use Rattle.std.specs.Prelude as std
+use Rattle.std.specs.Prelude.{Ok}
 use Rattle.smalltraces.specs.SmallAnswers.{SmallEnds}
 use Rattle.smallcalls.specs.SmallWords.{small_words, words_last, SmallWordsEnd, WordsEnd}
 
@@ -84,7 +85,7 @@ module _ (a : Answer (Option (List Release))) (task tick cost answer : List ℕ)
 
     -- the trace is there
     pub trace_put
-        : (k r : ℕ) (task' tick' cost' answer' : List ℕ) → length l ≡ k → 2 ≤ length answer → SmallEnds a task tick cost task' tick' cost' (small.Trace k)
+        : (k r : ℕ) (task' tick' cost' answer' : List ℕ) → length l ≡ k → 2 ≤ length answer → SmallEnds a task tick cost task' tick' cost' (Ok (std.Some k))
         → Ends 2 (answered (1 ∷ k ∷ [])) answer r answer' → SmallWordsEnd b task tick cost answer r task' tick' cost' answer'
     unfolding small_words
     trace_put k r task' tick' cost' answer' f h s w =

@@ -6,9 +6,8 @@ ghost use Rattle.enumeration.specs.SmallCalls.{count_call};
 ghost use Rattle.interface.specs.Interface.{one_word};
 ghost use Rattle.smallcalls.specs.SmallWords.{small_answer, SmallWordsEnd, WordsEnd};
 
-use interface::{put_one, put_two, refusal_code};
-use smalltraces::{CountAnswer, SmallAnswer};
-use taskset::{Checked, TaskSet};
+use interface::{put_words, refusal_code, short_code};
+use taskset::TaskSet;
 
 // The small trace at a position: its releases in the columns, and two words, 1 and their number; or 0 and 0 past the last trace.
 pub fn trace_words(
@@ -28,7 +27,7 @@ pub fn trace_words(
     let mut task_row = [0u32; 6];
     let mut tick_row = [0u64; 6];
     let mut cost_row = [0u32; 6];
-    let got = smalltraces::find(
+    let found = match smalltraces::find(
         s,
         releases,
         ticks,
@@ -36,31 +35,29 @@ pub fn trace_words(
         &mut task_row,
         &mut tick_row,
         &mut cost_row,
-    );
-    match got {
-        SmallAnswer::Refused { number, place } => refusal_code(number, place),
-        SmallAnswer::Past => put_two(answer, 0, 0),
-        SmallAnswer::Trace { length } => {
-            let room = releases::check_columns(length, task, tick, cost);
-            if let Checked::Refused { number, place } = room {
-                return refusal_code(number, place);
-            }
-            if answer.len() < 2 {
-                return refusal_code(13, 2);
-            }
-            smalltraces::put_rows(length, &task_row, &tick_row, &cost_row, task, tick, cost);
-            put_two(answer, 1, length as u64)
-        }
+    ) {
+        Ok(found) => found,
+        Err(r) => return refusal_code(r),
+    };
+    let Some(length) = found else {
+        return put_words(answer, &[0, 0]);
+    };
+    if let Err(r) = releases::check_columns(length, task, tick, cost) {
+        return refusal_code(r);
     }
+    if answer.len() < 2 {
+        return short_code(2);
+    }
+    smalltraces::put_rows(length, &task_row, &tick_row, &cost_row, task, tick, cost);
+    put_words(answer, &[1, length as u64])
 }
 
 // How many small traces there are: one word.
 pub fn count_words(s: TaskSet, releases: usize, ticks: usize, answer: &mut [u64]) -> u64
     ensures { WordsEnd 1 one_word (count_call (view_of s) releases ticks) answer.old result answer.new }
 {
-    let got = smalltraces::small_trace_count(s, releases, ticks);
-    match got {
-        CountAnswer::Refused { number, place } => refusal_code(number, place),
-        CountAnswer::Count(n) => put_one(answer, n),
+    match smalltraces::small_trace_count(s, releases, ticks) {
+        Ok(n) => put_words(answer, &[n]),
+        Err(r) => refusal_code(r),
     }
 }

@@ -18,7 +18,10 @@ use Rattle.releases.proofs.ReleaseLaws.{Columns}
 use Rattle.enumeration.specs.SmallTraces.{small_traces}
 use Rattle.enumeration.specs.SmallCalls.{small_fault, member_at, check_room, small_refusal, small_call, length_in, small_column}
 use Rattle.enumeration.proofs.MemberLaws.{length_refused, length_past, Holding, length_trace}
-use Rattle.smalltraces.specs.declared.SmallAnswer.TheVariants as small
+use Rattle.std.specs.Prelude as std
+use Rattle.std.specs.Prelude.{Ok, Err}
+use Rattle.refusal.specs.declared.Refusal as code
+use Rattle.refusal.specs.Refusal.{number_of}
 use Rattle.smalltraces.specs.SmallAnswers.{found_call, Finds, SmallEnds}
 
 -- the first n places of a row are a column of the releases that the rows hold
@@ -85,17 +88,17 @@ module _ (s : Tasks) (n t p : ℕ) (task tick cost : List ℕ) where
 
 -- what a search found
 module _ (a : Answer (Option (List Release))) (task tick cost : List ℕ) where
-  pub found_refused : (number place : ℕ) → Finds a task tick cost (small.Refused number place) → a ≡ refused (record { number = number; place = place })
-  found_refused number place w = length_refused a _ w.told
+  pub found_refused : (e : code.Refusal) → Finds a task tick cost (Err e) → a ≡ refused (record { number = number_of e.reason; place = e.place })
+  found_refused e w = length_refused a _ w.told
 
-  pub found_past : Finds a task tick cost small.Past → a ≡ answered none
+  pub found_past : Finds a task tick cost (Ok std.None) → a ≡ answered none
   found_past w = length_past a w.told
 
-  pub found_trace : (k : ℕ) → Finds a task tick cost (small.Trace k) → Holding a k
+  pub found_trace : (k : ℕ) → Finds a task tick cost (Ok (std.Some k)) → Holding a k
   found_trace k w = length_trace a k w.told
 
   -- the rows are long enough for it
-  pub found_columns : (k : ℕ) → Finds a task tick cost (small.Trace k) → Columns 6 task tick cost → Columns k task tick cost
+  pub found_columns : (k : ℕ) → Finds a task tick cost (Ok (std.Some k)) → Columns 6 task tick cost → Columns k task tick cost
   found_columns k w c =
       let h : k ≤ 6 = w.few k refl in
       record { task_long = omega (arith, c.task_long); tick_long = omega (arith, c.tick_long); cost_long = omega (arith, c.cost_long) }
@@ -103,11 +106,11 @@ module _ (a : Answer (Option (List Release))) (task tick cost : List ℕ) where
 -- how the call ends, by its answer
 module _ (a : Answer (Option (List Release))) (task tick cost : List ℕ) where
   pub ends_refused
-      : (number place : ℕ) → a ≡ refused (record { number = number; place = place }) → SmallEnds a task tick cost task tick cost (small.Refused number place)
+      : (r : code.Refusal) → a ≡ refused (record { number = number_of r.reason; place = r.place }) → SmallEnds a task tick cost task tick cost (Err r)
   unfolding length_in small_column
-  ends_refused number place e = rw e (record { told = refl; task_column = refl; tick_column = refl; cost_column = refl })
+  ends_refused r e = rw e (record { told = refl; task_column = refl; tick_column = refl; cost_column = refl })
 
-  pub ends_past : a ≡ answered none → SmallEnds a task tick cost task tick cost small.Past
+  pub ends_past : a ≡ answered none → SmallEnds a task tick cost task tick cost (Ok std.None)
   unfolding length_in small_column
   ends_past e = rw e (record { told = refl; task_column = refl; tick_column = refl; cost_column = refl })
 
@@ -120,7 +123,7 @@ module _ (a : Answer (Option (List Release))) (task tick cost : List ℕ) where
   pub ends_trace
       : (k : ℕ) (tasks ticks costs task' tick' cost' : List ℕ) (l : List Release) → length l ≡ k → releases_of (length l) tasks ticks costs ≡ l
       → Columns k tasks ticks costs → Put k tasks ticks costs task' tick' cost' → a ≡ answered (some l)
-      → SmallEnds a task tick cost task' tick' cost' (small.Trace k)
+      → SmallEnds a task tick cost task' tick' cost' (Ok (std.Some k))
   unfolding length_in small_column
   ends_trace k tasks ticks costs task' tick' cost' l e held c w f =
       rw f

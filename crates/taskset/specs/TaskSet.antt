@@ -1,12 +1,9 @@
--- A task set as the definitions see it, and what an answer of a check means.
+-- A task set as the definitions see it.
 use Rattle.std.specs.Prelude.{ℕ, false, get_or}
-use Rattle.std.proofs.Math.Option.{Option, none}
+use Rattle.std.proofs.Math.Option.{none}
 use Rattle.model.specs.Tasks.{Tasks}
-use Rattle.model.specs.Refusal.{Refusal, refuse}
 use Rattle.taskset.specs.declared.Task.{Task}
 use Rattle.taskset.specs.declared.TaskSet.{TaskSet}
-use Rattle.taskset.specs.declared.Checked.{Checked}
-use Rattle.taskset.specs.declared.Checked.TheVariants.{Fine, Refused}
 
 abbrev pub no_task : Task
 no_task = record { period = 0; jitter = 0; cost = 0; deadline = 0; low = false }
@@ -27,8 +24,3 @@ view_of s = record {
   charge = s.charge;
   frame = none;
 }
-
--- the refusal that an answer of a check holds, if any
-abbrev pub refusal_in : Checked → Option Refusal
-refusal_in Fine = none
-refusal_in (Refused n p) = refuse n p

@@ -5,13 +5,16 @@ ghost use Rattle.std.specs.Prelude.{◌≡◌, ◌≤◌, length};
 ghost use Rattle.std.proofs.Math.Option.{some};
 ghost use Rattle.model.specs.Choice.{column};
 ghost use Rattle.model.specs.Checks.{in_range, entry_fault, fault_at, check_tasks, check_kept};
-ghost use Rattle.taskset.specs.TaskSet.{view_of, refusal_in};
+ghost use Rattle.refusal.specs.Refusal.{refusal_in};
+ghost use Rattle.taskset.specs.TaskSet.{view_of};
+
+use refusal::{Reason, Refusal};
 
 // "Pickup": the ticks from a job's ready tick to the first in which it may run. R(q) has as many more.
 pub const PICKUP: u64 = 1;
 
 // A task: period P, jitter J, cost E and deadline D, and its mark: low, or high where it is not low.
-#[derive(Clone, Copy)]
+#[derive(Clone, Copy, Debug, PartialEq, Eq)]
 pub struct Task {
     pub period: u32,
     pub jitter: u32,
@@ -27,13 +30,6 @@ pub struct TaskSet {
     pub tasks: [Task; 32],
     pub count: usize,
     pub charge: u8,
-}
-
-// What a check answers: nothing wrong, or document 01's number and place.
-#[derive(Clone, Copy)]
-pub enum Checked {
-    Fine,
-    Refused { number: u32, place: usize },
 }
 
 // Whether P, J, E and D are within document 01's limits.
@@ -65,76 +61,69 @@ pub fn in_range(t: Task) -> bool
 }
 
 // What is wrong with a task of a sheet with a charge: 6, then 17, with the place given.
-pub fn check_entry(charge: u8, at: usize, t: Task) -> Checked
+pub fn check_entry(charge: u8, at: usize, t: Task) -> Result<(), Refusal>
     ensures { refusal_in result ≡ fault_at at (entry_fault charge t.period t.jitter t.cost t.deadline) }
 {
     if !in_range(t) {
-        return Checked::Refused {
-            number: 6,
+        return Err(Refusal {
+            reason: Reason::OutOfRange,
             place: at,
-        };
+        });
     }
     let load = t.cost + charge as u32;
     if t.period < load {
-        return Checked::Refused {
-            number: 17,
+        return Err(Refusal {
+            reason: Reason::Charge,
             place: at,
-        };
+        });
     }
     if t.deadline < load {
-        return Checked::Refused {
-            number: 17,
+        return Err(Refusal {
+            reason: Reason::Charge,
             place: at,
-        };
+        });
     }
-    Checked::Fine
+    Ok(())
 }
 
 // The check of a sheet: 5, 4, then 6 and 17 by task.
-pub fn check(s: TaskSet) -> Checked
+pub fn check(s: TaskSet) -> Result<(), Refusal>
     ensures { refusal_in result ≡ check_tasks (view_of s) }
 {
     let count = s.count;
     if count == 0 {
-        return Checked::Refused {
-            number: 5,
+        return Err(Refusal {
+            reason: Reason::NoTask,
             place: 0,
-        };
+        });
     }
     if 32 < count {
-        return Checked::Refused {
-            number: 4,
+        return Err(Refusal {
+            reason: Reason::TooManyTasks,
             place: 32,
-        };
+        });
     }
-    let mut i = 0;
-    while i < count {
+    for i in 0..count {
         let t = s.tasks[i];
-        let k = check_entry(s.charge, i, t);
-        let Checked::Fine = k else {
-            return k;
-        };
-        i += 1;
+        check_entry(s.charge, i, t)?;
     }
-    Checked::Fine
+    Ok(())
 }
 
 // The check of a column of kept jitters, one for each task: 12 at the first task with K > J.
-pub fn check_kept(s: TaskSet, kept: &[u32]) -> Checked
+pub fn check_kept(s: TaskSet, kept: &[u32]) -> Result<(), Refusal>
     requires { (s.count ≤ 32) × (s.count ≤ length kept.now) }
     ensures { refusal_in result ≡ check_kept (view_of s) (some (column kept.now)) }
 {
     let count = s.count;
-    let mut i = 0;
-    while i < count {
+    for i in 0..count {
         let t = s.tasks[i];
         if t.jitter < kept[i] {
-            return Checked::Refused {
-                number: 12,
+            return Err(Refusal {
+                reason: Reason::KeptOverJitter,
                 place: i,
-            };
+            });
         }
-        i += 1;
     }
-    Checked::Fine
+    Ok(())
 }

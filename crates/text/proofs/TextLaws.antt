@@ -5,9 +5,10 @@ use mathlib.Core.Bool.{Bool, true, false}
 use mathlib.Core.List.{List, [], ◌∷◌, ◌++◌}
 use native.Mathlib.Omega.{arith}
 use native.Mathlib.Nat.{add-suc, suc-add, add-zero}
-use native.Mathlib.Numerals.{add-one}
-use lib.ListN.{length, length-append, set, take, get_or}
-use lib.Seq.{sets, length-sets, take-suc, take_all}
+use lib.ListN.{length, length-append, set, take, drop}
+use lib.Seq.{sets, sets-eq, length-sets, take_all}
+use borrow.Rule.Slice.PartMut.{put_mid}
+use Rattle.std.proofs.lemmas.Slice.{put_mid-paste}
 use lib.Dec.{ltb}
 use borrow.Author.Tests.{lt-ltb, le-ltb, ltb-true, ltb-false}
 use Rattle.text.specs.Text.{digits, decimal, field, Put, PutField}
@@ -76,18 +77,12 @@ field_below n end k h = omega (arith, field_long n end, decimal_below n k h)
 pub put_nothing : (l : List ℕ) (i : ℕ) → Put l i [] l i
 put_nothing l i = record { holds = refl; next = sym (add-zero i) }
 
--- one byte more of a byte string
-pub put_next
-    : (l : List ℕ) (at : ℕ) (s m : List ℕ) (i : ℕ) → Put l at (take i s) m (at + i) → i < length s
-    → Put l at (take (i + 1) s) (set m (at + i) (get_or s i 0)) (at + (i + 1))
-put_next l at s m i p h =
-    rw (add-one, take-suc s i 0 h, add-suc)
-    (put_append l at (take i s) m (at + i) (get_or s i 0 ∷ []) (set m (at + i) (get_or s i 0)) (suc (at + i)) p
-    (record { holds = refl; next = sym (add-one (at + i)) }))
-
--- the whole byte string
-pub put_whole : (l : List ℕ) (at : ℕ) (s m : List ℕ) (i : ℕ) → Put l at (take i s) m (at + i) → length s ≤ i → Put l at s m (at + i)
-put_whole l at s m i p h = rw (take_all i s h) at p
+-- a byte string that was copied into its place
+pub put_copied : (l : List ℕ) (at : ℕ) (s ys : List ℕ) (k : ℕ) → k ≡ length s → at + length s ≤ length l → ys ≡ s → Put l at s (put_mid at k l ys) (at + length s)
+put_copied l at s ys k e h w = record {
+  holds = put_mid-paste _ _ _ _ s (length s) w (sym e) refl ∙ ap (λ x. take at l ++ x ++ drop (at + length s) l) (take_all (length s) s (omega arith)) ∙ sym (sets-eq s l at h);
+  next = refl;
+}
 
 -- a number of one digit
 pub put_digit : (l : List ℕ) (at d n : ℕ) (m : List ℕ) (r : ℕ) → n < 10 → d ≡ 48 + n → Put l at (d ∷ []) m r → Put l at (decimal n) m r

@@ -1,7 +1,7 @@
 // Text into a lent buffer: bytes and decimal numbers, one after the other.
 #![tactic(auto)]
 
-ghost use Rattle.std.specs.Prelude.{◌+◌, ◌≤◌, ◌<◌, ◌≡◌, [], ◌∷◌, length};
+ghost use Rattle.std.specs.Prelude.{◌+◌, ◌-◌, ◌^◌, ◌≤◌, ◌<◌, ◌≡◌, [], ◌∷◌, length};
 ghost use Rattle.text.specs.Text.{Put, PutField, decimal, field};
 
 // Writes a byte string at a place; the answer is the place after it.
@@ -9,12 +9,9 @@ pub fn put_bytes(out: &mut [u8], at: usize, src: &[u8]) -> usize
     requires { at + length src.now ≤ length out.old }
     ensures { Put out.old at src.now out.new result }
 {
-    let mut i = 0;
-    while i < src.len() {
-        out[at + i] = src[i];
-        i += 1;
-    }
-    at + i
+    let end = at + src.len();
+    out[at..end].copy_from_slice(src);
+    end
 }
 
 // Writes one byte.
@@ -55,18 +52,10 @@ fn put_ended(out: &mut [u8], at: usize, n: u64, end: u8) -> usize
     put_byte(out, next, end)
 }
 
-// Writes the field of a number of 32 bits: at most 10 digits and the byte that ends it.
-pub fn put_field(out: &mut [u8], at: usize, n: u32, end: u8) -> usize
-    requires { at + 11 ≤ length out.old }
-    ensures { PutField 11 out.old at n end out.new result }
-{
-    put_ended(out, at, n as u64, end)
-}
-
-// Writes the field of a number of 64 bits: at most 20 digits and the byte that ends it.
-pub fn put_wide_field(out: &mut [u8], at: usize, n: u64, end: u8) -> usize
-    requires { at + 21 ≤ length out.old }
-    ensures { PutField 21 out.old at n end out.new result }
+// Writes the field of a number: its digits and the byte that ends it, at most MOST bytes.
+pub fn put_field<const MOST: usize>(out: &mut [u8], at: usize, n: u64, end: u8) -> usize
+    requires { (at + MOST ≤ length out.old) × (2 ≤ MOST) × (n < 10 ^ (MOST - 1)) }
+    ensures { PutField MOST out.old at n end out.new result }
 {
     put_ended(out, at, n, end)
 }

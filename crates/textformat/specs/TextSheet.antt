@@ -55,7 +55,7 @@ load_from ts (x ∷ l) =
 unfoldable pub load : List ℕ → Answer (List Task)
 load text = load_from [] (lines_of text)
 
--- the sheet that is returned, which has no charge: entries past the count are 0; no task after a refusal
+-- the sheet of an answer, which has no charge: entries past the count are 0; of a refusal, after which none is returned, the sheet of no task
 unfoldable pub load_sheet : Answer (List Task) → TaskSet
 load_sheet (refused q) = set_of []
 load_sheet (answered ts) = set_of ts

@@ -13,7 +13,6 @@ use lib.Dec.{ltb}
 use lib.ListN.{length, get_or, take, set}
 use Rattle.model.specs.Search.{first}
 use Rattle.model.specs.Tasks.{Tasks, Release, release_at}
-use Rattle.model.specs.Refusal.{answered}
 use Rattle.model.specs.Gap.{own}
 use Rattle.model.specs.Ready.{after, ready_next}
 use Rattle.model.specs.Legality.{earlier, too_close, first_close}
@@ -88,8 +87,8 @@ module _ (s : Tasks) (n : ℕ) (task tick : List ℕ) where
   first_refusal cost = ap (λ (x : ℕ). first (too_close s (releases_of n task tick cost)) x 0) (length_releases n task tick cost)
 
   pub tracing_all
-      : (m : List Shaper) (p : ℕ) → Tracing s n task tick m p → n ≤ p → (cost : List ℕ) → answered none ≡ answered (first_close s (releases_of n task tick cost))
-  tracing_all m p f h cost = ap answered (sym (first_refusal cost ∙ sought_all _ n p (f.sought cost) h))
+      : (m : List Shaper) (p : ℕ) → Tracing s n task tick m p → n ≤ p → (cost : List ℕ) → none ≡ first_close s (releases_of n task tick cost)
+  tracing_all m p f h cost = sym (first_refusal cost ∙ sought_all _ n p (f.sought cost) h)
 
   module _ (w : Shapable s n task tick) (m : List Shaper) (p : ℕ) (f : Tracing s n task tick m p) (h : p < n) (r : Shaped) (e : Step task tick m p r) where
     ready_is
@@ -98,13 +97,12 @@ module _ (s : Tasks) (n : ℕ) (task tick : List ℕ) where
         ≡ ready_next (s.period (get_or task p 0)) (s.jitter (get_or task p 0)) (history_at s s.jitter (releases_of n task tick cost) p (get_or task p 0)) (get_or tick p 0)
     ready_is cost = walk_history s s.jitter n task tick w m p f.walking h r e cost
 
-    pub tracing_close : get_or tick p 0 < r.ready → (cost : List ℕ) → answered (some p) ≡ answered (first_close s (releases_of n task tick cost))
+    pub tracing_close : get_or tick p 0 < r.ready → (cost : List ℕ) → some p ≡ first_close s (releases_of n task tick cost)
     tracing_close g cost =
-        ap answered
-        (sym
+        sym
         (first_refusal cost
         ∙ sought_here _ n p (f.sought cost) h
-        (close_yes s _ p _ _ (inside n task tick cost p h) (task_is n task tick cost p h) (tick_is n task tick cost p h) (f.still cost) (rw (ready_is cost) at g))))
+        (close_yes s _ p _ _ (inside n task tick cost p h) (task_is n task tick cost p h) (tick_is n task tick cost p h) (f.still cost) (rw (ready_is cost) at g)))
 
     pub tracing_next : r.ready ≤ get_or tick p 0 → Tracing s n task tick (set m (get_or task p 0) r.state) (p + 1)
     tracing_next g =

@@ -1,20 +1,19 @@
 -- What the calls of this crate look at and answer.
-use Rattle.std.specs.Prelude.{ℕ, ◌≤◌, ◌<◌, List, [], ◌∷◌, length, get_or}
+use Rattle.std.specs.Prelude.{ℕ, ◌≤◌, ◌<◌, List, [], ◌∷◌, Result, length, get_or}
+use Rattle.std.specs.Prelude as std
 use Rattle.std.proofs.Math.Option.{Option, some, none}
 use Rattle.model.specs.Limits.{max_tasks, max_time, max_releases, max_tick}
 use Rattle.model.specs.Tasks.{Tasks}
 use Rattle.model.specs.Choice.{column}
-use Rattle.model.specs.Refusal.{Answer, refused, answered}
+use Rattle.model.specs.Refusal.{Answer}
 use Rattle.model.specs.Checks.{Lent, Inputs}
 use Rattle.model.specs.Calls.{lends, releases_of}
-use Rattle.trace.specs.declared.TraceAnswer.{TraceAnswer}
-use Rattle.trace.specs.declared.TraceAnswer.TheVariants.{Legal, TooClose, Refused}
+use Rattle.refusal.specs.declared.Refusal.{Refusal}
+use Rattle.refusal.specs.Refusal.{answer_in, option_in}
 
 -- document 01's answer of a trace check: no release, or the first that is too close, or the number and the place
-abbrev pub trace_in : TraceAnswer → Answer (Option ℕ)
-trace_in Legal = answered none
-trace_in (TooClose p) = answered (some p)
-trace_in (Refused n p) = refused (record { number = n; place = p })
+abbrev pub trace_in : Result (std.Option ℕ) Refusal → Answer (Option ℕ)
+trace_in = answer_in option_in
 
 -- the slices of a call with kept jitters and a list, the columns that it writes being m slots long
 abbrev pub slots_lent : ℕ → List ℕ → ℕ → List ℕ → List ℕ → List ℕ → ℕ → List Lent

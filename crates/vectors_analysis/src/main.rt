@@ -8,93 +8,84 @@ ghost use Rattle.model.specs.Choice as model_choice;
 ghost use Rattle.model.specs.Calls.{choice_inputs, column_after, kept_column, worst_column};
 ghost use Rattle.frame.specs.FrameView.{framed_of};
 
-use choice::ChoiceAnswer;
-use demand::ArrivalAnswer;
+use choice::Extent;
 use frame::Frame;
+use refusal::Refusal;
 use taskset::TaskSet;
-use verdict::VerdictAnswer;
+use verdict::Verdict;
 
 // Prints what the arrival count answers.
-fn print_arrivals(answer: ArrivalAnswer) {
+fn print_arrivals(answer: Result<u64, Refusal>) {
     match answer {
-        ArrivalAnswer::Count(n) => cases::print_number(n),
-        ArrivalAnswer::Refused { number, place } => cases::print_refusal(number, place),
+        Ok(n) => cases::print_number(n),
+        Err(r) => cases::print_refusal(r),
     }
 }
 
-// Prints words and the number after them.
-fn print_named(words: &[u8], n: u64) {
-    cases::print_words(words);
-    cases::print_number(n);
-}
-
-// Prints what the verdict answers.
-fn print_verdict(answer: VerdictAnswer) {
-    match answer {
-        VerdictAnswer::Horizon { q, evaluations } => {
-            print_named(b"horizon q", q as u64);
-            print_named(b"evaluations", evaluations);
+// Prints a verdict.
+fn print_verdict(verdict: Verdict) {
+    match verdict {
+        Verdict::Horizon { q, evaluations } => {
+            cases::print_named(b"horizon q", u64::from(q));
+            cases::print_named(b"evaluations", evaluations);
         }
-        VerdictAnswer::Late {
+        Verdict::Late {
             q,
             bound,
             evaluations,
         } => {
-            print_named(b"late q", q as u64);
-            print_named(b"R", bound as u64);
-            print_named(b"evaluations", evaluations);
+            cases::print_named(b"late q", u64::from(q));
+            cases::print_named(b"R", u64::from(bound));
+            cases::print_named(b"evaluations", evaluations);
         }
-        VerdictAnswer::Fits {
+        Verdict::Fits {
             worst,
             q,
             evaluations,
         } => {
-            print_named(b"fits R", worst as u64);
-            print_named(b"q", q as u64);
-            print_named(b"evaluations", evaluations);
+            cases::print_named(b"fits R", u64::from(worst));
+            cases::print_named(b"q", u64::from(q));
+            cases::print_named(b"evaluations", evaluations);
         }
-        VerdictAnswer::Refused { number, place } => cases::print_refusal(number, place),
     }
 }
 
 // A case of the arrival count: task and t; then the kept jitters.
 fn arrival_case(head: &[u32; 168]) {
     let set = cases::task_set(head);
-    let mut kept = [0u32; 64];
-    let keeps = cases::read_column(&mut kept);
-    let answer = demand::arrival_count(set, cases::index(head[1]), &kept[..keeps], head[2]);
-    print_arrivals(answer);
+    let kept = cases::lent_column::<64>();
+    print_arrivals(demand::arrival_count(set, cases::index(head[1]), kept.as_slice(), head[2]));
 }
 
 // A case of the verdict: task; then the frame, if any, and the kept jitters.
 fn verdict_case(head: &[u32; 168]) {
     let set = cases::task_set(head);
     let frame = cases::frame_in(head);
-    let mut kept = [0u32; 64];
-    let keeps = cases::read_column(&mut kept);
-    let answer = verdict::verdict(set, frame, cases::index(head[1]), &kept[..keeps]);
-    print_verdict(answer);
+    let kept = cases::lent_column::<64>();
+    match verdict::verdict_of(set, frame, cases::index(head[1]), kept.as_slice()) {
+        Ok(verdict) => print_verdict(verdict),
+        Err(r) => cases::print_refusal(r),
+    }
 }
 
 // Prints what the choice answers.
-fn print_choice(answer: ChoiceAnswer) {
+fn print_choice(answer: Result<Extent, Refusal>) {
     match answer {
-        ChoiceAnswer::Ordinary => cases::print_words(b"fits"),
-        ChoiceAnswer::HighOnly => cases::print_words(b"high only"),
-        ChoiceAnswer::Refused { number, place } => cases::print_refusal(number, place),
+        Ok(Extent::All) => cases::print_words(b"fits"),
+        Ok(Extent::HighOnly) => cases::print_words(b"high only"),
+        Err(r) => cases::print_refusal(r),
     }
 }
 
 // Calls the choice, and prints the answer and the columns lent.
-fn choice_call(set: TaskSet, frame: Frame, kept: &mut [u32], worst: &mut [u32])
+fn choice_call(set: TaskSet, frame: Option<Frame>, kept: &mut [u32], worst: &mut [u32])
     ensures kept_after { kept.new
         ≡ column_after (refusal_of (choice_inputs (framed_of set frame) kept.old worst.old)) (kept_column (model_choice.choice (framed_of set frame))) kept.old }
     ensures worst_after { worst.new
         ≡ column_after (refusal_of (choice_inputs (framed_of set frame) kept.old worst.old)) (worst_column (model_choice.choice (framed_of set frame)))
         worst.old }
 {
-    let answer = choice::choose(set, frame, kept, worst);
-    print_choice(answer);
+    print_choice(choice::choose(set, frame, kept, worst));
     cases::print_column(kept);
     cases::print_column(worst);
 }
@@ -103,35 +94,29 @@ fn choice_call(set: TaskSet, frame: Frame, kept: &mut [u32], worst: &mut [u32])
 fn choice_case(head: &[u32; 168]) {
     let set = cases::task_set(head);
     let frame = cases::frame_in(head);
-    let mut kept = [0u32; 64];
-    let keeps = cases::read_column(&mut kept);
-    let mut worst = [0u32; 64];
-    let worsts = cases::read_column(&mut worst);
-    choice_call(set, frame, &mut kept[..keeps], &mut worst[..worsts]);
+    let mut kept = cases::lent_column::<64>();
+    let keeps = kept.lent;
+    let mut worst = cases::lent_column::<64>();
+    let worsts = worst.lent;
+    choice_call(
+        set,
+        frame,
+        &mut kept.slots[..keeps],
+        &mut worst.slots[..worsts],
+    );
 }
 
 // One case: 0 is the arrival count, 1 the verdict, 2 the choice.
-fn one() -> bool {
-    if !cases::next_case() {
-        return false;
-    }
-    let mut head = [0u32; 168];
-    cases::read_column(&mut head);
+fn one(head: &[u32; 168]) {
     if head[0] == 0 {
-        arrival_case(&head);
+        arrival_case(head);
     } else if head[0] == 1 {
-        verdict_case(&head);
+        verdict_case(head);
     } else {
-        choice_case(&head);
+        choice_case(head);
     }
-    cases::end_line();
-    true
 }
 
-// Case after case up to the end of the input. A proved loop has to end, so it counts its turns down, from a number that no input uses up.
 fn main() {
-    let mut turns = u64::MAX;
-    while turns > 0 && one() {
-        turns -= 1;
-    }
+    cases::run_cases(one);
 }

@@ -2,7 +2,7 @@
 // with its answer and the offer, or a commit, with its answer and the board after it.
 #![tactic(auto)]
 
-ghost use Rattle.std.specs.Prelude.{◌≡◌, min};
+ghost use Rattle.std.specs.Prelude.{◌≡◌};
 ghost use Rattle.frame.specs.FrameView.{framed_of};
 ghost use Rattle.admission.specs.Offers as admission_offers;
 ghost use Rattle.admission.specs.Boards as admission_boards;
@@ -10,14 +10,10 @@ ghost use Rattle.plan.specs.PlanView.{task_entry, board_view};
 ghost use Rattle.offer.specs.Plans.{plan_in};
 ghost use Rattle.board.specs.BoardCalls.{board_in, commit_of};
 
-use board::Committed;
 use frame::{Frame, Window};
-use offer::Asked;
 use plan::{Board, Plan};
-use taskset::{Checked, Task, TaskSet};
-
-// Standard output.
-const STDOUT_FILENO: i32 = 1;
+use refusal::Refusal;
+use taskset::{Task, TaskSet};
 
 // The board, and the offer of the last ask that was not refused.
 #[derive(Clone, Copy)]
@@ -26,57 +22,20 @@ struct Held {
     offer: Plan,
 }
 
-// The smaller of two numbers.
-fn smaller(a: usize, b: usize) -> usize
-    ensures { result ≡ min a b }
-{
-    if a < b { a } else { b }
-}
-
-// Prints a comma.
-fn print_comma() {
-    io::write_all(STDOUT_FILENO, b",");
-}
-
-// Prints words and the number after them.
-fn print_named(words: &[u8], n: u64) {
-    cases::print_words(words);
-    cases::print_number(n);
-}
-
-// Prints the numbers of a task after a comma, and the word `low` for a low one.
-fn print_task(t: Task) {
-    print_comma();
-    cases::print_number(t.period as u64);
-    cases::print_number(t.jitter as u64);
-    cases::print_number(t.cost as u64);
-    cases::print_number(t.deadline as u64);
-    if t.low {
-        cases::print_words(b"low");
-    }
-}
-
 // Prints count and charge of a sheet, and its tasks below the count.
 fn print_sheet(set: TaskSet) {
-    print_named(b"sheet", set.count as u64);
-    print_named(b"charge", set.charge as u64);
-    let n = smaller(set.count, 32);
-    let mut i = 0;
-    while i < n {
-        let t = set.tasks[i];
-        print_task(t);
-        i += 1;
+    cases::print_named(b"sheet", set.count as u64);
+    cases::print_named(b"charge", set.charge as u64);
+    for i in 0..set.count.min(32) {
+        cases::print_task(set.tasks[i]);
     }
 }
 
 // Prints the numbers of a column below a count after a comma.
 fn print_below(column: [u32; 32], count: usize) {
-    print_comma();
-    let n = smaller(count, 32);
-    let mut i = 0;
-    while i < n {
-        cases::print_number(column[i] as u64);
-        i += 1;
+    cases::print_comma();
+    for i in 0..count.min(32) {
+        cases::print_number(u64::from(column[i]));
     }
 }
 
@@ -84,12 +43,10 @@ fn print_below(column: [u32; 32], count: usize) {
 fn print_plan(plan: Plan) {
     let set = plan.tasks;
     print_sheet(set);
-    let keep = plan.keep;
-    let worst = plan.worst;
     cases::print_words(b"kept");
-    print_below(keep, set.count);
+    print_below(plan.keep, set.count);
     cases::print_words(b"worst");
-    print_below(worst, set.count);
+    print_below(plan.worst, set.count);
     if plan.partial {
         cases::print_words(b"high only");
     }
@@ -97,72 +54,71 @@ fn print_plan(plan: Plan) {
 
 // Prints a window after a comma.
 fn print_window(w: Window) {
-    print_comma();
-    cases::print_number(w.first as u64);
-    cases::print_number(w.length as u64);
+    cases::print_comma();
+    cases::print_number(u64::from(w.first));
+    cases::print_number(u64::from(w.length));
 }
 
-// Prints a frame, if there is one: its ticks, and its windows below the count.
+// Prints a frame: its ticks, and its windows below the count.
 fn print_frame(frame: Frame) {
-    if !frame.present {
-        return;
-    }
-    print_named(b"frame", frame.ticks as u64);
-    let n = smaller(frame.count, 16);
-    let mut k = 0;
-    while k < n {
-        let w = frame.windows[k];
-        print_window(w);
-        k += 1;
+    cases::print_named(b"frame", u64::from(frame.ticks));
+    for k in 0..frame.count.min(16) {
+        print_window(frame.windows[k]);
     }
 }
 
 // Prints a board: the sheet in force with its choice, its frame, and the tick of the last commit.
 fn print_board(board: Board) {
     print_plan(board.plan);
-    print_frame(board.frame);
-    print_named(b"last", board.last);
+    if let Some(frame) = board.frame {
+        print_frame(frame);
+    }
+    cases::print_named(b"last", board.last);
+}
+
+// Prints whether a call answered, or its refusal.
+fn print_answer<T>(got: &Result<T, Refusal>) {
+    match got {
+        Ok(_) => cases::print_words(b"fine"),
+        Err(r) => cases::print_refusal(*r),
+    }
 }
 
 // Opens a board, and prints the answer.
-fn open_call(set: TaskSet, frame: Frame) -> Committed
+fn open_call(set: TaskSet, frame: Option<Frame>) -> Result<Board, Refusal>
     ensures { board_in result ≡ admission_boards.open_call (framed_of set frame) }
 {
     let got = board::open(set, frame);
-    let answer = got.answer;
-    cases::print_checked(answer);
+    print_answer(&got);
     got
 }
 
 // Asks, and prints the answer.
-fn ask_call(set: TaskSet, frame: Frame, task: Task, place: usize) -> Asked
+fn ask_call(set: TaskSet, frame: Option<Frame>, task: Task, place: usize) -> Result<Plan, Refusal>
     ensures { admission_offers.SameAnswer (plan_in frame result) (admission_offers.ask_call (framed_of set frame) (task_entry task) place) }
 {
     let got = offer::ask(set, frame, task, place);
-    let answer = got.answer;
-    cases::print_checked(answer);
+    print_answer(&got);
     got
 }
 
 // Commits, and prints the answer; what is left is the board after it.
 fn commit_call(
-    board: Board,
+    board: &mut Board,
     offer: Plan,
     set: TaskSet,
-    frame: Frame,
+    frame: Option<Frame>,
     count: usize,
     task: &[u32],
     tick: &[u64],
     cost: &[u32],
     at: u64,
-) -> Board
-    ensures { board_view result
-        ≡ admission_boards.board_after (board_view board) (commit_of offer set frame count task.now tick.now cost.now at) }
+)
+    ensures { board_view board.new
+        ≡ admission_boards.board_after (board_view board.old) (commit_of offer set frame count task.now tick.now cost.now at) }
 {
     let got = board::commit(board, offer, set, frame, count, task, tick, cost, at);
-    let answer = got.answer;
-    cases::print_checked(answer);
-    got.board
+    print_answer(&got);
 }
 
 // A sheet with kept jitters and worst values of the next two blocks. Number 1 of its own block says whether the choice is that of the high tasks alone.
@@ -174,8 +130,8 @@ fn plan_in(head: &[u32; 168]) -> Plan {
     cases::read_column(&mut worst);
     Plan {
         tasks: set,
-        keep: keep,
-        worst: worst,
+        keep,
+        worst,
         partial: head[1] != 0,
     }
 }
@@ -187,27 +143,37 @@ fn read_tick() -> u64 {
     tick[0]
 }
 
+// A sheet without a choice.
+fn without_choice(set: TaskSet) -> Plan {
+    Plan {
+        tasks: set,
+        keep: [0; 32],
+        worst: [0; 32],
+        partial: false,
+    }
+}
+
 // Opens the board of a case, or takes it from the next blocks: kept jitters, worst values and the tick of the last commit. Prints it, but for a refused opening and where
 // there are asks alone.
 fn start(head: &[u32; 168]) -> Board {
     let set = cases::task_set(head);
     let frame = cases::frame_in(head);
     if head[0] == 0 {
-        let got = open_call(set, frame);
-        let opened = got.board;
-        let answer = got.answer;
-        if let Checked::Fine = answer {
-            print_board(opened);
-        }
-        return opened;
+        return match open_call(set, frame) {
+            Ok(board) => {
+                print_board(board);
+                board
+            }
+            Err(_) => Board {
+                plan: without_choice(set),
+                frame,
+                last: 0,
+            },
+        };
     }
     let plan = plan_in(head);
     let last = read_tick();
-    let given = Board {
-        plan: plan,
-        frame: frame,
-        last: last,
-    };
+    let given = Board { plan, frame, last };
     if head[0] == 1 {
         print_board(given);
     }
@@ -232,17 +198,15 @@ fn ask_step(held: Held, head: &[u32; 168]) -> Held {
     let set = cases::task_set(head);
     let frame = cases::frame_in(head);
     let task = read_task();
-    let got = ask_call(set, frame, task, cases::index(head[1]));
-    let answer = got.answer;
-    let Checked::Fine = answer else {
-        return held;
-    };
-    let board = held.board;
-    let plan = got.plan;
-    print_plan(plan);
-    Held {
-        board: board,
-        offer: plan,
+    match ask_call(set, frame, task, cases::index(head[1])) {
+        Err(_) => held,
+        Ok(plan) => {
+            print_plan(plan);
+            Held {
+                board: held.board,
+                offer: plan,
+            }
+        }
     }
 }
 
@@ -262,29 +226,26 @@ fn commit_step(held: Held, head: &[u32; 168]) -> Held {
     let set = cases::task_set(head);
     let frame = cases::frame_in(head);
     let offer = offer_for(held, head[0]);
-    let mut task = [0u32; 1056];
-    let tasks = cases::read_column(&mut task);
-    let mut tick = [0u64; 1056];
-    let ticks = cases::read_ticks(&mut tick);
-    let mut cost = [0u32; 1056];
-    let costs = cases::read_column(&mut cost);
+    let task = cases::lent_column::<1056>();
+    let tick = cases::lent_ticks::<1056>();
+    let cost = cases::lent_column::<1056>();
     let at = read_tick();
-    let after = commit_call(
-        held.board,
+    let mut board = held.board;
+    commit_call(
+        &mut board,
         offer,
         set,
         frame,
         cases::index(head[1]),
-        &task[..tasks],
-        &tick[..ticks],
-        &cost[..costs],
+        task.as_slice(),
+        tick.as_slice(),
+        cost.as_slice(),
         at,
     );
-    print_board(after);
-    let asked = held.offer;
+    print_board(board);
     Held {
-        board: after,
-        offer: asked,
+        board,
+        offer: held.offer,
     }
 }
 
@@ -303,34 +264,15 @@ fn step(held: Held) -> Held {
 // frame, if any, the given board, and the steps.
 fn board_case(head: &[u32; 168]) {
     let board = start(head);
-    let plan = board.plan;
     let mut held = Held {
-        board: board,
-        offer: plan,
+        board,
+        offer: board.plan,
     };
-    let mut left = head[2];
-    while left > 0 {
+    for _ in 0..head[2] {
         held = step(held);
-        left -= 1;
     }
 }
 
-// One case.
-fn one() -> bool {
-    if !cases::next_case() {
-        return false;
-    }
-    let mut head = [0u32; 168];
-    cases::read_column(&mut head);
-    board_case(&head);
-    cases::end_line();
-    true
-}
-
-// Case after case up to the end of the input. A proved loop has to end, so it counts its turns down, from a number that no input uses up.
 fn main() {
-    let mut turns = u64::MAX;
-    while turns > 0 && one() {
-        turns -= 1;
-    }
+    cases::run_cases(board_case);
 }

@@ -9,28 +9,32 @@ ghost use Rattle.taskset.specs.TaskSet.{view_of};
 ghost use Rattle.fileformat.specs.File.{encode};
 ghost use Rattle.fileformat.specs.FileCalls.{file_of, read_call, read_column, write_inputs};
 
-use reader::ReadOutcome;
+use reader::ReadAnswer;
+use refusal::Refusal;
 use taskset::TaskSet;
-use writer::WriteAnswer;
 
 // Standard output.
 const STDOUT_FILENO: i32 = 1;
 
-// Prints what a read answers beside the task set.
-fn print_outcome(outcome: ReadOutcome) {
-    match outcome {
-        ReadOutcome::Read { releases } => {
-            cases::print_words(b"read");
-            cases::print_number(releases as u64);
-        }
-        ReadOutcome::Refused { number, place } => cases::print_refusal(number, place),
-    }
-}
-
 // Prints the charge of a task set.
 fn print_charge(charge: u8) {
-    cases::print_words(b"charge");
-    cases::print_number(charge as u64);
+    cases::print_named(b"charge", u64::from(charge));
+}
+
+// Prints what a read answers; of a refusal also the empty sheet, which stands in the stored lines.
+fn print_read(answer: Result<ReadAnswer, Refusal>) {
+    match answer {
+        Ok(got) => {
+            cases::print_named(b"read", got.releases as u64);
+            cases::print_task_set(got.tasks);
+            print_charge(got.tasks.charge);
+        }
+        Err(r) => {
+            cases::print_refusal(r);
+            cases::print_no_tasks();
+            print_charge(0);
+        }
+    }
 }
 
 // Prints a byte in two hexadecimal digits.
@@ -41,13 +45,8 @@ fn print_byte(b: u8) {
 // Prints the first bytes of a buffer, as many as are asked for, after a comma.
 fn print_bytes(bytes: &[u8], count: usize) {
     io::write_all(STDOUT_FILENO, b", ");
-    let mut i = 0;
-    while i < bytes.len() {
-        if i == count {
-            return;
-        }
-        print_byte(bytes[i]);
-        i += 1;
+    for b in &bytes[..count.min(bytes.len())] {
+        print_byte(*b);
     }
 }
 
@@ -60,12 +59,7 @@ fn read_call(file: &[u8], task: &mut [u32], tick: &mut [u64], cost: &mut [u32])
     ensures cost_after { cost.new
         ≡ read_column (λ q. q.cost) (read_call file.now task.old tick.old cost.old) cost.old }
 {
-    let answer = reader::read(file, task, tick, cost);
-    let outcome = answer.outcome;
-    let tasks = answer.tasks;
-    print_outcome(outcome);
-    cases::print_task_set(tasks);
-    print_charge(tasks.charge);
+    print_read(reader::read(file, task, tick, cost));
     cases::print_column(task);
     cases::print_ticks(tick);
     cases::print_column(cost);
@@ -75,28 +69,25 @@ fn read_call(file: &[u8], task: &mut [u32], tick: &mut [u64], cost: &mut [u32])
 fn read_case() {
     let mut file = [0u8; 16384];
     let n = cases::read_block(&mut file);
-    let mut task = [0u32; 1056];
-    let tasks = cases::read_column(&mut task);
-    let mut tick = [0u64; 1056];
-    let ticks = cases::read_ticks(&mut tick);
-    let mut cost = [0u32; 1056];
-    let costs = cases::read_column(&mut cost);
+    let mut task = cases::lent_column::<1056>();
+    let tasks = task.lent;
+    let mut tick = cases::lent_ticks::<1056>();
+    let ticks = tick.lent;
+    let mut cost = cases::lent_column::<1056>();
+    let costs = cost.lent;
     read_call(
         &file[..n],
-        &mut task[..tasks],
-        &mut tick[..ticks],
-        &mut cost[..costs],
+        &mut task.slots[..tasks],
+        &mut tick.slots[..ticks],
+        &mut cost.slots[..costs],
     );
 }
 
 // Prints how many bytes a write wrote, or its refusal.
-fn print_written(answer: WriteAnswer) {
+fn print_written(answer: Result<usize, Refusal>) {
     match answer {
-        WriteAnswer::Written { bytes } => {
-            cases::print_words(b"written");
-            cases::print_number(bytes as u64);
-        }
-        WriteAnswer::Refused { number, place } => cases::print_refusal(number, place),
+        Ok(bytes) => cases::print_named(b"written", bytes as u64),
+        Err(r) => cases::print_refusal(r),
     }
 }
 
@@ -108,8 +99,7 @@ fn write_call(set: TaskSet, count: usize, task: &[u32], tick: &[u64], cost: &[u3
         (encode (file_of set count task.now tick.now cost.now))
         out.old }
 {
-    let answer = writer::write(set, count, task, tick, cost, out);
-    print_written(answer);
+    print_written(writer::write(set, count, task, tick, cost, out));
     print_bytes(out, out.len());
 }
 
@@ -117,20 +107,17 @@ fn write_call(set: TaskSet, count: usize, task: &[u32], tick: &[u64], cost: &[u3
 fn write_case(head: &[u32; 168]) {
     let set = cases::task_set(head);
     let count = cases::index(head[1]);
-    let mut task = [0u32; 1056];
-    let tasks = cases::read_column(&mut task);
-    let mut tick = [0u64; 1056];
-    let ticks = cases::read_ticks(&mut tick);
-    let mut cost = [0u32; 1056];
-    let costs = cases::read_column(&mut cost);
+    let task = cases::lent_column::<1056>();
+    let tick = cases::lent_ticks::<1056>();
+    let cost = cases::lent_column::<1056>();
     let mut out = [0u8; 16384];
     let n = cases::read_block(&mut out);
     write_call(
         set,
         count,
-        &task[..tasks],
-        &tick[..ticks],
-        &cost[..costs],
+        task.as_slice(),
+        tick.as_slice(),
+        cost.as_slice(),
         &mut out[..n],
     );
 }
@@ -140,7 +127,7 @@ fn write_again(set: TaskSet, count: usize, task: &[u32], tick: &[u64], cost: &[u
     let mut out = [0u8; 16384];
     let answer = writer::write(set, count, task, tick, cost, &mut out);
     print_written(answer);
-    if let WriteAnswer::Written { bytes } = answer {
+    if let Ok(bytes) = answer {
         print_bytes(&out, bytes);
     }
 }
@@ -152,37 +139,23 @@ fn again_case() {
     let mut task = [0u32; 1024];
     let mut tick = [0u64; 1024];
     let mut cost = [0u32; 1024];
-    let answer = reader::read(&file[..n], &mut task, &mut tick, &mut cost);
-    let outcome = answer.outcome;
-    let tasks = answer.tasks;
-    match outcome {
-        ReadOutcome::Read { releases } => write_again(tasks, releases, &task, &tick, &cost),
-        ReadOutcome::Refused { number, place } => cases::print_refusal(number, place),
+    match reader::read(&file[..n], &mut task, &mut tick, &mut cost) {
+        Ok(got) => write_again(got.tasks, got.releases, &task, &tick, &cost),
+        Err(r) => cases::print_refusal(r),
     }
 }
 
 // One case: 0 is the read, 1 the write, 2 both.
-fn one() -> bool {
-    if !cases::next_case() {
-        return false;
-    }
-    let mut head = [0u32; 168];
-    cases::read_column(&mut head);
+fn one(head: &[u32; 168]) {
     if head[0] == 0 {
         read_case();
     } else if head[0] == 1 {
-        write_case(&head);
+        write_case(head);
     } else {
         again_case();
     }
-    cases::end_line();
-    true
 }
 
-// Case after case up to the end of the input. A proved loop has to end, so it counts its turns down, from a number that no input uses up.
 fn main() {
-    let mut turns = u64::MAX;
-    while turns > 0 && one() {
-        turns -= 1;
-    }
+    cases::run_cases(one);
 }

@@ -3,7 +3,7 @@
 // of its lent columns.
 #![tactic(auto)]
 
-ghost use Rattle.std.specs.Prelude.{◌≡◌, not, ◌++◌, min, eqb, get_or};
+ghost use Rattle.std.specs.Prelude.{◌≡◌, not, ◌++◌, eqb, get_or};
 ghost use Rattle.model.specs.Calls.{column_after};
 ghost use Rattle.taskset.specs.TaskSet.{view_of};
 ghost use Rattle.cases.specs.Cases.{SetIn};
@@ -12,60 +12,40 @@ ghost use Rattle.monitor.specs.MonitorCalls.{job_after, all_refusal, jobs_column
 ghost use Rattle.monitor.specs.AfterAnyCalls.{slots_after_all};
 ghost use Rattle.vectors_monitor.specs.CaseCalls.{open_calls, job_calls, part_calls};
 
-use monitor::ShowAnswer;
-use taskset::{Checked, TaskSet};
-
-// Standard output.
-const STDOUT_FILENO: i32 = 1;
-
-// The smaller of two numbers.
-fn smaller(a: usize, b: usize) -> usize
-    ensures { result ≡ min a b }
-{
-    if a < b { a } else { b }
-}
-
-// Prints a comma.
-fn print_comma() {
-    io::write_all(STDOUT_FILENO, b",");
-}
+use monitor::Tally;
+use refusal::Refusal;
+use taskset::TaskSet;
 
 // Prints what is shown of a task.
-fn print_shown(answer: ShowAnswer) {
+fn print_shown(answer: Result<Tally, Refusal>) {
     match answer {
-        ShowAnswer::Showing {
-            jobs,
-            late,
-            largest,
-        } => {
-            cases::print_words(b"shows");
-            cases::print_number(jobs as u64);
-            cases::print_number(late as u64);
-            cases::print_number(largest);
+        Ok(t) => {
+            cases::print_named(b"shows", u64::from(t.jobs));
+            cases::print_number(u64::from(t.late));
+            cases::print_number(t.largest);
         }
-        ShowAnswer::Refused { number, place } => cases::print_refusal(number, place),
+        Err(r) => cases::print_refusal(r),
     }
 }
 
 // Prints the place of a job in its column.
 fn print_job(i: usize) {
-    print_comma();
-    cases::print_words(b"job");
-    cases::print_number(i as u64);
+    cases::print_comma();
+    cases::print_named(b"job", i as u64);
 }
 
 // Prints a refused job; of one that was taken, where that is asked for, what is then shown of its task.
-fn print_taken(answer: Checked, i: usize, window: &[u64], task: usize, each: bool) {
+fn print_taken(answer: Result<(), Refusal>, i: usize, window: &[u64], task: usize, each: bool) {
     match answer {
-        Checked::Fine => {
+        Ok(()) => {
             if each {
                 print_job(i);
                 print_shown(monitor::show_task(window, task));
             }
         }
-        Checked::Refused { number, place } => {
+        Err(r) => {
             print_job(i);
-            cases::print_refusal(number, place);
+            cases::print_refusal(r);
         }
     }
 }
@@ -83,11 +63,8 @@ fn take_call(window: &mut [u64], i: usize, task: u32, response: u64, each: bool)
 fn take_calls(window: &mut [u64], task: &[u32], response: &[u64], each: bool)
     ensures { window.new ≡ slots_after_all window.old (job_calls task.now response.now) }
 {
-    let n = smaller(task.len(), response.len());
-    let mut i = 0;
-    while i < n {
+    for i in 0..task.len().min(response.len()) {
         take_call(window, i, task[i], response[i], each);
-        i += 1;
     }
 }
 
@@ -96,8 +73,7 @@ fn open_call(window: &mut [u64], opened: bool, set: TaskSet)
     ensures { window.new ≡ slots_after_all window.old (open_calls opened (view_of set)) }
 {
     if opened {
-        let answer = monitor::open_window(set, window);
-        cases::print_checked(answer);
+        cases::print_checked(monitor::open_window(set, window));
     }
 }
 
@@ -115,10 +91,9 @@ fn part_in(head: &[u32; 168]) -> Part
     ensures set_in { SetIn head.now result.set }
     ensures each_value { result.each ≡ not (eqb (get_or head.now 2 0) 0) }
 {
-    let set = cases::task_set(head);
     Part {
         opened: head[0] != 0,
-        set: set,
+        set: cases::task_set(head),
         each: head[2] != 0,
     }
 }
@@ -128,46 +103,39 @@ fn part_calls(window: &mut [u64], part: Part, task: &[u32], response: &[u64])
     ensures { window.new
         ≡ slots_after_all window.old (part_calls part.opened (view_of part.set) task.now response.now) }
 {
-    let set = part.set;
-    open_call(window, part.opened, set);
+    open_call(window, part.opened, part.set);
     take_calls(window, task, response, part.each);
     cases::print_half();
 }
 
 // Prints a slot after a comma: its place, and what it holds.
 fn print_slot(i: usize, v: u64) {
-    print_comma();
+    cases::print_comma();
     cases::print_number(i as u64);
     cases::print_number(v);
 }
 
 // Prints the slots in which two windows differ, with what the second holds.
 fn print_changes(before: &[u64], after: &[u64]) {
-    let n = smaller(before.len(), after.len());
-    let mut i = 0;
-    while i < n {
+    for i in 0..before.len().min(after.len()) {
         if before[i] != after[i] {
             print_slot(i, after[i]);
         }
-        i += 1;
     }
     cases::print_half();
 }
 
 // Prints the slots of a column of responses after a comma.
 fn print_responses(column: &[u64]) {
-    print_comma();
-    let mut i = 0;
-    while i < column.len() {
-        cases::print_number(column[i]);
-        i += 1;
+    cases::print_comma();
+    for v in column {
+        cases::print_number(*v);
     }
 }
 
 // Shows one task.
 fn show_call(window: &[u64], task: usize) {
-    let answer = monitor::show_task(window, task);
-    print_shown(answer);
+    print_shown(monitor::show_task(window, task));
     cases::print_half();
 }
 
@@ -183,8 +151,7 @@ fn all_call(window: &[u64], jobs: &mut [u32], late: &mut [u32], largest: &mut [u
         ≡ column_after (all_refusal window.now jobs.old late.old largest.old)
         (largest_column (tasks_in window.now) (held_in window.now)) largest.old }
 {
-    let answer = monitor::show_all(window, jobs, late, largest);
-    cases::print_checked(answer);
+    cases::print_checked(monitor::show_all(window, jobs, late, largest));
     cases::print_column(jobs);
     cases::print_column(late);
     print_responses(largest);
@@ -261,22 +228,7 @@ fn window_case(head: &[u32; 168]) {
     );
 }
 
-// One case.
-fn one() -> bool {
-    if !cases::next_case() {
-        return false;
-    }
-    let mut head = [0u32; 168];
-    cases::read_column(&mut head);
-    window_case(&head);
-    cases::end_line();
-    true
-}
-
-// Case after case up to the end of the input. A proved loop has to end, so it counts its turns down, from a number that no input uses up.
+// Case after case up to the end of the input.
 fn main() {
-    let mut turns = u64::MAX;
-    while turns > 0 && one() {
-        turns -= 1;
-    }
+    cases::run_cases(window_case);
 }

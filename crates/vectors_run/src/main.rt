@@ -12,13 +12,13 @@ ghost use Rattle.model.specs.Calls.{releases_of, column_after, run_inputs};
 ghost use Rattle.frame.specs.FrameView.{framed_of};
 
 use frame::Frame;
-use jumps::JumpAnswer;
+use refusal::Refusal;
 use taskset::TaskSet;
 
 // Calls the run, and prints the answer and the columns lent.
 fn run_call(
     set: TaskSet,
-    frame: Frame,
+    frame: Option<Frame>,
     kept: &[u32],
     count: usize,
     task: &[u32],
@@ -38,27 +38,26 @@ fn run_call(
         (finish_list (framed_of set frame) (column kept.now) (releases_of count task.now tick.now cost.now))
         finish.old }
 {
-    let answer = schedule::run(set, frame, kept, count, task, tick, cost, ready, finish);
-    cases::print_checked(answer);
+    cases::print_checked(schedule::run(set, frame, kept, count, task, tick, cost, ready, finish));
     cases::print_ticks(ready);
     cases::print_ticks(finish);
 }
 
 // Prints what the run that jumps answers.
-fn print_jump(answer: JumpAnswer) {
+fn print_jump(answer: Result<u32, Refusal>) {
     match answer {
-        JumpAnswer::Ran { stops } => {
-            cases::print_number(stops as u64);
+        Ok(stops) => {
+            cases::print_number(u64::from(stops));
             cases::print_words(b"stops");
         }
-        JumpAnswer::Refused { number, place } => cases::print_refusal(number, place),
+        Err(r) => cases::print_refusal(r),
     }
 }
 
 // Calls the run that jumps, and prints the answer and the columns lent.
 fn jump_call(
     set: TaskSet,
-    frame: Frame,
+    frame: Option<Frame>,
     kept: &[u32],
     count: usize,
     task: &[u32],
@@ -78,8 +77,7 @@ fn jump_call(
         (finish_list (framed_of set frame) (column kept.now) (releases_of count task.now tick.now cost.now))
         finish.old }
 {
-    let answer = jumps::run(set, frame, kept, count, task, tick, cost, ready, finish);
-    print_jump(answer);
+    print_jump(jumps::run(set, frame, kept, count, task, tick, cost, ready, finish));
     cases::print_ticks(ready);
     cases::print_ticks(finish);
 }
@@ -90,63 +88,43 @@ fn run_case(head: &[u32; 168]) {
     let set = cases::task_set(head);
     let frame = cases::frame_in(head);
     let count = cases::index(head[1]);
-    let mut kept = [0u32; 64];
-    let keeps = cases::read_column(&mut kept);
-    let mut task = [0u32; 1056];
-    let tasks = cases::read_column(&mut task);
-    let mut tick = [0u64; 1056];
-    let ticks = cases::read_ticks(&mut tick);
-    let mut cost = [0u32; 1056];
-    let costs = cases::read_column(&mut cost);
-    let mut ready = [0u64; 1056];
-    let readies = cases::read_ticks(&mut ready);
-    let mut finish = [0u64; 1056];
-    let finishes = cases::read_ticks(&mut finish);
-    let mut ready2 = ready;
-    let mut finish2 = finish;
+    let kept = cases::lent_column::<64>();
+    let task = cases::lent_column::<1056>();
+    let tick = cases::lent_ticks::<1056>();
+    let cost = cases::lent_column::<1056>();
+    let mut ready = cases::lent_ticks::<1056>();
+    let readies = ready.lent;
+    let mut finish = cases::lent_ticks::<1056>();
+    let finishes = finish.lent;
+    let mut ready2 = ready.slots;
+    let mut finish2 = finish.slots;
     if head[0] != 1 {
         run_call(
             set,
             frame,
-            &kept[..keeps],
+            kept.as_slice(),
             count,
-            &task[..tasks],
-            &tick[..ticks],
-            &cost[..costs],
-            &mut ready[..readies],
-            &mut finish[..finishes],
+            task.as_slice(),
+            tick.as_slice(),
+            cost.as_slice(),
+            &mut ready.slots[..readies],
+            &mut finish.slots[..finishes],
         );
         cases::print_half();
     }
     jump_call(
         set,
         frame,
-        &kept[..keeps],
+        kept.as_slice(),
         count,
-        &task[..tasks],
-        &tick[..ticks],
-        &cost[..costs],
+        task.as_slice(),
+        tick.as_slice(),
+        cost.as_slice(),
         &mut ready2[..readies],
         &mut finish2[..finishes],
     );
 }
 
-// One case.
-fn one() -> bool {
-    if !cases::next_case() {
-        return false;
-    }
-    let mut head = [0u32; 168];
-    cases::read_column(&mut head);
-    run_case(&head);
-    cases::end_line();
-    true
-}
-
-// Case after case up to the end of the input. A proved loop has to end, so it counts its turns down, from a number that no input uses up.
 fn main() {
-    let mut turns = u64::MAX;
-    while turns > 0 && one() {
-        turns -= 1;
-    }
+    cases::run_cases(run_case);
 }

@@ -6,30 +6,23 @@ ghost use Rattle.std.specs.Prelude.{◌≡◌};
 ghost use Rattle.taskset.specs.TaskSet.{view_of};
 ghost use Rattle.enumeration.specs.SmallCalls.{small_call, small_column};
 
-use numbers::wide;
-use smalltraces::{CountAnswer, SmallAnswer};
+use refusal::Refusal;
 use taskset::TaskSet;
 
 // Prints what the call for a trace answers.
-fn print_trace(answer: SmallAnswer) {
+fn print_trace(answer: Result<Option<usize>, Refusal>) {
     match answer {
-        SmallAnswer::Trace { length } => {
-            cases::print_words(b"trace");
-            cases::print_number(length as u64);
-        }
-        SmallAnswer::Past => cases::print_words(b"none"),
-        SmallAnswer::Refused { number, place } => cases::print_refusal(number, place),
+        Ok(Some(length)) => cases::print_named(b"trace", length as u64),
+        Ok(None) => cases::print_words(b"none"),
+        Err(r) => cases::print_refusal(r),
     }
 }
 
 // Prints what the call for the number of traces answers.
-fn print_count(answer: CountAnswer) {
+fn print_count(answer: Result<u64, Refusal>) {
     match answer {
-        CountAnswer::Count(n) => {
-            cases::print_words(b"count");
-            cases::print_number(n);
-        }
-        CountAnswer::Refused { number, place } => cases::print_refusal(number, place),
+        Ok(n) => cases::print_named(b"count", n),
+        Err(r) => cases::print_refusal(r),
     }
 }
 
@@ -53,8 +46,7 @@ fn trace_call(
         ≡ small_column (λ q. q.cost) (small_call (view_of set) releases ticks position task.old tick.old cost.old)
         cost.old }
 {
-    let answer = smalltraces::small_trace(set, releases, ticks, position, task, tick, cost);
-    print_trace(answer);
+    print_trace(smalltraces::small_trace(set, releases, ticks, position, task, tick, cost));
     cases::print_column(task);
     cases::print_ticks(tick);
     cases::print_column(cost);
@@ -62,7 +54,7 @@ fn trace_call(
 
 // A number of 64 bits from its two halves.
 fn joined(low: u32, high: u32) -> u64 {
-    wide(low) + 4294967296 * wide(high)
+    u64::from(low) + 4294967296 * u64::from(high)
 }
 
 // A case: count of releases, tick bound, and both halves of the position; then the columns of tasks, ticks and costs.
@@ -87,26 +79,10 @@ fn small_case(head: &[u32; 168]) {
         &mut cost[..costs],
     );
     cases::print_half();
-    let count = smalltraces::small_trace_count(set, releases, ticks);
-    print_count(count);
+    print_count(smalltraces::small_trace_count(set, releases, ticks));
 }
 
-// One case.
-fn one() -> bool {
-    if !cases::next_case() {
-        return false;
-    }
-    let mut head = [0u32; 168];
-    cases::read_column(&mut head);
-    small_case(&head);
-    cases::end_line();
-    true
-}
-
-// Case after case up to the end of the input. A proved loop has to end, so it counts its turns down, from a number that no input uses up.
+// Case after case up to the end of the input.
 fn main() {
-    let mut turns = u64::MAX;
-    while turns > 0 && one() {
-        turns -= 1;
-    }
+    cases::run_cases(small_case);
 }

@@ -2,26 +2,29 @@
 // answer is decided after each.
 #![tactic(auto)]
 
-use loader::{Loaded, Loader};
-use taskset::Checked;
+use loader::Loader;
+use refusal::Refusal;
+use taskset::TaskSet;
 
-// Prints the answer and the task set.
-fn print_loaded(got: Loaded) {
-    let answer = got.answer;
-    let tasks = got.tasks;
+// Prints the answer and the task set; of a refusal the empty one.
+fn print_loaded(answer: Result<TaskSet, Refusal>) {
     match answer {
-        Checked::Fine => cases::print_words(b"loaded"),
-        Checked::Refused { number, place } => cases::print_refusal(number, place),
+        Ok(tasks) => {
+            cases::print_words(b"loaded");
+            cases::print_task_set(tasks);
+        }
+        Err(r) => {
+            cases::print_refusal(r);
+            cases::print_no_tasks();
+        }
     }
-    cases::print_task_set(tasks);
 }
 
 // A case of the load: a whole text.
 fn load_case() {
     let mut text = [0u8; 12288];
     let n = cases::read_block(&mut text);
-    let got = loader::load(&text[..n]);
-    print_loaded(got);
+    print_loaded(loader::load(&text[..n]));
 }
 
 // Prints whether the answer is decided.
@@ -44,34 +47,22 @@ fn feed_next(l: Loader) -> Loader {
 
 // A case of a text in three pieces.
 fn pieces_case() {
-    let start = loader::start();
-    let one = feed_next(start);
-    let two = feed_next(one);
-    let three = feed_next(two);
-    let got = loader::finish(three);
-    print_loaded(got);
+    let mut l = loader::start();
+    for _ in 0..3 {
+        l = feed_next(l);
+    }
+    print_loaded(loader::finish(l));
 }
 
 // One case: 0 is a whole text, 1 a text in pieces.
-fn one() -> bool {
-    if !cases::next_case() {
-        return false;
-    }
-    let mut head = [0u32; 168];
-    cases::read_column(&mut head);
+fn one(head: &[u32; 168]) {
     if head[0] == 0 {
         load_case();
     } else {
         pieces_case();
     }
-    cases::end_line();
-    true
 }
 
-// Case after case up to the end of the input. A proved loop has to end, so it counts its turns down, from a number that no input uses up.
 fn main() {
-    let mut turns = u64::MAX;
-    while turns > 0 && one() {
-        turns -= 1;
-    }
+    cases::run_cases(one);
 }

@@ -9,18 +9,15 @@ ghost use Rattle.model.specs.Ready.{ready_list};
 ghost use Rattle.model.specs.Calls.{releases_of, column_after, ready_inputs};
 ghost use Rattle.taskset.specs.TaskSet.{view_of};
 
+use refusal::Refusal;
 use taskset::TaskSet;
-use trace::TraceAnswer;
 
 // Prints what the trace check answers.
-fn print_trace(answer: TraceAnswer) {
+fn print_trace(answer: Result<Option<usize>, Refusal>) {
     match answer {
-        TraceAnswer::Legal => cases::print_words(b"legal"),
-        TraceAnswer::TooClose { release } => {
-            cases::print_words(b"too close");
-            cases::print_number(release as u64);
-        }
-        TraceAnswer::Refused { number, place } => cases::print_refusal(number, place),
+        Ok(None) => cases::print_words(b"legal"),
+        Ok(Some(release)) => cases::print_named(b"too close", release as u64),
+        Err(r) => cases::print_refusal(r),
     }
 }
 
@@ -28,14 +25,16 @@ fn print_trace(answer: TraceAnswer) {
 fn trace_case(head: &[u32; 168]) {
     let set = cases::task_set(head);
     let count = cases::index(head[1]);
-    let mut task = [0u32; 1056];
-    let tasks = cases::read_column(&mut task);
-    let mut tick = [0u64; 1056];
-    let ticks = cases::read_ticks(&mut tick);
-    let mut cost = [0u32; 1056];
-    let costs = cases::read_column(&mut cost);
-    let answer = trace::check_trace(set, count, &task[..tasks], &tick[..ticks], &cost[..costs]);
-    print_trace(answer);
+    let task = cases::lent_column::<1056>();
+    let tick = cases::lent_ticks::<1056>();
+    let cost = cases::lent_column::<1056>();
+    print_trace(trace::check_trace(
+        set,
+        count,
+        task.as_slice(),
+        tick.as_slice(),
+        cost.as_slice(),
+    ));
 }
 
 // Calls the ready ticks, and prints the answer and the column lent.
@@ -54,8 +53,7 @@ fn ready_call(
         (ready_list (view_of set) (column kept.now) (releases_of count task.now tick.now cost.now))
         ready.old }
 {
-    let answer = trace::ready_ticks(set, kept, count, task, tick, cost, ready);
-    cases::print_checked(answer);
+    cases::print_checked(trace::ready_ticks(set, kept, count, task, tick, cost, ready));
     cases::print_ticks(ready);
 }
 
@@ -63,47 +61,32 @@ fn ready_call(
 fn ready_case(head: &[u32; 168]) {
     let set = cases::task_set(head);
     let count = cases::index(head[1]);
-    let mut kept = [0u32; 64];
-    let keeps = cases::read_column(&mut kept);
-    let mut task = [0u32; 1056];
-    let tasks = cases::read_column(&mut task);
-    let mut tick = [0u64; 1056];
-    let ticks = cases::read_ticks(&mut tick);
-    let mut cost = [0u32; 1056];
-    let costs = cases::read_column(&mut cost);
-    let mut ready = [0u64; 1056];
-    let slots = cases::read_ticks(&mut ready);
+    let kept = cases::lent_column::<64>();
+    let task = cases::lent_column::<1056>();
+    let tick = cases::lent_ticks::<1056>();
+    let cost = cases::lent_column::<1056>();
+    let mut ready = cases::lent_ticks::<1056>();
+    let readies = ready.lent;
     ready_call(
         set,
-        &kept[..keeps],
+        kept.as_slice(),
         count,
-        &task[..tasks],
-        &tick[..ticks],
-        &cost[..costs],
-        &mut ready[..slots],
+        task.as_slice(),
+        tick.as_slice(),
+        cost.as_slice(),
+        &mut ready.slots[..readies],
     );
 }
 
 // One case: 0 is the trace check, 1 the ready ticks.
-fn one() -> bool {
-    if !cases::next_case() {
-        return false;
-    }
-    let mut head = [0u32; 168];
-    cases::read_column(&mut head);
+fn one(head: &[u32; 168]) {
     if head[0] == 0 {
-        trace_case(&head);
+        trace_case(head);
     } else {
-        ready_case(&head);
+        ready_case(head);
     }
-    cases::end_line();
-    true
 }
 
-// Case after case up to the end of the input. A proved loop has to end, so it counts its turns down, from a number that no input uses up.
 fn main() {
-    let mut turns = u64::MAX;
-    while turns > 0 && one() {
-        turns -= 1;
-    }
+    cases::run_cases(one);
 }

@@ -1,37 +1,29 @@
 -- The response bound, computed in signed 64 bits: x = J − qP, and R(q) where it is not below 1.
 use Prim.Native.Nat.{ℕ, ◌+◌, ◌-◌, ◌*◌, ◌≤◌, ◌<◌}
-use mathlib.Core.Path.{◌≡◌, ap, ap₂, ◌∙◌}
+use mathlib.Core.Path.{◌≡◌, refl, ap, ap₂, ◌∙◌}
 use mathlib.Core.Logic.{dite}
-use mathlib.Core.Bool.{true, false}
 use native.Mathlib.Omega.{arith}
 use native.Mathlib.Decide.{dec_le}
 use borrow.Author.Tests.{le-ltb}
 use lib.IntN.{ℤ, pos, ◌+ℤ◌, ◌-ℤ◌, ◌*ℤ◌}
-use lib.Signed.{mag, lt_z}
+use lib.Signed.{mag}
 use mir.Syntax.{w64}
 use mir.Val.{SFits, to_z, of_z}
+use Rattle.std.specs.Int.{int_max, int_min}
 use Rattle.model.specs.Processor.{pickup}
 use Rattle.model.specs.Bound.{max_z, min_z, offset, bound}
 use Rattle.response.proofs.BoundLaws.{bound_up, bound_down}
 use Rattle.verdict.specs.Walking.{Met}
 use Rattle.verdict.proofs.SignedLaws.{back, plain, difference_mag, difference_less, product, product_small}
 
--- the larger and the smaller of two integers
-pub larger_right : (a b : ℤ) → lt_z a b ≡ true → b ≡ max_z a b
+-- the larger and the smaller of two integers, as the library has them
+max_is : (a b : ℤ) → int_max b a ≡ max_z a b
 unfolding max_z
-larger_right a b h = rw (max_z, h)
+max_is a b = refl
 
-pub larger_left : (a b : ℤ) → lt_z a b ≡ false → a ≡ max_z a b
-unfolding max_z
-larger_left a b h = rw (max_z, h)
-
-pub smaller_left : (a b : ℤ) → lt_z a b ≡ true → a ≡ min_z a b
+min_is : (a b : ℤ) → int_min b a ≡ min_z a b
 unfolding min_z
-smaller_left a b h = rw (min_z, h)
-
-pub smaller_right : (a b : ℤ) → lt_z a b ≡ false → b ≡ min_z a b
-unfolding min_z
-smaller_right a b h = rw (min_z, h)
+min_is a b = refl
 
 module _ (P J q : ℕ) (p : P ≤ 1000000) (j : J < 4294967296) (h : q ≤ 10000000) where
   -- q × P
@@ -80,13 +72,15 @@ module _ (P J K q w : ℕ) (m : Met P J K q w) where
       → mag y < 9223372036854775808
       → mag z < 9223372036854775808
       → x ≡ offset P J q
-      → y ≡ min_z (pos 0) (to_z w64 (of_z w64 x))
-      → z ≡ max_z (to_z w64 (of_z w64 (to_z w64 (of_z w64 x) -ℤ to_z w64 K))) (to_z w64 (of_z w64 y))
+      → y ≡ int_min (to_z w64 (of_z w64 x)) (pos 0)
+      → z ≡ int_max (to_z w64 (of_z w64 y)) (to_z w64 (of_z w64 (to_z w64 (of_z w64 x) -ℤ to_z w64 K)))
       → n ≡ w + pickup
       → to_z w64 n +ℤ to_z w64 (of_z w64 z) ≡ pos (response_of P J K q w)
   unfolding bound
   response_sum x y z n hx hy hz ex ey ez en =
-      ap₂ ◌+ℤ◌ (plain n (omega arith) ∙ ap pos en) (back z hz ∙ ez ∙ ap₂ max_z less (back y hy ∙ ey ∙ ap (min_z (pos 0)) (back x hx ∙ ex))) ∙ response_is
+      ap₂ ◌+ℤ◌ (plain n (omega arith) ∙ ap pos en)
+      (back z hz ∙ ez ∙ max_is _ _ ∙ ap₂ max_z less (back y hy ∙ ey ∙ min_is _ _ ∙ ap (min_z (pos 0)) (back x hx ∙ ex)))
+      ∙ response_is
     where
       less : to_z w64 (of_z w64 (to_z w64 (of_z w64 x) -ℤ to_z w64 K)) ≡ offset P J q -ℤ pos K
       less =

@@ -1,4 +1,5 @@
 -- A task of a sheet that passed its checks can be judged by its columns.
+use Rattle.std.specs.Prelude as std
 use Prim.Native.Nat.{ℕ, ◌<◌}
 use mathlib.Core.Path.{◌≡◌, refl, ◌∙◌}
 use mathlib.Core.Option.{Option, some}
@@ -17,13 +18,21 @@ use Rattle.response.proofs.WindowLaws.{Window, window_some}
 use Rattle.taskset.specs.declared.TaskSet.{TaskSet}
 use Rattle.taskset.specs.TaskSet.{view_of}
 use Rattle.frame.specs.declared.Frame.{Frame}
+use Rattle.frame.specs.declared.Supply.{Supply}
 use Rattle.frame.specs.FrameView.{frame_of, framed_of}
+use Rattle.demand.specs.declared.TaskColumns.{TaskColumns}
+use Rattle.demand.specs.Seeking.{Counts, tally_of}
 use Rattle.demand.specs.Columns.{flat_tasks, Small, Periods, Copied}
 use Rattle.demand.proofs.FlatColumnLaws.{copied_periods}
+use Rattle.demand.proofs.SeekColumnLaws.{counts_of, counts_by}
 use Rattle.demand.proofs.TaskCallLaws.{Passed}
 use Rattle.verdict.specs.declared.Best.{Best}
-use Rattle.verdict.specs.Walking.{Walkable, Met}
+use Rattle.verdict.specs.Walking.{Walkable, Met, tasks_in}
 use Rattle.verdict.proofs.VerdictWalk.{Walk}
+
+-- how much a number that is tried counts, as the code has it
+pub counts_in : (s : Supply) (c : TaskColumns) (J D n : ℕ) → n ≡ tally_of s.framed → Counts (tasks_in s c J D) n
+counts_in s c J D n e = counts_by (tasks_in s c J D) (tally_of s.framed) n (counts_of s.framed s.ticks s.count s.first s.size c.loads c.periods J D) e
 
 -- R(q) is a natural number where the walk comes
 pub met_at : (o : Option model.Frame) (loads periods keeps : List ℕ) (i J D q t : ℕ) (b : Best) (n : ℕ)
@@ -44,7 +53,7 @@ met_at o loads periods keeps i J D q t b n r v w e =
       behind = w.behind t e;
     }
 
-module _ (s : TaskSet) (f : Frame) (i : ℕ) (kept loads periods : List ℕ) (p : Passed (framed_of s f) i kept) (c : Copied s s.count loads periods) where
+module _ (s : TaskSet) (f : std.Option Frame) (i : ℕ) (kept loads periods : List ℕ) (p : Passed (framed_of s f) i kept) (c : Copied s s.count loads periods) where
   -- the numbers of a task in its columns
   small : (j : ℕ) → j < s.count → Small (column loads j) (column periods j) (column kept j)
   small j l =

@@ -4,11 +4,19 @@ use Rattle.verdict.specs.declared.Best.{Best}
 use Rattle.model.specs.Limits.{max_time, horizon_tick}
 use Rattle.model.specs.Choice.{column}
 use Rattle.model.specs.Bound.{bound}
-use Rattle.demand.specs.Columns.{Searchable}
+use Rattle.model.specs.Tasks.{Tasks}
+use Rattle.frame.specs.declared.Supply.{Supply}
+use Rattle.frame.specs.WindowColumns.{frame_in}
+use Rattle.demand.specs.declared.TaskColumns.{TaskColumns}
+use Rattle.demand.specs.Columns.{flat_tasks, Searchable}
 
 -- the best so far, with the value r at q met next
 unfoldable pub better_of : Best → ℕ → ℕ → Best
 better_of b r q = cond (ltb b.worst r) (record { worst = r; first = q }) b
+
+-- the tasks of columns with the frame that is prepared, each with jitter J and deadline D
+abbrev pub tasks_in : Supply → TaskColumns → ℕ → ℕ → Tasks
+tasks_in s c J D = flat_tasks (frame_in s) c.loads c.periods J D
 
 -- columns of a task and those above it, with the task's jitter
 pub record Walkable (loads periods keeps : List ℕ) (i J : ℕ) : Type 0 where

@@ -16,7 +16,6 @@ use Rattle.releases.proofs.ReleaseLaws.{length_releases}
 use Rattle.fileformat.specs.Records.{Width, short, long, release_bytes, release_size, width_for, written_record}
 use Rattle.fileformat.specs.File.{joined}
 use Rattle.fileformat.specs.FileCalls.{list_bytes}
-use Rattle.fileformat.proofs.NumberLaws.{by_order}
 use Rattle.fileformat.proofs.WidthLaws.{width_short, width_long, size_high, list_append, list_more}
 use Rattle.fileformat.proofs.RoundTrips.{release_part, written_bytes, joined_append, release_part_more, length_release_part}
 use Rattle.writer.specs.Writer.{stored, part, Alike, Rising, Cut}
@@ -112,37 +111,6 @@ cut_bytes n task tick cost k r c =
     let b : list_bytes (part k n task tick cost) ≡ (n - k) * 14 =
     rw e at (alike_bytes task tick cost long k (n - k) (rw e (longs_alike n tick k c))) in
     omega (arith, a, b, bytes_split task tick cost k n c.within, c.within)
-
--- the search for the cut: from k on every tick is over the short limit
-pub record Seeking (n : ℕ) (tick : List ℕ) (k : ℕ) : Type 0 where
-  pub within : k ≤ n
-  pub long_enough : n ≤ length tick
-  pub longs : (p : ℕ) → k ≤ p → p < n → max_short_tick < get_or tick p 0
-
-module _ (n : ℕ) (tick : List ℕ) where
-  pub seeking_none : n ≤ length tick → Seeking n tick n
-  seeking_none h = record { within = omega arith; long_enough = h; longs = λ p f l. absurd (omega arith) }
-
-  module _ (k : ℕ) (s : Seeking n tick k) where
-    pub seeking_next : 0 < k → max_short_tick < get_or tick (k - 1) 0 → Seeking n tick (k - 1)
-    seeking_next h g = record {
-      within = omega (arith, s.within);
-      long_enough = s.long_enough;
-      longs = λ p f l. from p f l;
-    }
-      where
-        from : (p : ℕ) → k - 1 ≤ p → p < n → max_short_tick < get_or tick p 0
-        from p f l = by_order k p (λ h. s.longs p h l) (λ h. let e : k - 1 ≡ p = omega arith in rw e at g)
-
-    pub seeking_found : 0 < k → get_or tick (k - 1) 0 ≤ max_short_tick → Cut n tick k
-    seeking_found h g = record {
-      within = s.within;
-      longs = s.longs;
-      short_before = λ p e. let q : k - 1 ≡ p = omega arith in rw q at g;
-    }
-
-    pub seeking_all : k ≡ 0 → Cut n tick k
-    seeking_all h = record { within = s.within; longs = s.longs; short_before = λ p e. absurd (omega arith) }
 
 -- a count of the bytes of a list, of which the first i releases are counted
 pub record Sized (n : ℕ) (tick : List ℕ) (size i : ℕ) : Type 0 where

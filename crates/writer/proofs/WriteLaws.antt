@@ -2,11 +2,14 @@
 use Prim.Native.Nat.{ℕ, suc, ◌+◌, ◌≤◌, ◌<◌}
 use mathlib.Core.Path.{◌≡◌, refl, sym, ap, ap₂, ◌∙◌}
 use mathlib.Core.Option.{none}
+use Rattle.std.specs.Prelude.{Result, Ok, Err, true, is_ok}
 use mathlib.Core.List.{List, [], ◌∷◌, ◌++◌, append_assoc}
 use native.Mathlib.Omega.{arith}
 use lib.ListN.{length, drop, set, length-append}
 use Rattle.model.specs.Tasks.{Tasks, Release}
 use Rattle.model.specs.Refusal.{refuse}
+use Rattle.refusal.specs.declared.Refusal.{Refusal}
+use Rattle.refusal.specs.Refusal.{number_of, refusal_in}
 use Rattle.model.specs.Checks.{Lent, Inputs, check_slots, check_releases, refusal_of, answer_of}
 use Rattle.model.specs.Calls.{releases_of}
 use Rattle.taskset.specs.declared.TaskSet.{TaskSet}
@@ -21,7 +24,6 @@ use Rattle.fileformat.specs.FileCalls.{tasks_in, charge_bytes, tasks_bytes, shee
 use Rattle.fileformat.proofs.TaskSizeLaws.{tasks_bytes_same}
 use Rattle.fileformat.proofs.SheetLaws.{length_tasks, same_sheet}
 use Rattle.fileformat.proofs.RoundTrips.{charge_part, length_charge_part, task_part, release_part, encode_parts, length_encode, length_task_part, length_release_part}
-use Rattle.writer.specs.declared.WriteAnswer.TheVariants.{Written, Refused}
 use Rattle.writer.specs.Writer.{stored, sheet_part, part, Rising, WriteSays}
 use Rattle.writer.proofs.StoreLaws.{stored_at, stored_one, stored_all}
 use Rattle.writer.proofs.PartLaws.{bytes_joined}
@@ -39,6 +41,11 @@ module _ (s : Tasks) (start size : ℕ) (l : List Release) (room : ℕ) (b : sta
   pub bytes_long : start + size < room → none ≡ check_slots (bytes_lent s l room ∷ [])
   unfolding bytes_needed
   bytes_long h = slots_none ∙ sym (slots_next _ _ (omega (arith, b, e)))
+
+-- a check that passes holds no refusal
+pub fine_of : {A : Type 0} (r : Result A Refusal) → is_ok r ≡ true → none ≡ refusal_in r
+fine_of (Ok a) e = refl
+fine_of (Err q) e = cc
 
 -- the ticks of a list that passes its check never fall
 pub rising_of : (s : Tasks) (n : ℕ) (task tick cost : List ℕ) → none ≡ check_releases s 0 0 (releases_of n task tick cost) → Rising n tick
@@ -90,8 +97,8 @@ module _ (s : TaskSet) (n : ℕ) (task tick cost out : List ℕ) where
   list = releases_of n task tick cost
 
   -- a refusal changes no byte
-  pub write_refused : (k p : ℕ) → refuse k p ≡ refusal_of inputs → WriteSays s n task tick cost out (Refused k p) out
-  write_refused k p e = record { answer = refuses inputs _ _ e; bytes = column_kept _ _ _ out e }
+  pub write_refused : (q : Refusal) → refuse (number_of q.reason) q.place ≡ refusal_of inputs → WriteSays s n task tick cost out (Err q) out
+  write_refused q e = record { answer = refuses inputs _ _ e; bytes = column_kept _ _ _ out e }
 
   -- where the releases begin, and where they end
   abbrev start : ℕ
@@ -136,7 +143,7 @@ module _ (s : TaskSet) (n : ℕ) (task tick cost out : List ℕ) where
     -- the whole file is written, the releases ending at an offset
     pub write_done
         : (o₁ o₂ : List ℕ) (from last : ℕ) → none ≡ refusal_of inputs → o₁ ≡ stored out 0 (sheet_part s) → o₂ ≡ stored o₁ from (release_part list)
-        → from ≡ start → last ≡ end → end < length out → WriteSays s n task tick cost out (Written (last + 1)) (set o₂ last 3)
+        → from ≡ start → last ≡ end → end < length out → WriteSays s n task tick cost out (Ok (last + 1)) (set o₂ last 3)
     write_done o₁ o₂ from last e e₁ e₂ b d g =
         rw d
         (record {

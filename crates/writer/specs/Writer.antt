@@ -1,11 +1,13 @@
 -- What an answer of the writer means, and what a write promises.
-use Rattle.std.specs.Prelude.{ℕ, suc, ◌≤◌, ◌<◌, ◌≡◌, List, ◌++◌, map, length, get_or, drop}
+use Rattle.std.specs.Prelude.{ℕ, suc, ◌≤◌, ◌<◌, ◌≡◌, List, ◌++◌, map, length, get_or, drop, Result}
 use Rattle.std.proofs.lemmas.List.Edits.{sets}
-use Rattle.model.specs.Refusal.{Answer, refused, answered}
+use Rattle.model.specs.Refusal.{Answer}
 use Rattle.model.specs.Checks.{refusal_of, answer_of}
 use Rattle.model.specs.Limits.{max_short_tick}
 use Rattle.model.specs.Tasks.{Release}
 use Rattle.model.specs.Calls.{releases_of, column_after}
+use Rattle.refusal.specs.declared.Refusal.{Refusal}
+use Rattle.refusal.specs.Refusal as refusal
 use Rattle.taskset.specs.declared.Task.{Task}
 use Rattle.taskset.specs.declared.TaskSet.{TaskSet}
 use Rattle.taskset.specs.TaskSet.{view_of}
@@ -13,8 +15,6 @@ use Rattle.fileformat.specs.Numbers.{bytes_of}
 use Rattle.fileformat.specs.Records.{Width, task_record, width_for}
 use Rattle.fileformat.specs.File.{charge_records, joined, encode}
 use Rattle.fileformat.specs.FileCalls.{tasks_in, write_inputs, file_of}
-use Rattle.writer.specs.declared.WriteAnswer.{WriteAnswer}
-use Rattle.writer.specs.declared.WriteAnswer.TheVariants.{Written, Refused}
 
 -- some bytes, with others stored from an offset on
 unfoldable pub stored : List ℕ → ℕ → List ℕ → List ℕ
@@ -46,12 +46,11 @@ pub record Cut (n : ℕ) (tick : List ℕ) (k : ℕ) : Type 0 where
   pub longs : (p : ℕ) → k ≤ p → p < n → max_short_tick < get_or tick p 0
   pub short_before : (p : ℕ) → suc p ≡ k → get_or tick p 0 ≤ max_short_tick
 
--- the answer of a write
-abbrev pub answer_in : WriteAnswer → Answer ℕ
-answer_in (Written n) = answered n
-answer_in (Refused n p) = refused (record { number = n; place = p })
+-- the answer of a write: the number of bytes
+abbrev pub answer_in : Result ℕ Refusal → Answer ℕ
+answer_in = refusal.answer_in (λ n. n)
 
 -- the answer is the number of bytes of the file, which stand in the lent bytes afterwards
-pub record WriteSays (s : TaskSet) (n : ℕ) (task tick cost out : List ℕ) (r : WriteAnswer) (out' : List ℕ) : Type 0 where
+pub record WriteSays (s : TaskSet) (n : ℕ) (task tick cost out : List ℕ) (r : Result ℕ Refusal) (out' : List ℕ) : Type 0 where
   pub answer : answer_in r ≡ answer_of (write_inputs (view_of s) n task tick cost (length out)) (length (encode (file_of s n task tick cost)))
   pub bytes : out' ≡ column_after (refusal_of (write_inputs (view_of s) n task tick cost (length out))) (encode (file_of s n task tick cost)) out

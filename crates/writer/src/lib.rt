@@ -9,18 +9,13 @@ ghost use Rattle.fileformat.specs.Numbers.{bytes_of};
 ghost use Rattle.fileformat.specs.Records.{width_in, task_record, task_size, task_bytes, release_bytes, release_size, width_for, written_record};
 ghost use Rattle.fileformat.specs.File.{charge_records, joined};
 ghost use Rattle.model.specs.Checks.{refusal_of};
-ghost use Rattle.taskset.specs.TaskSet.{view_of, refusal_in};
+ghost use Rattle.refusal.specs.Refusal.{refusal_in};
+ghost use Rattle.taskset.specs.TaskSet.{view_of};
 ghost use Rattle.fileformat.specs.FileCalls.{tasks_in, charge_bytes, tasks_bytes, sheet_bytes, list_bytes, write_inputs};
 ghost use Rattle.writer.specs.Writer.{stored, number_bytes, sheet_part, part, Alike, Rising, Cut, WriteSays};
 
-use taskset::{Checked, Task, TaskSet};
-
-// The answer of a write: the number of bytes written, or document 01's number and place.
-#[derive(Clone, Copy)]
-pub enum WriteAnswer {
-    Written { bytes: usize },
-    Refused { number: u32, place: usize },
-}
+use refusal::{Reason, Refusal};
+use taskset::{Task, TaskSet};
 
 // The low byte of a number.
 fn low(n: u32) -> u8
@@ -107,14 +102,12 @@ fn short_count(count: usize, tick: &[u64]) -> usize
     requires { count ≤ length tick.now }
     ensures { Cut count tick.now result }
 {
-    let mut k = count;
-    while k > 0 {
-        if tick[k - 1] <= 1000000000 {
-            return k;
+    for k in (0..count).rev() {
+        if tick[k] <= 1000000000 {
+            return k + 1;
         }
-        k -= 1;
     }
-    k
+    0
 }
 
 // Whether a tick is over 1,000,000,000, and so its record is long.
@@ -130,10 +123,8 @@ fn counted_size(count: usize, tick: &[u64]) -> usize
     ensures { (task cost : List ℕ) → result ≡ list_bytes (releases_of count task tick.now cost) }
 {
     let mut size = 0;
-    let mut i = 0;
-    while i < count {
+    for i in 0..count {
         size += entries::release_size(is_long(tick[i]));
-        i += 1;
     }
     size
 }
@@ -169,12 +160,10 @@ fn put_tasks(out: &mut [u8], from: usize, s: TaskSet) -> usize
 {
     let count = s.count;
     let mut at = from;
-    let mut i = 0;
-    while i < count {
+    for i in 0..count {
         let t = s.tasks[i];
         put_task(out, at, t);
         at += entries::task_size(t.low);
-        i += 1;
     }
     at
 }
@@ -212,23 +201,11 @@ fn put_part(
 {
     let size = entries::release_size(long);
     let mut at = from;
-    let mut i = first;
-    while i < last {
+    for i in first..last {
         put_release(out, at, long, task[i], tick[i], cost[i]);
         at += size;
-        i += 1;
     }
     at
-}
-
-// Whether a check passed.
-fn is_fine(k: Checked) -> bool
-    ensures { result ≡ true → refusal_in k ≡ none }
-{
-    match k {
-        Checked::Fine => true,
-        Checked::Refused { .. } => false,
-    }
 }
 
 // The checks of a write: the sheet (5, 4, 6, 17), the count (10), the columns and then the bytes (13), the releases (7, 8, 9). The releases are
@@ -240,34 +217,25 @@ pub fn check_write(
     tick: &[u64],
     cost: &[u32],
     room: usize,
-) -> Checked
+) -> Result<(), Refusal>
     ensures { refusal_in result ≡ refusal_of (write_inputs (view_of s) count task.now tick.now cost.now room) }
 {
-    let sheet = taskset::check(s);
-    let Checked::Fine = sheet else {
-        return sheet;
-    };
-    let few = releases::check_count(count);
-    let Checked::Fine = few else {
-        return few;
-    };
-    let long = releases::check_columns(count, task, tick, cost);
-    let Checked::Fine = long else {
-        return long;
-    };
+    taskset::check(s)?;
+    releases::check_count(count)?;
+    releases::check_columns(count, task, tick, cost)?;
     let listed = releases::check_releases(s, 0, count, task, tick, cost);
     let sized = entries::sheet_size(s);
-    let end = sized + list_size(count, tick, is_fine(listed));
+    let end = sized + list_size(count, tick, listed.is_ok());
     if room <= end {
-        return Checked::Refused {
-            number: 13,
+        return Err(Refusal {
+            reason: Reason::ShortSlice,
             place: end + 1,
-        };
+        });
     }
     listed
 }
 
-// Writes a sheet and a list of releases as a file. A refusal changes no byte; bytes past the file keep what they held.
+// Writes a sheet and a list of releases as a file; the answer is the number of bytes written. A refusal changes no byte; bytes past the file keep what they held.
 pub fn write(
     s: TaskSet,
     count: usize,
@@ -275,20 +243,14 @@ pub fn write(
     tick: &[u64],
     cost: &[u32],
     out: &mut [u8],
-) -> WriteAnswer
+) -> Result<usize, Refusal>
     ensures { WriteSays s count task.now tick.now cost.now out.old result out.new }
 {
-    let k = check_write(s, count, task, tick, cost, out.len());
-    if let Checked::Refused { number, place } = k {
-        return WriteAnswer::Refused {
-            number: number,
-            place: place,
-        };
-    }
+    check_write(s, count, task, tick, cost, out.len())?;
     let start = put_sheet(out, s);
     let shorts = short_count(count, tick);
     let middle = put_part(out, start, 0, shorts, false, task, tick, cost);
     let end = put_part(out, middle, shorts, count, true, task, tick, cost);
     out[end] = 3;
-    WriteAnswer::Written { bytes: end + 1 }
+    Ok(end + 1)
 }

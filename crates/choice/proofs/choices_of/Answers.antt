@@ -1,4 +1,3 @@
-use borrow.Author.Rules.{rules}
 use native.Mathlib.Omega.{arith}
 use Rattle.model.specs.Tasks.{Valid}
 use Rattle.model.proofs.FramedLaws.{bare_valid}
@@ -12,35 +11,32 @@ use Rattle.choice.proofs.choices_of.Goals as goal
 bare : (c : Start) → Valid (view_of c.args.s)
 bare c = bare_valid _ (view_of c.args.s) c.requires
 
-pub columns_of-flat-requires : goal.columns_of-flat-requires
-columns_of-flat-requires c = bare (goal.at.columns_of-flat-requires c).Start
+pub columns_of-columns-requires : goal.columns_of-columns-requires
+columns_of-columns-requires c = bare (goal.at.columns_of-columns-requires c).Start
 
-pub factors_of-by-requires : goal.factors_of-by-requires
-factors_of-by-requires c = copied_periods _ _ _ _ (bare (goal.at.factors_of-by-requires c).Start) c.columns_of-flat.ensures (omega arith)
+pub factors_of-factors-requires : goal.factors_of-factors-requires
+factors_of-factors-requires c = copied_periods _ _ _ _ (bare (goal.at.factors_of-factors-requires c).Start) c.columns_of-columns.ensures (omega arith)
 
-pub supply_of-windows-requires : goal.supply_of-windows-requires
-supply_of-windows-requires c = c.requires.framed
+pub supply_of-supply-requires : goal.supply_of-supply-requires
+supply_of-supply-requires c = c.requires.framed
 
 pub loop-i-init : goal.loop-i-init
-loop-i-init c = choosing_none _ _ _ _ _ (bare (goal.at.loop-i-init c).Start) c.columns_of-flat.ensures
+loop-i-init c = choosing_none _ _ _ _ _ (bare (goal.at.loop-i-init c).Start) c.columns_of-columns.ensures
 
-pub slice_bounds-keep_for-end-in-loop-i-6 : goal.slice_bounds-keep_for-end-in-loop-i-6
-slice_bounds-keep_for-end-in-loop-i-6 c = search (rules, c.supply_of-windows.type_inv)
-
-pub keep_for-least-requires : goal.keep_for-least-requires
-keep_for-least-requires c =
+pub keep_for-found-requires : goal.keep_for-found-requires
+keep_for-found-requires c =
     let f = c.loop-i.invariant in
     let below = c.loop-i-test.true in (record {
       walkable = choosing_walk _ _ _ _ _ _ _ _ _ f below;
-      factored = factored _ _ _ _ c.loop-i.i c.factors_of-by.ensures
+      factored = factored _ _ _ _ c.loop-i.i c.factors_of-factors.ensures
           (omega (arith, f.valid.few_tasks)) (omega (arith, below));
-      supplies = c.supply_of-windows.ensures.supplies;
+      supplies = c.supply_of-supply.ensures.supplies;
     })
 
 pub returns-in_default : goal.returns-in_default
 returns-in_default c =
-    choosing_unfit _ _ _ _ _ _ _ _ _ c.loop-i.invariant c.loop-i-test.true _ c.supply_of-windows.ensures.same _
-    c.is_spared-spared.ensures (rw c.in_default.is at c.keep_for-least.ensures)
+    choosing_unfit _ _ _ _ _ _ _ _ _ c.loop-i.invariant c.loop-i-test.true _ c.supply_of-supply.ensures.same _
+    c.is_spared-spared.ensures (rw c.in_default.is at c.keep_for-found.ensures)
 
 pub overflow_add-evaluations : goal.overflow_add-evaluations
 overflow_add-evaluations c =
@@ -49,13 +45,13 @@ overflow_add-evaluations c =
       arith,
       f.valid.few_tasks,
       choosing_few _ _ _ _ _ _ _ _ _ f c.loop-i-test.true _ _ _ _ _ c.is_spared-spared.ensures
-          (rw c.in-Keep.is at c.keep_for-least.ensures),
+          (rw c.in-Some.is at c.keep_for-found.ensures),
     )
 
 pub loop-i-preserved : goal.loop-i-preserved
 loop-i-preserved c =
     choosing_next _ _ _ _ _ _ _ _ _ c.loop-i.invariant c.loop-i-test.true _ _ _ _ _ c.is_spared-spared.ensures
-    (rw c.in-Keep.is at c.keep_for-least.ensures)
+    (rw c.in-Some.is at c.keep_for-found.ensures)
 
 pub returns : goal.returns
-returns c = choosing_all _ _ _ _ _ _ _ _ _ c.loop-i.invariant _ c.supply_of-windows.ensures.same c.loop-i-test.false
+returns c = choosing_all _ _ _ _ _ _ _ _ _ c.loop-i.invariant _ c.supply_of-supply.ensures.same c.loop-i-test.false

@@ -1,20 +1,12 @@
-use mathlib.Core.Path.{refl, sym, subst}
-use native.Mathlib.Omega.{arith}
-use Rattle.loader.specs.Pieces.{Fed}
 use Rattle.loader.proofs.PieceLaws.{fed_nothing}
 use Rattle.choose_csv.proofs.TurnLaws.{turn_fed}
-use Rattle.choose_csv.proofs.main.Goals.{After-after_read-t}
 use Rattle.choose_csv.proofs.main.Goals as goal
 
--- what a read brought is fed
-fed_on : (c : After-after_read-t) → Fed c.after_read-t.result.loader
-fed_on c = subst (λ t. Fed t.loader) (sym c.after_read-t.ensures) (turn_fed _ _ _ c.loop-turns.invariant.0)
-
-pub loop-turns-init : goal.loop-turns-init
-loop-turns-init c = (fed_nothing _ c.start-l.ensures, refl)
+pub loop-init : goal.loop-init
+loop-init c = fed_nothing _ c.start-l.ensures
 
 pub print-requires : goal.print-requires
-print-requires c = fed_on (goal.at.print-requires c).After-after_read-t
+print-requires c = turn_fed _ _ _ _ c.loop.invariant c.in-Prints.ensures
 
-pub loop-turns-preserved : goal.loop-turns-preserved
-loop-turns-preserved c = (fed_on (goal.at.loop-turns-preserved c).After-after_read-t, omega (arith, c.read.auto.buf, c.loop-turns.invariant.1))
+pub loop-preserved : goal.loop-preserved
+loop-preserved c = turn_fed _ _ _ _ c.loop.invariant c.in-Reads.ensures

@@ -1,48 +1,14 @@
--- Whether there are frames, their ticks, their counts, then the windows.
-use mathlib.Core.Bool.{true}
-use Rattle.frame.specs.FrameView.{windows_of}
-use mathlib.Core.Path.{◌∙◌}
-use native.Mathlib.Omega.{arith}
-use Rattle.comparison.proofs.SheetTestLaws.{second_alone, no_frames, first_alone, ticks_differ, windows_differ, windows_decide, windows_few}
+-- Whether there are frames, then what they are.
+use mathlib.Core.Path.{ap}
+use Rattle.frame.specs.FrameView.{frame_of}
+use Rattle.comparison.proofs.SheetTestLaws.{one_alone, none_and}
 use Rattle.comparison.proofs.same_frame.Goals as goal
 
-pub returns-then-g : goal.returns-then-g
-returns-then-g c =
-    let a = c.args in
-    second_alone a.f.present a.g.present (windows_of a.f) (windows_of a.g) c.if-not-f.true c.if-g.true
+pub returns-in-None : goal.returns-in-None
+returns-in-None c = rw c.in-None.is (none_and _ _ c.is_none.ensures)
 
-pub returns-then-not-f : goal.returns-then-not-f
-returns-then-not-f c =
-    let a = c.args in
-    no_frames a.f.present a.g.present (windows_of a.f) (windows_of a.g) c.if-not-f.true c.if-g.false
+pub returns-in-None-g : goal.returns-in-None-g
+returns-in-None-g c = rw (c.in-Some.is, c.in-None-g.is) (one_alone _)
 
-pub returns-then-not-g : goal.returns-then-not-g
-returns-then-not-g c =
-    let a = c.args in
-    first_alone a.f.present a.g.present (windows_of a.f) (windows_of a.g) c.if-not-f.false c.if-not-g.true
-
-pub returns-then-f-g : goal.returns-then-f-g
-returns-then-f-g c =
-    let a = c.args in
-    ticks_differ a.f.present a.g.present (windows_of a.f) (windows_of a.g) c.if-not-f.false
-    c.if-not-g.false (λ e. omega arith)
-
-pub returns-then-f-g-2 : goal.returns-then-f-g-2
-returns-then-f-g-2 c =
-    let a = c.args in
-    windows_differ a.f.present a.g.present (windows_of a.f) (windows_of a.g)
-    c.if-not-f.false c.if-not-g.false (omega arith) (λ e.
-    omega arith)
-
-pub same_windows-requires : goal.same_windows-requires
-same_windows-requires c =
-    let a = c.args in
-    windows_few a.f.present true (windows_of a.f) (windows_of a.g) c.if-not-f.false
-    c.requires
-
-pub returns : goal.returns
-returns c =
-    let a = c.args in
-    c.same_windows.ensures ∙ windows_decide a.f.present a.g.present (windows_of a.f) (windows_of a.g)
-    c.if-not-f.false c.if-not-g.false
-    (omega arith) (omega arith)
+pub same_ticks-requires : goal.same_ticks-requires
+same_ticks-requires c = (c.requires _ (ap frame_of c.in-Some.is)).count_high

@@ -1,5 +1,4 @@
 -- The loop has passed the windows below k.
-use Prim.Native.Nat.{◌-◌}
 use Rattle.model.proofs.SearchLaws.{Sought}
 use Rattle.frame.specs.FrameView.{windows_of}
 use Rattle.admission.specs.Boards.{window_differs}
@@ -7,6 +6,3 @@ use Rattle.comparison.proofs.same_windows.Given as goal
 
 abbrev pub invariant-loop-k : goal.invariant-loop-k
 invariant-loop-k l = Sought (window_differs (windows_of l.f) (windows_of l.g)) l.n l.k
-
-abbrev pub decreases-loop-k : goal.decreases-loop-k
-decreases-loop-k l = l.n - l.k

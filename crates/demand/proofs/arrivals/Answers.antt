@@ -8,4 +8,4 @@ pub returns-then-t-eq0 : goal.returns-then-t-eq0
 returns-then-t-eq0 c = let e : c.args.t ≡ 0 = omega arith in rw e (sym (arrivals_none _ _))
 
 pub returns : goal.returns
-returns c = rw (c.wide-p.ensures, c.wide.ensures, c.wide-2.ensures) (sym (arrivals_at _ _ _ (omega arith)))
+returns c = rw (c.from-p.ensures, c.from.ensures, c.from-2.ensures) (sym (arrivals_at _ _ _ (omega arith)))

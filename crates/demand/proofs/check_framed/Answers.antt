@@ -1,20 +1,35 @@
--- The sheet and its frame refuse, or the checks that follow are those without the frame.
-use mathlib.Core.Path.{sym, ap, ◌∙◌}
+-- Each way out is the refusal of one check, those before it having passed.
+use mathlib.Core.Path.{◌≡◌, sym, ◌∙◌}
+use mathlib.Core.Option.{none}
+use Rattle.model.specs.Checks.{check_tasks}
+use Rattle.model.proofs.CheckLaws.{valid_of}
 use Rattle.model.proofs.OrderLaws.{refused_tasks}
-use Rattle.taskset.specs.TaskSet.{refusal_in}
-use Rattle.demand.proofs.FramedCallLaws.{framed_call, absent_call}
+use Rattle.model.proofs.FramedLaws.{kept_alike}
+use Rattle.refusal.proofs.PassedOn.{passed_on}
+use Rattle.taskset.specs.TaskSet.{view_of}
+use Rattle.frame.specs.FrameView.{frame_of, framed_of}
+use Rattle.demand.proofs.TaskCallLaws.{call_task, call_slots, call_kept}
+use Rattle.demand.proofs.check_framed.Goals.{In_ok-check_sheet}
 use Rattle.demand.proofs.check_framed.Goals as goal
 
-pub returns-in_default : goal.returns-in_default
-returns-in_default c = rw c.in_default.is (refused_tasks _ _ (sym (ap refusal_in c.in_default.is) ∙ c.check_sheet-whole.ensures))
+fine : (c : In_ok-check_sheet) → none ≡ check_tasks (framed_of c.args.s c.args.f)
+fine c = c.in_ok-check_sheet.ensures
 
-pub returns-then-f : goal.returns-then-f
-returns-then-f c =
-    let given = c.args in
-    c.check_call.ensures
-    ∙ framed_call given.s given.f given.task given.kept.now (sym (ap refusal_in c.in-Fine.is) ∙ c.check_sheet-whole.ensures)
+pub returns-in_err-check_sheet : goal.returns-in_err-check_sheet
+returns-in_err-check_sheet c = passed_on _ _ c.from_residual.ensures.1 (refused_tasks _ _ c.in_err-check_sheet.ensures)
+
+pub returns-then-count-task : goal.returns-then-count-task
+returns-then-count-task c = call_task _ _ c.args.kept.now (fine (goal.at.returns-then-count-task c).In_ok-check_sheet) c.if-count-task.true
+
+pub returns-then-kept-count : goal.returns-then-kept-count
+returns-then-kept-count c =
+    call_slots _ _ c.args.kept.now (fine (goal.at.returns-then-kept-count c).In_ok-check_sheet) c.if-count-task.false c.if-kept-count.true
+
+pub check_kept-requires : goal.check_kept-requires
+check_kept-requires c = ((valid_of _ (sym (fine (goal.at.check_kept-requires c).In_ok-check_sheet))).few_tasks, c.if-kept-count.false)
 
 pub returns : goal.returns
 returns c =
-    let given = c.args in
-    c.check_call-2.ensures ∙ absent_call given.s given.f given.task given.kept.now c.if-f.false
+    c.check_kept.ensures
+    ∙ kept_alike (frame_of c.args.f) (view_of c.args.s) _
+    ∙ call_kept (framed_of c.args.s c.args.f) _ c.args.kept.now (fine (goal.at.returns c).In_ok-check_sheet) c.if-count-task.false c.if-kept-count.false

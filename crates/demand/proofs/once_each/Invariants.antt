@@ -1,10 +1,6 @@
 -- The loop has summed the loads of the tasks below j.
-use Prim.Native.Nat.{◌-◌}
 use Rattle.demand.proofs.FlatColumnLaws.{Once}
 use Rattle.demand.proofs.once_each.Given as goal
 
 abbrev pub invariant-loop-j : goal.invariant-loop-j
-invariant-loop-j l = Once l.loads l.n l.j l.sum
-
-abbrev pub decreases-loop-j : goal.decreases-loop-j
-decreases-loop-j l = l.n - l.j
+invariant-loop-j l = Once l.columns.loads l.n l.j l.sum

@@ -10,10 +10,10 @@ ceil_div-requires c =
 
 pub overflow_mul-result : goal.overflow_mul-result
 overflow_mul-result c =
-    rw (c.wide.ensures, c.wide-2.ensures, c.ceil_div.ensures)
+    rw (c.from.ensures, c.from-2.ensures, c.ceil_div.ensures)
     (omega (arith, term_high _ _ _ _ c.requires.small c.requires.tried))
 
 pub returns : goal.returns
 returns c =
-    rw (c.wide.ensures, c.wide-2.ensures, c.ceil_div.ensures)
+    rw (c.from.ensures, c.from-2.ensures, c.ceil_div.ensures)
     (term_is _ _ _ _ c.requires.small c.requires.tried)

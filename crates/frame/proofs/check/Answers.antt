@@ -3,8 +3,8 @@ use mathlib.Core.Path.{◌∙◌}
 use Rattle.frame.proofs.FrameCheckingLaws.{absent_passes, present_check}
 use Rattle.frame.proofs.check.Goals as goal
 
-pub returns-then-not-f : goal.returns-then-not-f
-returns-then-not-f c = absent_passes c.args.f c.if-not-f.true
+pub returns-in-None : goal.returns-in-None
+returns-in-None c = rw c.in-None.is absent_passes
 
-pub returns : goal.returns
-returns c = c.check_windows.ensures ∙ present_check c.args.f c.if-not-f.false
+pub returns-in-Some : goal.returns-in-Some
+returns-in-Some c = rw c.in-Some.is (c.check_windows.ensures ∙ present_check _)

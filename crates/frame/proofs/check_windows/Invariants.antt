@@ -1,11 +1,7 @@
 -- The windows below k are within the rules, and low is the least first tick of window k.
-use Prim.Native.Nat.{◌-◌}
 use Rattle.frame.specs.FrameView.{windows_of}
 use Rattle.frame.proofs.FrameCheckingLaws.{Checking}
 use Rattle.frame.proofs.check_windows.Given as goal
 
 abbrev pub invariant-loop-k : goal.invariant-loop-k
 invariant-loop-k l = Checking (windows_of l.f) l.k l.low
-
-abbrev pub decreases-loop-k : goal.decreases-loop-k
-decreases-loop-k l = l.count - l.k

@@ -10,8 +10,8 @@ returns-then-w-low c = sym (allowed_no _ _ _ _ (λ h. omega arith))
 pub returns-then-w-lt1 : goal.returns-then-w-lt1
 returns-then-w-lt1 c = sym (allowed_no _ _ _ _ (λ h. omega arith))
 
-pub returns-then-wide : goal.returns-then-wide
-returns-then-wide c = sym (allowed_no _ _ _ _ (λ h. omega arith))
+pub returns-then-from : goal.returns-then-from
+returns-then-from c = sym (allowed_no _ _ _ _ (λ h. omega arith))
 
 pub returns : goal.returns
 returns c = sym (allowed_yes _ _ _ _ (omega arith))

@@ -37,20 +37,21 @@ seek-returns-then-n-eq0 t c = seeks_ended _ _ _ _ _ _ _ _ _ _ c.if-n-eq0.true c.
 pub seek-loop-y-init : goal.seek-loop-y-init
 seek-loop-y-init t c = seeking_none _ _ _ _ _ _ _ _ (omega arith)
 
-pub seek-place-got-requires : goal.seek-place-got-requires
-seek-place-got-requires t c = (
+pub seek-place-requires : goal.seek-place-requires
+seek-place-requires t c = (
   omega (arith, c.decreases, c.loop-y.invariant.some_left),
   (seeking_room _ _ _ _ _ _ _ _ _ _ _ _ _ c.loop-y.invariant c.requires, c.loop-y-test.true),
 )
 
-pub seek-returns-in_default : goal.seek-returns-in_default
-seek-returns-in_default t c =
-    seeking_found _ _ _ _ _ _ _ _ _ _ _ _ _ c.loop-y.invariant c.loop-y-test.true _ _ _ _ c.place-got.ensures c.in_default.is
+pub seek-returns-in_err-left : goal.seek-returns-in_err-left
+seek-returns-in_err-left t c =
+    rw c.from_residual.ensures
+    (seeking_found _ _ _ _ _ _ _ _ _ _ _ _ _ c.loop-y.invariant c.loop-y-test.true _ _ _ _ c.place.ensures _ c.in_err-left.was)
 
 pub seek-loop-y-preserved : goal.seek-loop-y-preserved
 seek-loop-y-preserved t c =
-    seeking_next _ _ _ _ _ _ _ _ _ _ _ _ _ c.loop-y.invariant c.loop-y-test.true _ _ _ _ c.place-got.ensures _ c.in-Left.is
-    c.place-got.auto.task c.place-got.auto.tick c.place-got.auto.cost
+    seeking_next _ _ _ _ _ _ _ _ _ _ _ _ _ c.loop-y.invariant c.loop-y-test.true _ _ _ _ c.place.ensures _ c.in_ok-left.was
+    c.place.auto.task c.place.auto.tick c.place.auto.cost
 
 pub seek-returns : goal.seek-returns
 seek-returns t c = seeking_all _ _ _ _ _ _ _ _ _ _ _ _ _ c.loop-y.invariant c.loop-y-test.false

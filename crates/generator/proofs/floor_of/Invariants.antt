@@ -4,6 +4,3 @@ use Rattle.generator.proofs.floor_of.Given as goal
 
 abbrev pub invariant-loop-p : goal.invariant-loop-p
 invariant-loop-p l = Raising l.t.period l.t.jitter l.i l.at l.task l.tick l.p l.f
-
-abbrev pub decreases-loop-p : goal.decreases-loop-p
-decreases-loop-p l = l.p

@@ -11,7 +11,7 @@ overflow_add-after c =
     )
 
 pub returns-then-same : goal.returns-then-same
-returns-then-same c = raised_same _ _ _ _ _ _ _ c.if-same.true c.gap.ensures c.larger.ensures
+returns-then-same c = raised_same _ _ _ _ _ _ _ c.if-same.true c.gap.ensures c.max.ensures
 
 pub returns : goal.returns
 returns c = raised_other _ _ _ _ _ c.if-same.false

@@ -1,13 +1,12 @@
 -- The two cases of an answer.
-use mathlib.Core.Path.{sym, ap, ◌∙◌}
-use Rattle.taskset.specs.TaskSet.{refusal_in}
+use mathlib.Core.Path.{refl}
 use Rattle.interface.specs.Interface.{code_of}
 use Rattle.interface.proofs.code_of.Goals as goal
 
-pub returns-in-Fine : goal.returns-in-Fine
+pub returns-in-Ok : goal.returns-in-Ok
 unfolding code_of
-returns-in-Fine c = sym (ap code_of (ap refusal_in c.in-Fine.is))
+returns-in-Ok c = rw c.in-Ok.is refl
 
-pub returns-in-Refused : goal.returns-in-Refused
+pub returns-in-Err : goal.returns-in-Err
 unfolding code_of
-returns-in-Refused c = c.refusal_code.ensures ∙ sym (ap code_of (ap refusal_in c.in-Refused.is))
+returns-in-Err c = rw c.in-Err.is c.refusal_code.ensures

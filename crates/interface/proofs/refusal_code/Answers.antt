@@ -1,8 +1,9 @@
 -- The code is the definition as it stands.
-use mathlib.Core.Path.{refl}
+use Prim.Native.Nat.{ℕ, ◌+◌, ◌*◌, ◌%◌}
+use mathlib.Core.Path.{ap, ◌∙◌}
 use Rattle.interface.specs.Interface.{refusal_code}
 use Rattle.interface.proofs.refusal_code.Goals as goal
 
 pub returns : goal.returns
 unfolding refusal_code
-returns c = refl
+returns c = ap (λ (n : ℕ). n * 4294967296 + c.args.r.place % 4294967296) (c.from.ensures ∙ c.number.ensures)

@@ -1,10 +1,6 @@
 -- The loop has filled the entries below i.
-use Prim.Native.Nat.{◌-◌}
 use Rattle.interface.proofs.InterfaceLaws.{Entries}
 use Rattle.interface.proofs.sheet_from.Given as goal
 
 abbrev pub invariant-loop-i : goal.invariant-loop-i
 invariant-loop-i l = Entries l.sheet l.used l.tasks l.i
-
-abbrev pub decreases-loop-i : goal.decreases-loop-i
-decreases-loop-i l = l.used - l.i

@@ -13,7 +13,7 @@ returns-then-needed-slots c = c.refusal_code.ensures ∙ sym (ap (λ (q : Refusa
 pub returns-then-after_slots : goal.returns-then-after_slots
 unfolding code_of
 returns-then-after_slots c =
-    c.refusal_code-then-after_slots.ensures
+    c.short_code.ensures
     ∙ sym (ap (λ (q : Refusal). code_of (some q))
     (few_before _ _ _ c.if-needed-slots.false (sym c.after_slots.ensures ∙ c.if-after_slots.true)))
 

@@ -4,7 +4,7 @@ use native.Mathlib.Omega.{arith}
 use lib.ListN.{get_or}
 use Rattle.model.specs.Frame.{ours_in}
 use Rattle.frame.specs.Reached.{Reached}
-use Rattle.frame.specs.WindowColumns.{column_frame}
+use Rattle.frame.specs.WindowColumns.{frame_in}
 use Rattle.queues.specs.Queues.{max_finish}
 use Rattle.queues.proofs.ColumnLaws.{timely}
 use Rattle.jumps.proofs.MomentLaws.{Front, queued, stops_few, moment_start, moment_wait, moment_cut, moment_done, moment_end, front, some_ticks, end_soon, cut_less}
@@ -34,8 +34,8 @@ found_unread c =
 
 -- the ticks that its work left takes, and when it ends at the earliest
 takes : (c : After-reach)
-    → Reached (ours_in ((column_frame c.args.framed c.args.ticks c.args.windows c.args.first.now c.args.size.now))) c.loop-head.t (get_or c.loop-head.left c.top_started-i.result 0) c.reach.result
-takes c = rw c.wide.ensures at c.reach.ensures.reached
+    → Reached (ours_in (frame_in c.args.supply.now)) c.loop-head.t (get_or c.loop-head.left c.top_started-i.result 0) c.reach.result
+takes c = rw c.from.ensures at c.reach.ensures.reached
 
 soon : (c : After-reach) → c.loop-head.t + c.reach.result ≤ max_finish
 soon c =
@@ -112,7 +112,7 @@ pub reach-requires : goal.reach-requires
 reach-requires c =
     (record {
       supplies = c.requires.supplies;
-      d_le_max_tick = omega (arith, found (goal.at.reach-requires c).Else-i-tasks, c.wide.ensures);
+      d_le_max_tick = omega (arith, found (goal.at.reach-requires c).Else-i-tasks, c.from.ensures);
     })
 
 pub overflow_add-end : goal.overflow_add-end

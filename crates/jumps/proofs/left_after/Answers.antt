@@ -4,17 +4,17 @@ use mathlib.Core.Path.{◌≡◌, sym, ap, ◌∙◌}
 use native.Mathlib.Omega.{arith}
 use Rattle.model.specs.Frame.{ours_in, supply}
 use Rattle.model.proofs.SupplyLaws.{supply_from}
-use Rattle.frame.specs.WindowColumns.{column_frame}
+use Rattle.frame.specs.WindowColumns.{frame_in}
 use Rattle.jumps.proofs.left_after.Goals.{After-our_ticks}
 use Rattle.jumps.proofs.left_after.Goals as goal
 
 between : (c : After-our_ticks)
     → let a = c.args in
     c.our_ticks.result
-    ≡ c.our_ticks-before.result + supply (ours_in (column_frame a.framed a.ticks a.windows a.first.now a.size.now)) a.t (a.u - a.t)
+    ≡ c.our_ticks-before.result + supply (ours_in (frame_in a.supply.now)) a.t (a.u - a.t)
 between c =
     let a = c.args in
-    let ours = ours_in (column_frame a.framed a.ticks a.windows a.first.now a.size.now) in
+    let ours = ours_in (frame_in a.supply.now) in
     let e : a.t + (a.u - a.t) ≡ a.u = omega (arith, c.requires.t_le_u) in
     c.our_ticks.ensures
     ∙ ap (supply ours 0) (sym e)

@@ -16,7 +16,7 @@ pub loop-i-preserved : goal.loop-i-preserved
 loop-i-preserved c = (
   omega arith,
   c.next_due-soon.ensures.0,
-  rw c.smaller-least.ensures (next_next _ _ _ _ _ _ _ c.loop-i.invariant.2 c.next_due-soon.ensures.1),
+  rw c.min-least.ensures (next_next _ _ _ _ _ _ _ c.loop-i.invariant.2 c.next_due-soon.ensures.1),
 )
 
 pub shape_of-coming : goal.shape_of-coming

@@ -1,5 +1,4 @@
 -- The loop has passed every task whose start tick is after t.
-use Prim.Native.Nat.{◌-◌}
 use lib.ListN.{get_or}
 use lib.Dec.{leb}
 use Rattle.queues.proofs.SearchedLaws.{Passed}
@@ -7,6 +6,3 @@ use Rattle.jumps.proofs.top_started.Given as goal
 
 abbrev pub invariant-loop-i : goal.invariant-loop-i
 invariant-loop-i l = Passed (λ x. leb (get_or l.since x 0) l.t) l.tasks 0 l.i
-
-abbrev pub decreases-loop-i : goal.decreases-loop-i
-decreases-loop-i l = l.tasks - l.i

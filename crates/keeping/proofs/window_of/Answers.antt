@@ -17,14 +17,14 @@ start_at-begin-requires c =
 
 pub loop-t-init : goal.loop-t-init
 loop-t-init c =
-    search_start _ _ _ _ _ _ _ _ _ _ _ _ _ _ _ c.requires.searched c.requires.supplies c.product-own.ensures
-    (c.starts_of-starts.ensures c.args.ticks c.args.first.now c.args.size.now) c.tally_of-tally.ensures _ c.start_at-begin.ensures
+    search_start _ _ _ _ _ _ _ _ _ c.requires.searched c.requires.supplies c.product-own.ensures
+    c.starts-starts.ensures c.tally_of-tally.ensures _ c.start_at-begin.ensures
 
 pub overflow_add-tries : goal.overflow_add-tries
 overflow_add-tries c = omega (arith, c.loop-t.invariant.list.few, c.loop-t.invariant.tally_few)
 
 pub returns-then-t-gt10000000 : goal.returns-then-t-gt10000000
-returns-then-t-gt10000000 c = search_over _ _ _ _ _ _ _ _ _ _ _ _ _ _ _ _ _ _ _ _ c.loop-t.invariant c.if-t-gt10000000.true
+returns-then-t-gt10000000 c = search_over _ _ _ _ _ _ _ _ _ _ _ _ _ _ _ c.loop-t.invariant c.if-t-gt10000000.true
 
 pub above_load-requires : goal.above_load-requires
 above_load-requires c =
@@ -51,7 +51,7 @@ loop-t-smaller-then-t-x c = omega (arith, c.if-t-x.true, c.if-t-gt10000000.false
 
 pub loop-t-preserved-then-t-x : goal.loop-t-preserved-then-t-x
 loop-t-preserved-then-t-x c =
-    search_next _ _ _ _ _ _ _ _ _ _ _ _ _ _ _ _ _ _ _ _ c.loop-t.invariant _ _ c.above_load.ensures c.if-t-gt10000000.false
+    search_next _ _ _ _ _ _ _ _ _ _ _ _ _ _ _ c.loop-t.invariant _ _ c.above_load.ensures c.if-t-gt10000000.false
     c.reach_from-x.ensures c.if-t-x.true
 
 pub overflow_add-k : goal.overflow_add-k
@@ -60,12 +60,12 @@ overflow_add-k c =
     omega (arith, head.list.left, head.starts_is)
 
 pub overflow_cast-result : goal.overflow_cast-result
-overflow_cast-result c = omega (arith, c.larger-w.ensures, c.if-t-gt10000000.false, c.loop-t.invariant.list.largest_high)
+overflow_cast-result c = omega (arith, c.max-w.ensures, c.if-t-gt10000000.false, c.loop-t.invariant.list.largest_high)
 
 pub returns-then-starts-k : goal.returns-then-starts-k
 returns-then-starts-k c =
-    search_within _ _ _ _ _ _ _ _ _ _ _ _ _ _ _ _ _ _ _ _ c.loop-t.invariant _ _ c.above_load.ensures c.if-t-gt10000000.false
-    c.reach_from-x.ensures _ c.larger-w.ensures c.if-t-x.false c.if-starts-k.true
+    search_within _ _ _ _ _ _ _ _ _ _ _ _ _ _ _ c.loop-t.invariant _ _ c.above_load.ensures c.if-t-gt10000000.false
+    c.reach_from-x.ensures _ c.max-w.ensures c.if-t-x.false c.if-starts-k.true
 
 pub start_at-next-requires : goal.start_at-next-requires
 start_at-next-requires c =
@@ -80,5 +80,5 @@ loop-t-smaller c = omega (arith, c.if-starts-k.false)
 
 pub loop-t-preserved : goal.loop-t-preserved
 loop-t-preserved c =
-    search_turn _ _ _ _ _ _ _ _ _ _ _ _ _ _ _ _ _ _ _ _ c.loop-t.invariant _ _ c.above_load.ensures c.if-t-gt10000000.false
-    c.reach_from-x.ensures _ c.larger-w.ensures c.if-t-x.false c.if-starts-k.false _ c.start_at-next.ensures
+    search_turn _ _ _ _ _ _ _ _ _ _ _ _ _ _ _ c.loop-t.invariant _ _ c.above_load.ensures c.if-t-gt10000000.false
+    c.reach_from-x.ensures _ c.max-w.ensures c.if-t-x.false c.if-starts-k.false _ c.start_at-next.ensures

@@ -5,6 +5,6 @@ pub returns-then-m : goal.returns-then-m
 unfolding after_zero
 returns-then-m c = rw c.if-m.true
 
-pub returns : goal.returns
+pub returns-else-m : goal.returns-else-m
 unfolding after_zero
-returns c = rw c.if-m.false
+returns-else-m c = rw c.if-m.false

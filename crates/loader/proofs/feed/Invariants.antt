@@ -1,10 +1,8 @@
-use Prim.Native.Nat.{◌-◌}
-use lib.ListN.{length}
-use Rattle.loader.proofs.FeedLaws.{going, Feeding}
+-- What is left of the piece is fed to the loader as it is now.
+use mathlib.Core.Path.{◌≡◌}
+use lib.ListN.{drop}
+use Rattle.loader.specs.Loader.{fed}
 use Rattle.loader.proofs.feed.Given as goal
 
-abbrev pub invariant-loop-i : goal.invariant-loop-i
-invariant-loop-i l = Feeding (going l.initial.tasks l.initial.line) l.piece l.tasks l.line l.i
-
-abbrev pub decreases-loop-i : goal.decreases-loop-i
-decreases-loop-i l = length l.piece - l.i
+abbrev pub invariant-loop-b : goal.invariant-loop-b
+invariant-loop-b l = fed l.initial.l l.piece ≡ fed l.l (drop l.b-index l.piece)

@@ -3,4 +3,4 @@ use Rattle.loader.proofs.with_digit.Goals as goal
 
 pub returns : goal.returns
 unfolding with_digit
-returns c = rw c.more-value.ensures
+returns c = rw c.more.ensures

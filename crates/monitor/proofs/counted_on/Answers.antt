@@ -3,10 +3,10 @@ use borrow.Author.Tests.{lt-ltb, le-ltb}
 use Rattle.monitor.specs.Layout.{counted}
 use Rattle.monitor.proofs.counted_on.Goals as goal
 
-pub returns-then-count-lt256 : goal.returns-then-count-lt256
+pub returns-then-count-jobs : goal.returns-then-count-jobs
 unfolding counted
-returns-then-count-lt256 c = rw (counted, lt-ltb _ _ c.if-count-lt256.true)
+returns-then-count-jobs c = rw (counted, lt-ltb _ _ c.if-count-jobs.true)
 
 pub returns : goal.returns
 unfolding counted
-returns c = rw (counted, le-ltb _ _ c.if-count-lt256.false)
+returns c = rw (counted, le-ltb _ _ c.if-count-jobs.false)

@@ -8,14 +8,14 @@ use Rattle.monitor.proofs.tally_of.Goals as goal
 pub loop-k-init : goal.loop-k-init
 loop-k-init c = tallying_none _ _ _ _ (omega arith) (omega arith)
 
-pub with_next-next-requires : goal.with_next-next-requires
-with_next-next-requires c =
+pub with_next-t-requires : goal.with_next-t-requires
+with_next-t-requires c =
     let f = c.loop-k.invariant in
     let h = c.loop-k-test.true in
     (omega (arith, tallying_jobs _ _ _ _ _ _ f h), omega (arith, tallying_late _ _ _ _ _ _ f h))
 
 pub loop-k-preserved : goal.loop-k-preserved
-loop-k-preserved c = tallying_next _ _ _ _ _ _ _ c.loop-k.invariant c.loop-k-test.true c.with_next-next.ensures
+loop-k-preserved c = tallying_next _ _ _ _ _ _ _ c.loop-k.invariant c.loop-k-test.true c.with_next-t.ensures
 
 pub returns : goal.returns
 returns c =

@@ -1,5 +1,4 @@
 -- The loop has counted the jobs at the places below k.
-use Prim.Native.Nat.{◌-◌}
 use Rattle.monitor.specs.Layout.{deadline_in}
 use Rattle.monitor.specs.MonitorCalls.{tallied}
 use Rattle.monitor.proofs.TallyLaws.{Tallying}
@@ -7,6 +6,3 @@ use Rattle.monitor.proofs.tally_of.Given as goal
 
 abbrev pub invariant-loop-k : goal.invariant-loop-k
 invariant-loop-k l = Tallying l.window l.task (deadline_in l.window l.task) l.used l.k (tallied l.t)
-
-abbrev pub decreases-loop-k : goal.decreases-loop-k
-decreases-loop-k l = l.used - l.k

@@ -3,4 +3,4 @@ use mathlib.Core.Path.{refl}
 use Rattle.monitor.proofs.with_one.Goals as goal
 
 pub returns : goal.returns
-returns c = rw (c.late_with-late.ensures, c.larger-largest.ensures) refl
+returns c = rw (c.late_with.ensures, c.max.ensures) refl

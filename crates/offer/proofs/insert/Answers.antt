@@ -7,11 +7,11 @@ use Rattle.offer.proofs.insert.Goals as goal
 pub loop-i-init : goal.loop-i-init
 loop-i-init c = (omega arith, omega arith, filled_none _ _ refl)
 
-pub shifted-next-requires : goal.shifted-next-requires
-shifted-next-requires c = (omega arith, omega arith)
+pub shifted-requires : goal.shifted-requires
+shifted-requires c = (omega arith, omega arith)
 
 pub loop-i-preserved : goal.loop-i-preserved
-loop-i-preserved c = (omega arith, omega arith, filled_next _ _ _ _ c.loop-i.invariant.2 (omega arith) c.shifted-next.ensures)
+loop-i-preserved c = (omega arith, omega arith, filled_next _ _ _ _ c.loop-i.invariant.2 (omega arith) c.shifted.ensures)
 
 pub returns : goal.returns
-returns c = inserted_all c.args.s _ _ _ _ c.loop-i.invariant.0 c.loop-i.invariant.1 c.loop-i.invariant.2 c.loop-i-test.false
+returns c = inserted_all c.args.s _ _ _ _ c.loop-i.invariant.0 c.loop-i.invariant.1 c.loop-i.invariant.2 (omega arith)

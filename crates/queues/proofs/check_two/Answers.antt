@@ -1,21 +1,21 @@
 -- The sheet with its frame comes first; where it passes, the checks that follow do not look at the frame.
+use Rattle.refusal.proofs.PassedOn.{passed_on}
 use Prim.Native.Nat.{min}
-use mathlib.Core.Path.{sym, ap, ◌∙◌}
-use Rattle.taskset.specs.TaskSet.{view_of, refusal_in}
+use mathlib.Core.Path.{◌∙◌}
+use Rattle.taskset.specs.TaskSet.{view_of}
 use Rattle.frame.specs.FrameView.{frame_of}
 use Rattle.queues.proofs.FramedLaws.{first_refuses, first_passes}
 use Rattle.queues.proofs.check_two.Goals as goal
 
-pub returns-in_default : goal.returns-in_default
-returns-in_default c =
+pub returns-in_err-check_framed : goal.returns-in_err-check_framed
+returns-in_err-check_framed c =
     let a = c.args in
-    let e = sym (ap refusal_in c.in_default.is) ∙ c.check_framed-framed.ensures in
-    rw c.in_default.is
-    (first_refuses (view_of a.s) a.kept.now a.count a.task.now a.tick.now a.cost.now (min a.first a.second) (frame_of a.f) _ e)
+    let e = c.in_err-check_framed.ensures in
+    passed_on _ _ c.from_residual.ensures.1 (first_refuses (view_of a.s) a.kept.now a.count a.task.now a.tick.now a.cost.now (min a.first a.second) (frame_of a.f) _ e)
 
 pub returns : goal.returns
 returns c =
     let a = c.args in
-    let e = sym (ap refusal_in c.in-Fine.is) ∙ c.check_framed-framed.ensures in
+    let e = c.in_ok-check_framed.ensures in
     c.check_two.ensures
     ∙ first_passes (view_of a.s) a.kept.now a.count a.task.now a.tick.now a.cost.now (min a.first a.second) (frame_of a.f) e

@@ -11,7 +11,7 @@ loop-i-init c = (omega arith, refl)
 pub loop-i-preserved : goal.loop-i-preserved
 loop-i-preserved c = (
   omega arith,
-  c.smaller-wake.ensures ∙ rw c.wake_of.ensures (earliest_next _ _ _ c.loop-i.invariant.1),
+  c.min-wake.ensures ∙ rw c.wake_of.ensures (earliest_next _ _ _ c.loop-i.invariant.1),
 )
 
 pub returns : goal.returns

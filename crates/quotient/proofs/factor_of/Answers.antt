@@ -8,8 +8,8 @@ use Rattle.quotient.proofs.factor_of.Goals as goal
 
 pub overflow_cast-result : goal.overflow_cast-result
 overflow_cast-result c =
-    rw (c.wide-p.ensures, ← factor_at c.args.period)
+    rw (c.from-p.ensures, ← factor_at c.args.period)
     (omega (arith, factor_high c.args.period c.requires, div-mul-le_self (factor c.args.period) 1048576))
 
 pub returns : goal.returns
-returns c = rw (c.wide-p.ensures, ← factor_at c.args.period) refl
+returns c = rw (c.from-p.ensures, ← factor_at c.args.period) refl

@@ -1,5 +1,5 @@
 use Prim.Native.Nat.{◌+◌, ◌*◌}
-use mathlib.Core.Path.{refl}
+use mathlib.Core.Path.{◌≡◌, refl}
 use native.Mathlib.Omega.{arith}
 use Rattle.reader.proofs.ReadColumnLaws.{Reading, short_room, putting_none, reading, putting_short}
 use Rattle.reader.proofs.put_shorts.Goals.{In-loop-i}
@@ -38,4 +38,6 @@ pub loop-i-preserved : goal.loop-i-preserved
 loop-i-preserved c = putting_short _ _ _ _ _ _ _ _ _ _ _ c.loop-i.invariant _ c.loop-i-test.true refl (omega arith) c.job_at-job.ensures
 
 pub returns : goal.returns
-returns c = c.loop-i.invariant
+returns c =
+    let e : c.loop-i.i ≡ c.args.count = omega (arith, c.loop-i.invariant.within) in
+    rw e at c.loop-i.invariant

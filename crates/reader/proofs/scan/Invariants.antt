@@ -3,8 +3,8 @@ use lib.ListN.{length}
 use Rattle.reader.proofs.ScanLaws.{Scanning}
 use Rattle.reader.proofs.scan.Given as goal
 
-abbrev pub invariant-loop-number : goal.invariant-loop-number
-invariant-loop-number l = Scanning l.f l.tasks l.releases l.before l.start l.at
+abbrev pub invariant-loop-reason : goal.invariant-loop-reason
+invariant-loop-reason l = Scanning l.f l.tasks l.releases l.before l.start l.at
 
-abbrev pub decreases-loop-number : goal.decreases-loop-number
-decreases-loop-number l = length l.f - l.at
+abbrev pub decreases-loop-reason : goal.decreases-loop-reason
+decreases-loop-reason l = length l.f - l.at

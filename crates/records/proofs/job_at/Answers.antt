@@ -28,7 +28,7 @@ number_at-cost-requires c = omega (arith, is_long (goal.at.number_at-cost-requir
 
 pub returns-then-long : goal.returns-then-long
 returns-then-long c =
-    release_fields _ _ long _ _ _ (c.wide_byte-task.ensures.0 ∙ sym (field_one _ _ (omega arith))) c.wide_number_at-late.ensures
+    release_fields _ _ long _ _ _ (c.from-task.ensures ∙ sym (field_one _ _ (omega arith))) c.wide_number_at-late.ensures
     c.number_at-cost.ensures
     ∙ ap (λ b. release_from (width_in b) (drop c.args.at c.args.f.now)) (sym c.if-long.true)
 
@@ -46,6 +46,6 @@ number_at-cost-requires-2 c = omega (arith, is_short (goal.at.number_at-cost-req
 
 pub returns : goal.returns
 returns c =
-    release_fields _ _ short _ _ _ (c.wide_byte-task.ensures.0 ∙ sym (field_one _ _ (omega arith)))
-    (c.wide-tick.ensures ∙ c.number_at.ensures) c.number_at-cost-2.ensures
+    release_fields _ _ short _ _ _ (c.from-task.ensures ∙ sym (field_one _ _ (omega arith)))
+    (c.from-tick.ensures ∙ c.number_at.ensures) c.number_at-cost-2.ensures
     ∙ ap (λ b. release_from (width_in b) (drop c.args.at c.args.f.now)) (sym c.if-long.false)

@@ -1,6 +1,6 @@
+use Rattle.refusal.proofs.PassedOn.{passed_on}
 use native.Mathlib.Omega.{arith}
-use mathlib.Core.Path.{refl, sym, ap, ◌∙◌}
-use Rattle.taskset.specs.TaskSet.{refusal_in}
+use mathlib.Core.Path.{refl}
 use Rattle.model.proofs.TraceLaws.{fault_task}
 use Rattle.model.proofs.CheckLaws.{faulty}
 use Rattle.releases.proofs.ReleaseLaws.{checking_none, checking_fault, checking_next, checking_all}
@@ -17,18 +17,17 @@ returns-then-tasks-at c =
     checking_fault _ _ _ _ _ _ _ _ _ c.loop-i.invariant c.loop-i-test.true
     (faulty _ 7 _ (fault_task _ _ _ _ (omega arith)))
 
-pub returns-in_default : goal.returns-in_default
-returns-in_default c =
-    rw c.in_default.is
-    (checking_fault _ _ _ _ _ _ _ _ _ c.loop-i.invariant
+pub returns-in_err-check_release : goal.returns-in_err-check_release
+returns-in_err-check_release c =
+    passed_on _ _ c.from_residual.ensures.1 (checking_fault _ _ _ _ _ _ _ _ _ c.loop-i.invariant
     c.loop-i-test.true
-    (sym (ap refusal_in c.in_default.is) ∙ c.check_release-k.ensures _ _ (omega arith) refl))
+    (c.in_err-check_release.ensures _ _ (omega arith) refl))
 
 pub loop-i-preserved : goal.loop-i-preserved
 loop-i-preserved c =
     checking_next _ _ _ _ _ _ _ _ c.loop-i.invariant
     c.loop-i-test.true
-    (sym (ap refusal_in c.in-Fine.is) ∙ c.check_release-k.ensures _ _ (omega arith) refl)
+    (c.in_ok-check_release.ensures _ _ (omega arith) refl)
 
 pub returns : goal.returns
 returns c = checking_all _ _ _ _ _ _ _ _ c.loop-i.invariant c.loop-i-test.false

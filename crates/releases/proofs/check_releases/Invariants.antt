@@ -1,11 +1,7 @@
 -- The loop has passed every release below i.
-use Prim.Native.Nat.{◌-◌}
 use Rattle.taskset.specs.TaskSet.{view_of}
 use Rattle.releases.proofs.ReleaseLaws.{Checking}
 use Rattle.releases.proofs.check_releases.Given as goal
 
 abbrev pub invariant-loop-i : goal.invariant-loop-i
 invariant-loop-i l = Checking (view_of l.s) l.since l.count l.task l.tick l.cost l.before l.i
-
-abbrev pub decreases-loop-i : goal.decreases-loop-i
-decreases-loop-i l = l.count - l.i

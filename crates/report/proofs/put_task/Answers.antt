@@ -3,11 +3,20 @@ use Rattle.report.proofs.put_task.Goals as goal
 
 pub returns : goal.returns
 returns c =
+    rw (
+      c.from.ensures,
+      c.from-2.ensures,
+      c.from-3.ensures,
+      c.from-4.ensures,
+      c.from-5.ensures,
+      c.from-6.ensures,
+      c.from-7.ensures,
+    ) at (
     task_line _ _ _ _ _ _ _ _ _ _ _ _ _ _ _ _ _ _ _ _ _ _ _
     c.put_field-a.ensures
     c.put_field-b.ensures
     c.put_field-c.ensures
     c.put_field-d.ensures
     c.put_field-e.ensures
-    c.put_field-f.ensures
-    c.put_field.ensures
+    c.put_field-f.ensures c.put_field.ensures
+    )

@@ -1,15 +1,8 @@
 -- The loop has written the lines of the first i tasks.
-use Prim.Native.Nat.{◌+◌, ◌-◌, ◌≤◌}
-use lib.ListN.{length}
 use Rattle.taskset.specs.TaskSet.{view_of}
 use Rattle.report.specs.Report.{choice_line}
 use Rattle.report.proofs.ReportLaws.{PutLines}
 use Rattle.report.proofs.put_tasks.Given as goal
 
 abbrev pub invariant-loop-i : goal.invariant-loop-i
-invariant-loop-i l =
-    (l.i ≤ l.count) × (l.from + 2464 ≤ length l.initial.out) × (l.count ≤ 32) × (l.count ≤ length l.kept) × (l.count ≤ length l.worst)
-    × PutLines (choice_line (view_of l.s) l.kept l.worst) 77 l.i l.initial.out l.from l.out l.at
-
-abbrev pub decreases-loop-i : goal.decreases-loop-i
-decreases-loop-i l = l.count - l.i
+invariant-loop-i l = PutLines (choice_line (view_of l.s) l.kept l.worst) 77 l.i l.initial.out l.from l.out l.at

@@ -6,4 +6,4 @@ pub returns : goal.returns
 returns c =
     board_made c.args.row.now _ _ _ _ _ _
     c.plan_from-plan.ensures c.frame_in-frame.ensures
-    c.number_at-low.ensures c.number_at-high.ensures c.wide.ensures c.wide-2.ensures
+    c.number_at-low.ensures c.number_at-high.ensures c.from.ensures c.from-2.ensures

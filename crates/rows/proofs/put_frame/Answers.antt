@@ -1,25 +1,14 @@
--- Three stores, and the windows.
-use native.Mathlib.Omega.{arith}
+-- The two cases.
 use mathlib.Core.Path.{ap, ◌∙◌}
-use lib.ListN.{length, length-set}
-use lib.Seq.{length-sets}
 use Rattle.frame.specs.FrameView.{frame_of}
-use Rattle.rows.specs.Rows.{frame_row}
-use Rattle.rows.proofs.RowLaws.{frame_blocks}
+use Rattle.rows.proofs.RowLaws.{count_there}
 use Rattle.rows.proofs.put_frame.Goals as goal
 
-pub bounds-row-228 : goal.bounds-row-228
-bounds-row-228 c = simp length-set (omega arith)
+pub put_some-requires : goal.put_some-requires
+put_some-requires c = (c.requires.0, count_there _ (λ g e. c.requires.1 g (ap frame_of c.in-Some.is ∙ e)))
 
-pub bounds-row-229 : goal.bounds-row-229
-bounds-row-229 c = simp length-set (omega arith)
+pub returns-in-None : goal.returns-in-None
+returns-in-None c = rw c.in-None.is c.put_none.ensures
 
-pub returns : goal.returns
-returns c =
-    frame_blocks c.args.f _ _ _ _ _ c.window_count-count.ensures.0 c.shown.ensures c.shown-2.ensures
-    c.put_windows.ensures
-
-pub shape_of-row : goal.shape_of-row
-shape_of-row c =
-    ap length (frame_blocks c.args.f _ _ _ _ _ c.window_count-count.ensures.0 c.shown.ensures c.shown-2.ensures
-    c.put_windows.ensures) ∙ length-sets c.args.row.now 227 (frame_row (frame_of c.args.f))
+pub returns-in-Some : goal.returns-in-Some
+returns-in-Some c = rw c.in-Some.is c.put_some.ensures

@@ -7,4 +7,4 @@ pub bounds-row-161 : goal.bounds-row-161
 bounds-row-161 c = simp length-set (omega arith)
 
 pub returns : goal.returns
-returns c = rw (c.wide_byte.ensures.0, c.scope_number.ensures)
+returns c = rw (c.from.ensures, c.scope_number.ensures)

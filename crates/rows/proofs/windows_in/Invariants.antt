@@ -1,11 +1,7 @@
 -- The loop has read the windows below k.
-use Prim.Native.Nat.{◌-◌}
 use Rattle.rows.specs.Rows.{window_in}
 use Rattle.rows.proofs.FillLaws.{Read}
 use Rattle.rows.proofs.windows_in.Given as goal
 
 abbrev pub invariant-loop-k : goal.invariant-loop-k
 invariant-loop-k l = Read (window_in l.row) 16 l.windows l.k
-
-abbrev pub decreases-loop-k : goal.decreases-loop-k
-decreases-loop-k l = 16 - l.k

@@ -2,42 +2,40 @@ use mathlib.Core.Path.{◌≡◌, refl, sym, ap, ◌∙◌}
 use mathlib.Core.Bool.{true, not}
 use native.Mathlib.Omega.{arith}
 use Rattle.model.specs.Frame.{ours_in}
-use Rattle.frame.specs.WindowColumns.{column_frame}
+use Rattle.frame.specs.WindowColumns.{frame_in}
 use Rattle.frame.proofs.ColumnLaws.{ours_absent}
 use Rattle.queues.specs.Queues.{jobs_of}
 use Rattle.queues.proofs.ColumnLaws.{timely}
 use Rattle.schedule.proofs.FinishFillLaws.{Top, fill_start, fill_sleep, fill_idle, some_soon, fill_off, fill_top, fill_run, fill_done, fill_end}
-use Rattle.schedule.proofs.fill_finish.Goals.{Joined-framed, Joined-framed-unread, then-framed+else-not-is_ours, else-framed}
+use Rattle.schedule.proofs.fill_finish.Goals.{Joined-supply, Joined-supply-unread, then-supply+else-not-is_ours, else-supply}
 use Rattle.schedule.proofs.fill_finish.Goals as goal
 
 -- the tick is ours: it was asked, or there is no frame
-ours : (c : Joined-framed) → ours_in ((column_frame c.args.framed c.args.ticks c.args.windows c.args.first.now c.args.size.now)) c.loop-t.t ≡ true
+ours : (c : Joined-supply) → ours_in (frame_in c.args.supply.now) c.loop-t.t ≡ true
 ours c =
-    let a = c.args in
-    elim c.if-framed.branch [
-      | then-framed+else-not-is_ours w ↦ sym w.is_ours.ensures ∙ w.if-not-is_ours.false
-      | else-framed w ↦ ours_absent a.framed a.ticks a.windows a.first.now a.size.now (ap not w.if-framed.false) c.loop-t.t
+    elim c.if-supply.branch [
+      | then-supply+else-not-is_ours w ↦ sym w.is_ours.ensures ∙ w.if-not-is_ours.false
+      | else-supply w ↦ ours_absent _ _ _ _ _ (ap not w.if-supply.false) c.loop-t.t
     ]
 
 -- which job runs
-top : (c : Joined-framed)
+top : (c : Joined-supply)
     → let a = c.args in
-    Top (jobs_of ((column_frame c.args.framed c.args.ticks c.args.windows c.args.first.now c.args.size.now)) a.n a.task.now a.cost.now a.charge a.ready.now) a.tasks c.loop-t.t c.loop-t.head c.loop-t.left
+    Top (jobs_of (frame_in c.args.supply.now) a.n a.task.now a.cost.now a.charge a.ready.now) a.tasks c.loop-t.t c.loop-t.head c.loop-t.left
     c.top_ready-i.result
 top c = fill_top _ _ _ _ _ _ _ _ c.loop-t.invariant.can _ _ _ _ _ c.loop-t.invariant.state _ c.top_ready-i.ensures c.if-i-tasks.false (ours c)
 
 -- the same before the column is read
-ours_unread : (c : Joined-framed-unread) → ours_in ((column_frame c.args.framed c.args.ticks c.args.windows c.args.first.now c.args.size.now)) c.loop-t.t ≡ true
+ours_unread : (c : Joined-supply-unread) → ours_in (frame_in c.args.supply.now) c.loop-t.t ≡ true
 ours_unread c =
-    let a = c.args in
-    elim c.if-framed.branch [
-      | then-framed+else-not-is_ours v ↦ sym v.is_ours.ensures ∙ v.if-not-is_ours.false
-      | else-framed v ↦ ours_absent a.framed a.ticks a.windows a.first.now a.size.now (ap not v.if-framed.false) c.loop-t.t
+    elim c.if-supply.branch [
+      | then-supply+else-not-is_ours v ↦ sym v.is_ours.ensures ∙ v.if-not-is_ours.false
+      | else-supply v ↦ ours_absent _ _ _ _ _ (ap not v.if-supply.false) c.loop-t.t
     ]
 
-top_unread : (c : Joined-framed-unread)
+top_unread : (c : Joined-supply-unread)
     → let a = c.args in
-    Top (jobs_of ((column_frame c.args.framed c.args.ticks c.args.windows c.args.first.now c.args.size.now)) a.n a.task.now a.cost.now a.charge a.ready.now) a.tasks c.loop-t.t c.loop-t.head c.loop-t.left
+    Top (jobs_of (frame_in c.args.supply.now) a.n a.task.now a.cost.now a.charge a.ready.now) a.tasks c.loop-t.t c.loop-t.head c.loop-t.left
     c.top_ready-i.result
 top_unread c = fill_top _ _ _ _ _ _ _ _ c.loop-t.invariant.can _ _ _ _ _ c.loop-t.invariant.state _ c.top_ready-i.ensures c.if-i-tasks.false (ours_unread c)
 
@@ -105,8 +103,7 @@ overflow_add-t-then-not-is_ours c = omega (arith, some_soon _ _ _ _ _ _ _ _ c.lo
 pub loop-t-preserved-then-not-is_ours : goal.loop-t-preserved-then-not-is_ours
 loop-t-preserved-then-not-is_ours c =
     fill_off _ _ _ _ _ _ _ _ c.loop-t.invariant.can _ _ _ _ _ c.loop-t.invariant.state _ c.top_ready-i.ensures c.if-i-tasks.false
-    c.if-t-wake.false
-    (sym c.is_ours.ensures ∙ c.if-not-is_ours.true)
+    c.if-t-wake.false (sym c.is_ours.ensures ∙ c.if-not-is_ours.true)
 
 pub loop-t-smaller-then-not-is_ours : goal.loop-t-smaller-then-not-is_ours
 loop-t-smaller-then-not-is_ours c =
@@ -130,17 +127,17 @@ pub overflow_add-t-in-loop-t : goal.overflow_add-t-in-loop-t
 overflow_add-t-in-loop-t c = omega (arith, top c)
 
 pub offset_bounds-left-i-then-rest-ne0 : goal.offset_bounds-left-i-then-rest-ne0
-offset_bounds-left-i-then-rest-ne0 c = omega (arith, top (goal.at.offset_bounds-left-i-then-rest-ne0 c).Joined-framed)
+offset_bounds-left-i-then-rest-ne0 c = omega (arith, top (goal.at.offset_bounds-left-i-then-rest-ne0 c).Joined-supply)
 
 pub bounds-left-i-then-rest-ne0 : goal.bounds-left-i-then-rest-ne0
-bounds-left-i-then-rest-ne0 c = omega (arith, top (goal.at.bounds-left-i-then-rest-ne0 c).Joined-framed)
+bounds-left-i-then-rest-ne0 c = omega (arith, top (goal.at.bounds-left-i-then-rest-ne0 c).Joined-supply)
 
 pub loop-t-preserved-then-rest-ne0 : goal.loop-t-preserved-then-rest-ne0
 loop-t-preserved-then-rest-ne0 c =
     fill_run _ _ _ _ _ _ _ _ c.loop-t.invariant.can _ _ _ _ _ c.loop-t.invariant.state
     _
     _
-    (top (goal.at.loop-t-preserved-then-rest-ne0 c).Joined-framed)
+    (top (goal.at.loop-t-preserved-then-rest-ne0 c).Joined-supply)
     c.if-t-wake.false
     refl
     c.if-rest-ne0.true
@@ -152,47 +149,47 @@ loop-t-smaller-then-rest-ne0 c =
       (fill_run _ _ _ _ _ _ _ _ c.loop-t.invariant.can _ _ _ _ _ c.loop-t.invariant.state
           _
           _
-          (top (goal.at.loop-t-smaller-then-rest-ne0 c).Joined-framed)
+          (top (goal.at.loop-t-smaller-then-rest-ne0 c).Joined-supply)
           c.if-t-wake.false
           refl
           c.if-rest-ne0.true).state.time,
     )
 
 pub offset_bounds-head-i : goal.offset_bounds-head-i
-offset_bounds-head-i c = omega (arith, top (goal.at.offset_bounds-head-i c).Joined-framed)
+offset_bounds-head-i c = omega (arith, top (goal.at.offset_bounds-head-i c).Joined-supply)
 
 pub bounds-head-i : goal.bounds-head-i
-bounds-head-i c = omega (arith, top (goal.at.bounds-head-i c).Joined-framed)
+bounds-head-i c = omega (arith, top (goal.at.bounds-head-i c).Joined-supply)
 
 pub offset_bounds-finish-p : goal.offset_bounds-finish-p
-offset_bounds-finish-p c = omega (arith, top (goal.at.offset_bounds-finish-p c).Joined-framed)
+offset_bounds-finish-p c = omega (arith, top (goal.at.offset_bounds-finish-p c).Joined-supply)
 
 pub bounds-finish-p : goal.bounds-finish-p
-bounds-finish-p c = omega (arith, top (goal.at.bounds-finish-p c).Joined-framed, c.loop-t.invariant.state.written)
+bounds-finish-p c = omega (arith, top (goal.at.bounds-finish-p c).Joined-supply, c.loop-t.invariant.state.written)
 
 pub overflow_cast-i : goal.overflow_cast-i
-overflow_cast-i c = omega (arith, top (goal.at.overflow_cast-i c).Joined-framed)
+overflow_cast-i c = omega (arith, top (goal.at.overflow_cast-i c).Joined-supply)
 
 pub overflow_add-p : goal.overflow_add-p
-overflow_add-p c = omega (arith, top (goal.at.overflow_add-p c).Joined-framed)
+overflow_add-p c = omega (arith, top (goal.at.overflow_add-p c).Joined-supply)
 
 pub next_of-next-requires : goal.next_of-next-requires
-next_of-next-requires c = omega (arith, top (goal.at.next_of-next-requires c).Joined-framed)
+next_of-next-requires c = omega (arith, top (goal.at.next_of-next-requires c).Joined-supply)
 
 pub offset_bounds-head-i-in-loop-t : goal.offset_bounds-head-i-in-loop-t
-offset_bounds-head-i-in-loop-t c = omega (arith, top (goal.at.offset_bounds-head-i-in-loop-t c).Joined-framed)
+offset_bounds-head-i-in-loop-t c = omega (arith, top (goal.at.offset_bounds-head-i-in-loop-t c).Joined-supply)
 
 pub bounds-head-i-in-loop-t : goal.bounds-head-i-in-loop-t
-bounds-head-i-in-loop-t c = omega (arith, top (goal.at.bounds-head-i-in-loop-t c).Joined-framed)
+bounds-head-i-in-loop-t c = omega (arith, top (goal.at.bounds-head-i-in-loop-t c).Joined-supply)
 
 pub work_of-requires : goal.work_of-requires
 work_of-requires c = c.loop-t.invariant.can.workable
 
 pub offset_bounds-left-i-in-loop-t : goal.offset_bounds-left-i-in-loop-t
-offset_bounds-left-i-in-loop-t c = omega (arith, top (goal.at.offset_bounds-left-i-in-loop-t c).Joined-framed)
+offset_bounds-left-i-in-loop-t c = omega (arith, top (goal.at.offset_bounds-left-i-in-loop-t c).Joined-supply)
 
 pub bounds-left-i-in-loop-t : goal.bounds-left-i-in-loop-t
-bounds-left-i-in-loop-t c = omega (arith, top (goal.at.bounds-left-i-in-loop-t c).Joined-framed)
+bounds-left-i-in-loop-t c = omega (arith, top (goal.at.bounds-left-i-in-loop-t c).Joined-supply)
 
 pub loop-t-preserved : goal.loop-t-preserved
 loop-t-preserved c =
@@ -201,7 +198,7 @@ loop-t-preserved c =
     _
     _
     _
-    (top (goal.at.loop-t-preserved c).Joined-framed)
+    (top (goal.at.loop-t-preserved c).Joined-supply)
     c.if-t-wake.false
     refl
     c.if-rest-ne0.false
@@ -217,7 +214,7 @@ loop-t-smaller c =
           _
           _
           _
-          (top (goal.at.loop-t-smaller c).Joined-framed)
+          (top (goal.at.loop-t-smaller c).Joined-supply)
           c.if-t-wake.false
           refl
           c.if-rest-ne0.false

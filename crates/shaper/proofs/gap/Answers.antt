@@ -9,9 +9,9 @@ use Rattle.shaper.proofs.gap.Goals as goal
 product_fits : (a b : ℕ) → a < 4294967296 → b < 4294967296 → a * b < 18446744073709551616
 product_fits a b l g = omega (arith, mul-le-mul {n₁ = a} {m₁ = b} {n₂ = 4294967295} {m₂ = 4294967295} (omega arith) (omega arith))
 
-pub overflow_mul-wide : goal.overflow_mul-wide
-overflow_mul-wide c = omega (arith, product_fits c.wide.result c.wide-2.result (omega arith) (omega arith))
+pub overflow_mul-from : goal.overflow_mul-from
+overflow_mul-from c = omega (arith, product_fits c.from.result c.from-2.result (omega arith) (omega arith))
 
 pub returns : goal.returns
 unfolding gap
-returns c = c.less.ensures ∙ ap₂ ◌-◌ (ap₂ ◌*◌ c.wide.ensures c.wide-2.ensures) c.wide-3.ensures
+returns c = c.saturating_sub.ensures ∙ ap₂ ◌-◌ (ap₂ ◌*◌ c.from.ensures c.from-2.ensures) c.from-3.ensures

@@ -12,4 +12,4 @@ overflow_mul-result c =
     )
 
 pub returns : goal.returns
-returns c = rw (c.timing_of-first.ensures, c.timing_of-second.ensures, c.timing_of-third.ensures)
+returns c = rw (c.timing_of.ensures, c.timing_of-2.ensures, c.timing_of-3.ensures)

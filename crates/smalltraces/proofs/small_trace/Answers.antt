@@ -1,7 +1,6 @@
 -- The search, then the columns, then the rows are written to them.
-use mathlib.Core.Path.{sym, ap, ◌∙◌}
+use Rattle.refusal.proofs.PassedOn.{passed}
 use native.Mathlib.Omega.{arith}
-use Rattle.taskset.specs.TaskSet.{refusal_in}
 use Rattle.releases.proofs.ReleaseLaws.{columns_of}
 use Rattle.smalltraces.proofs.SmallEndLaws.{
   call_refused,
@@ -18,42 +17,44 @@ use Rattle.smalltraces.proofs.SmallEndLaws.{
 }
 use Rattle.smalltraces.proofs.small_trace.Goals as goal
 
-pub returns-in-Refused-room : goal.returns-in-Refused-room
-returns-in-Refused-room c =
-    ends_refused _ _ _ _ _ _
-    (call_short _ _ _ _ _ _ _ _ (found_trace _ _ _ _ _ (rw c.in-Trace.is at c.find-got.ensures)) _
-    (sym (ap refusal_in c.in-Refused-room.is) ∙ c.check_columns-room.ensures))
+pub returns-in_err-found : goal.returns-in_err-found
+returns-in_err-found c =
+    rw (passed _ _ c.from_residual.ensures.1)
+    (ends_refused _ _ _ _ _ (call_refused _ _ _ _ _ _ _ _ (found_refused _ _ _ _ _ c.in_err-found.ensures)))
+
+pub returns-in_default : goal.returns-in_default
+returns-in_default c = ends_past _ _ _ _ (call_past _ _ _ _ _ _ _ (found_past _ _ _ _ (rw c.in_default.is at c.in_ok-found.ensures)))
+
+pub returns-in_err-check_columns : goal.returns-in_err-check_columns
+returns-in_err-check_columns c =
+    rw (passed _ _ c.from_residual-in_err-check_columns.ensures.1)
+    (ends_refused _ _ _ _ _
+    (call_short _ _ _ _ _ _ _ _ (found_trace _ _ _ _ _ (rw c.in-Some.is at c.in_ok-found.ensures)) _ c.in_err-check_columns.ensures))
 
 pub put_rows-requires : goal.put_rows-requires
 put_rows-requires c = (
-  found_columns _ _ _ _ _ (rw c.in-Trace.is at c.find-got.ensures)
+  found_columns _ _ _ _ _ (rw c.in-Some.is at c.in_ok-found.ensures)
       (record {
-        task_long = omega (arith, c.find-got.auto.task);
-        tick_long = omega (arith, c.find-got.auto.tick);
-        cost_long = omega (arith, c.find-got.auto.cost);
+        task_long = omega (arith, c.find.auto.task);
+        tick_long = omega (arith, c.find.auto.tick);
+        cost_long = omega (arith, c.find.auto.cost);
       }),
-  columns_of _ _ _ _ (sym (ap refusal_in c.in_default.is) ∙ c.check_columns-room.ensures),
+  columns_of _ _ _ _ c.in_ok-check_columns.ensures,
 )
 
-pub returns-in-Refused : goal.returns-in-Refused
-returns-in-Refused c = ends_refused _ _ _ _ _ _ (call_refused _ _ _ _ _ _ _ _ (found_refused _ _ _ _ _ _ (rw c.in-Refused.is at c.find-got.ensures)))
-
-pub returns-in-Past : goal.returns-in-Past
-returns-in-Past c = ends_past _ _ _ _ (call_past _ _ _ _ _ _ _ (found_past _ _ _ _ (rw c.in-Past.is at c.find-got.ensures)))
-
-pub returns-in_default : goal.returns-in_default
-returns-in_default c =
-    let h = found_trace _ _ _ _ _ (rw c.in-Trace.is at c.find-got.ensures) in
-    ends_trace _ _ _ _ _ _ _ _ _ _ _ h.trace h.long (c.find-got.ensures.rows _ h.is)
-    (found_columns _ _ _ _ _ (rw c.in-Trace.is at c.find-got.ensures)
+pub returns : goal.returns
+returns c =
+    let h = found_trace _ _ _ _ _ (rw c.in-Some.is at c.in_ok-found.ensures) in
+    ends_trace _ _ _ _ _ _ _ _ _ _ _ h.trace h.long (c.find.ensures.rows _ h.is)
+    (found_columns _ _ _ _ _ (rw c.in-Some.is at c.in_ok-found.ensures)
     (record {
-      task_long = omega (arith, c.find-got.auto.task);
-      tick_long = omega (arith, c.find-got.auto.tick);
-      cost_long = omega (arith, c.find-got.auto.cost);
+      task_long = omega (arith, c.find.auto.task);
+      tick_long = omega (arith, c.find.auto.tick);
+      cost_long = omega (arith, c.find.auto.cost);
     }))
     (record {
       task_put = c.put_rows.ensures.task_column;
       tick_put = c.put_rows.ensures.tick_column;
       cost_put = c.put_rows.ensures.cost_column;
     })
-    (call_trace _ _ _ _ _ _ _ _ h (sym (ap refusal_in c.in_default.is) ∙ c.check_columns-room.ensures))
+    (call_trace _ _ _ _ _ _ _ _ h c.in_ok-check_columns.ensures)

@@ -1,5 +1,5 @@
 -- The loop has passed every task below i: nothing is wrong with any of them.
-use Prim.Native.Nat.{◌≤◌, ◌-◌}
+use Prim.Native.Nat.{◌≤◌}
 use Rattle.model.proofs.SearchLaws.{Sought}
 use Rattle.model.proofs.CheckLaws.{wrong}
 use Rattle.taskset.specs.TaskSet.{view_of}
@@ -7,6 +7,3 @@ use Rattle.taskset.proofs.check.Given as goal
 
 abbrev pub invariant-loop-i : goal.invariant-loop-i
 invariant-loop-i l = (1 ≤ l.count) × (l.count ≤ 32) × Sought (wrong (view_of l.s)) l.count l.i
-
-abbrev pub decreases-loop-i : goal.decreases-loop-i
-decreases-loop-i l = l.count - l.i

@@ -1,5 +1,4 @@
 -- The loop has passed every task below i: each has K ≤ J.
-use Prim.Native.Nat.{◌-◌}
 use Rattle.model.specs.Choice.{column}
 use Rattle.model.proofs.SearchLaws.{Sought}
 use Rattle.model.proofs.CheckLaws.{over}
@@ -8,6 +7,3 @@ use Rattle.taskset.proofs.check_kept.Given as goal
 
 abbrev pub invariant-loop-i : goal.invariant-loop-i
 invariant-loop-i l = Sought (over (view_of l.s) (column l.kept)) l.count l.i
-
-abbrev pub decreases-loop-i : goal.decreases-loop-i
-decreases-loop-i l = l.count - l.i

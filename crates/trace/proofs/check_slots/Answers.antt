@@ -1,6 +1,5 @@
 -- The slices in document 01's order: the column by task, then those by release.
-use mathlib.Core.Path.{sym, ap, ◌∙◌}
-use Rattle.taskset.specs.TaskSet.{refusal_in}
+use Rattle.refusal.proofs.PassedOn.{passed_on}
 use Rattle.trace.proofs.ListCallLaws.{lent_kept, lent_columns, lent_short, lent_fine}
 use Rattle.trace.proofs.check_slots.Goals as goal
 
@@ -9,22 +8,20 @@ returns-then-kept-tasks c =
     let a = c.args in lent_kept a.tasks a.kept.now a.count a.task.now a.tick.now a.cost.now a.slots
     c.if-kept-tasks.true
 
-pub returns-in_default : goal.returns-in_default
-returns-in_default c =
+pub returns-in_err-check_columns : goal.returns-in_err-check_columns
+returns-in_err-check_columns c =
     let a = c.args in
-    rw c.in_default.is (lent_columns a.tasks a.kept.now a.count a.task.now a.tick.now a.cost.now a.slots
-    c.if-kept-tasks.false _ (sym (ap refusal_in c.in_default.is) ∙ c.check_columns-columns.ensures))
+    passed_on _ _ c.from_residual.ensures.1 (lent_columns a.tasks a.kept.now a.count a.task.now a.tick.now a.cost.now a.slots
+    c.if-kept-tasks.false _ c.in_err-check_columns.ensures)
 
 pub returns-then-slots-count : goal.returns-then-slots-count
 returns-then-slots-count c =
     let a = c.args in
     lent_short a.tasks a.kept.now a.count a.task.now a.tick.now a.cost.now a.slots
-    c.if-kept-tasks.false (sym (ap refusal_in c.in-Fine.is) ∙ c.check_columns-columns.ensures)
-    c.if-slots-count.true
+    c.if-kept-tasks.false c.in_ok-check_columns.ensures c.if-slots-count.true
 
 pub returns : goal.returns
 returns c =
     let a = c.args in
     lent_fine a.tasks a.kept.now a.count a.task.now a.tick.now a.cost.now a.slots
-    c.if-kept-tasks.false (sym (ap refusal_in c.in-Fine.is) ∙ c.check_columns-columns.ensures)
-    c.if-slots-count.false
+    c.if-kept-tasks.false c.in_ok-check_columns.ensures c.if-slots-count.false

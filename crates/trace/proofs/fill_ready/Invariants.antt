@@ -1,5 +1,4 @@
 -- The loop has written the ready ticks of every release before p.
-use Prim.Native.Nat.{◌-◌}
 use mathlib.Core.List.{[]}
 use Rattle.model.specs.Tasks.{Tasks}
 use Rattle.model.specs.Choice.{column}
@@ -13,6 +12,3 @@ abbrev pub invariant-loop-p : goal.invariant-loop-p
 invariant-loop-p l =
     (s : Tasks) → Shapable s l.count l.task l.tick → Standing s.period (column l.kept) (λ i. []) s.count l.initial.all.of → Filling s (column l.kept) l.count l.task l.tick l.initial.ready
     l.all.of l.ready l.p
-
-abbrev pub decreases-loop-p : goal.decreases-loop-p
-decreases-loop-p l = l.count - l.p

@@ -32,7 +32,7 @@ pub loop-p-init : goal.loop-p-init
 loop-p-init c = λ s w st. tracing_none s _ _ _ _ st
 
 pub overflow_cast-i : goal.overflow_cast-i
-overflow_cast-i c = omega (arith, c.shared_slice_known-in-loop-p-1.given c.loop-p.p)
+overflow_cast-i c = omega (arith, c.type_inv.task c.loop-p.p)
 
 pub offset_bounds-all-i : goal.offset_bounds-all-i
 offset_bounds-all-i c = omega (arith, placed (goal.at.offset_bounds-all-i c).In-loop-p)

@@ -17,13 +17,10 @@ offset_bounds-all-i c = omega (arith, c.requires)
 pub bounds-all-i : goal.bounds-all-i
 bounds-all-i c = omega (arith, c.requires)
 
-pub overflow_add-i : goal.overflow_add-i
-overflow_add-i c = omega (arith, c.requires)
-
 pub loop-i-preserved : goal.loop-i-preserved
 loop-i-preserved c = (
   omega arith,
-  standing_more _ _ _ _ _ c.loop-i.invariant.1 (omega (arith, c.requires)) c.new-new.ensures,
+  standing_more _ _ _ _ _ c.loop-i.invariant.1 (omega (arith, c.requires)) c.new.ensures,
 )
 
 pub returns : goal.returns

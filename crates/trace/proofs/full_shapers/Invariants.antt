@@ -1,5 +1,5 @@
 -- The loop has made the shapers of every task before i.
-use Prim.Native.Nat.{◌-◌, ◌≤◌}
+use Prim.Native.Nat.{◌≤◌}
 use mathlib.Core.List.{[]}
 use Rattle.taskset.specs.TaskSet.{view_of}
 use Rattle.trace.specs.Standing.{Standing}
@@ -7,6 +7,3 @@ use Rattle.trace.proofs.full_shapers.Given as goal
 
 abbrev pub invariant-loop-i : goal.invariant-loop-i
 invariant-loop-i l = (l.i ≤ l.count) × Standing (view_of l.s).period (view_of l.s).jitter (λ j. []) l.i l.all.of
-
-abbrev pub decreases-loop-i : goal.decreases-loop-i
-decreases-loop-i l = l.count - l.i

@@ -1,5 +1,5 @@
 -- The loop has made the shapers of every task before i.
-use Prim.Native.Nat.{◌-◌, ◌≤◌}
+use Prim.Native.Nat.{◌≤◌}
 use mathlib.Core.List.{[]}
 use Rattle.model.specs.Choice.{column}
 use Rattle.taskset.specs.TaskSet.{view_of}
@@ -8,6 +8,3 @@ use Rattle.trace.proofs.kept_shapers.Given as goal
 
 abbrev pub invariant-loop-i : goal.invariant-loop-i
 invariant-loop-i l = (l.i ≤ l.count) × Standing (view_of l.s).period (column l.kept) (λ j. []) l.i l.all.of
-
-abbrev pub decreases-loop-i : goal.decreases-loop-i
-decreases-loop-i l = l.count - l.i

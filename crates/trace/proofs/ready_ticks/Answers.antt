@@ -4,7 +4,8 @@ use mathlib.Core.Path.{◌≡◌, ap, ◌∙◌}
 use native.Mathlib.Omega.{arith}
 use lib.ListN.{length}
 use Rattle.model.specs.Checks.{refusal_of}
-use Rattle.taskset.specs.TaskSet.{view_of, refusal_in}
+use Rattle.taskset.specs.TaskSet.{view_of}
+use Rattle.refusal.specs.Refusal.{refusal_in}
 use Rattle.trace.specs.TraceCalls.{call_inputs}
 use Rattle.model.proofs.OrderLaws.{column_by}
 use Rattle.trace.proofs.ready_ticks.Goals.{After-check_and_shape}

@@ -1,10 +1,6 @@
 -- The loop has brought the jobs before i.
-use Prim.Native.Nat.{◌-◌}
 use Rattle.vectors_monitor.proofs.CallLaws.{Brought}
 use Rattle.vectors_monitor.proofs.take_calls.Given as goal
 
 abbrev pub invariant-loop-i : goal.invariant-loop-i
 invariant-loop-i l = Brought l.initial.window l.task l.response l.window l.i
-
-abbrev pub decreases-loop-i : goal.decreases-loop-i
-decreases-loop-i l = l.n - l.i

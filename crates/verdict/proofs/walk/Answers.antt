@@ -3,7 +3,6 @@ use mathlib.Core.Path.{◌≡◌, sym, ap, ap₂, ◌∙◌}
 use mathlib.Core.Option.{some}
 use native.Mathlib.Omega.{arith}
 use lib.ListN.{get_or}
-use Rattle.model.specs.Refusal.{answered}
 use Rattle.model.specs.Choice.{column}
 use Rattle.model.specs.Demand.{window}
 use Rattle.model.specs.Evaluations.{counted_at}
@@ -11,102 +10,93 @@ use Rattle.model.specs.Frame as model
 use Rattle.model.proofs.FrameLaws.{Ruled}
 use Rattle.frame.specs.Starts.{starts_of, start_at}
 use Rattle.frame.specs.Reached.{Reached}
-use Rattle.frame.specs.WindowColumns.{column_frame}
+use Rattle.frame.specs.WindowColumns.{frame_in}
 use Rattle.frame.proofs.ColumnLaws.{ruled_columns}
-use Rattle.demand.specs.Columns.{flat_tasks}
-use Rattle.demand.specs.Seeking.{Counts, tally_of}
+use Rattle.demand.specs.Seeking.{Counts}
+use Rattle.demand.proofs.FlatColumnLaws.{loads_of}
 use Rattle.demand.proofs.SeekLaws.{some_start}
-use Rattle.demand.proofs.SeekColumnLaws.{periodic, own_load, own_high, seek_start, seek_next, seek_turn, seek_found, found_counted, seek_over, over_counted, counts_of, counts_by, tally_high}
+use Rattle.demand.proofs.SeekColumnLaws.{periodic, own_load, own_high, seek_start, seek_next, seek_turn, seek_found, found_counted, seek_over, over_counted, tally_high}
+use Rattle.verdict.specs.Walking.{tasks_in}
 use Rattle.verdict.proofs.VerdictWalkLaws.{walk_start, says_horizon, says_late, says_fits, walk_on}
-use Rattle.verdict.proofs.WalkableLaws.{met_at}
-use Rattle.verdict.proofs.walk.Goals.{Start, After-wide-in-walk, At-walk, After-reach_from-x, Then-starts-n}
+use Rattle.verdict.proofs.WalkableLaws.{counts_in, met_at}
+use Rattle.verdict.proofs.walk.Goals.{Start, After-from-in-walk, At-walk, After-reach_from-x, Then-starts-n}
 use Rattle.verdict.proofs.walk.Goals as goal
 
 -- its frame is within the rules
-ruled : (c : Start) → Ruled ((column_frame c.args.framed c.args.ticks c.args.count c.args.first.now c.args.size.now))
+ruled : (c : Start) → Ruled (frame_in c.args.supply.now)
 ruled c = ruled_columns _ _ _ _ _ c.requires.supplies.columns
 
 -- (q + 1) × E
-own_is : (c : After-wide-in-walk)
-    → c.wide.result * c.wide-in-walk.result
-    ≡ (c.walk.q + 1) * get_or c.args.loads.now c.args.task 0
-own_is c = ap₂ ◌*◌ c.wide.ensures c.wide-in-walk.ensures
+own_is : (c : After-from-in-walk)
+    → c.from.result * c.from-in-walk.result
+    ≡ (c.walk.q + 1) * get_or c.args.columns.now.loads c.args.task 0
+own_is c = ap₂ ◌*◌ c.from.ensures c.from-in-walk.ensures
 
 -- it stays far below 64 bits
-own_small : (c : After-wide-in-walk) → c.wide.result * c.wide-in-walk.result ≤ 10000001000000
+own_small : (c : After-from-in-walk) → c.from.result * c.from-in-walk.result ≤ 10000001000000
 own_small c =
-    own_high ((column_frame c.args.framed c.args.ticks c.args.count c.args.first.now c.args.size.now)) _ _ _ _ 0 0 c.requires.walkable.search ((ruled_columns _ _ _ _ _ c.requires.supplies.columns)) _ _
+    own_high (frame_in c.args.supply.now) _ _ _ _ 0 0 c.requires.walkable.search (ruled_columns _ _ _ _ _ c.requires.supplies.columns) _ _
     c.walk.invariant.q_high
     (own_is c)
 
 -- the starts are those of the frame
-starts_are : (c : At-walk) → c.starts_of-starts.result ≡ starts_of ((column_frame c.args.framed c.args.ticks c.args.count c.args.first.now c.args.size.now))
-starts_are c = c.starts_of-starts.ensures c.args.ticks c.args.first.now c.args.size.now
+starts_are : (c : At-walk) → c.starts-starts.result ≡ starts_of (frame_in c.args.supply.now)
+starts_are c = c.starts-starts.ensures
 
 -- how much a number that is tried counts
-counts : (c : At-walk) → Counts ((flat_tasks ((column_frame c.args.framed c.args.ticks c.args.count c.args.first.now c.args.size.now)) c.args.loads.now c.args.periods.now c.args.jitter c.args.deadline)) c.tally_of-tally.result
-counts c =
-    let given = c.args in
-    counts_by ((flat_tasks ((column_frame c.args.framed c.args.ticks c.args.count c.args.first.now c.args.size.now)) c.args.loads.now c.args.periods.now c.args.jitter c.args.deadline)) (tally_of given.framed) _
-    (counts_of given.framed given.ticks given.count given.first.now given.size.now given.loads.now given.periods.now given.jitter given.deadline)
-    c.tally_of-tally.ensures
+counts : (c : At-walk) → Counts (tasks_in c.args.supply.now c.args.columns.now c.args.jitter c.args.deadline) c.tally_of-tally.result
+counts c = counts_in c.args.supply.now c.args.columns.now c.args.jitter c.args.deadline _ c.tally_of-tally.ensures
 
 -- the number of ticks that the demand just found takes from the start on
 reached : (c : After-reach_from-x)
-    → Reached (model.ours_in ((column_frame c.args.framed c.args.ticks c.args.count c.args.first.now c.args.size.now)))
-    (start_at ((column_frame c.args.framed c.args.ticks c.args.count c.args.first.now c.args.size.now)) c.find.n)
-    (c.wide.result * c.wide-in-walk.result + c.above_load.result)
+    → Reached (model.ours_in (frame_in c.args.supply.now))
+    (start_at (frame_in c.args.supply.now) c.find.n)
+    (c.from.result * c.from-in-walk.result + c.above_load.result)
     c.reach_from-x.result
 reached c = rw c.find.invariant.2 at c.reach_from-x.ensures.reached
 
 -- the largest over the starts is W(q)
 found : (c : Then-starts-n)
-    → window ((flat_tasks ((column_frame c.args.framed c.args.ticks c.args.count c.args.first.now c.args.size.now)) c.args.loads.now c.args.periods.now c.args.jitter c.args.deadline)) (column c.args.keeps.now) c.args.task c.walk.q ≡ some c.larger-w.result
+    → window (tasks_in c.args.supply.now c.args.columns.now c.args.jitter c.args.deadline) (column c.args.keeps.now) c.args.task c.walk.q ≡ some c.max-w.result
 found c =
-    seek_found ((column_frame c.args.framed c.args.ticks c.args.count c.args.first.now c.args.size.now)) _ _ _ _ _ _ c.requires.walkable.search ((ruled_columns _ _ _ _ _ c.requires.supplies.columns)) _ _ c.walk.invariant.q_high
-    ((ap₂ ◌*◌ c.wide.ensures c.wide-in-walk.ensures)) _
+    seek_found (frame_in c.args.supply.now) _ _ _ _ _ _ c.requires.walkable.search (ruled_columns _ _ _ _ _ c.requires.supplies.columns) _ _ c.walk.invariant.q_high
+    (ap₂ ◌*◌ c.from.ensures c.from-in-walk.ensures) _
     c.once_each-once.ensures _ _ _ _ _ _ _
     c.find.invariant.0.search
-    ((let given = c.args in
-    counts_by ((flat_tasks ((column_frame c.args.framed c.args.ticks c.args.count c.args.first.now c.args.size.now)) c.args.loads.now c.args.periods.now c.args.jitter c.args.deadline)) (tally_of given.framed) _
-    (counts_of given.framed given.ticks given.count given.first.now given.size.now given.loads.now given.periods.now given.jitter given.deadline)
-    c.tally_of-tally.ensures))
+    (counts_in c.args.supply.now c.args.columns.now c.args.jitter c.args.deadline _ c.tally_of-tally.ensures)
     c.above_load.ensures
     c.if-t-gt10000000.false
-    ((rw c.find.invariant.2 at c.reach_from-x.ensures.reached))
+    (rw c.find.invariant.2 at c.reach_from-x.ensures.reached)
     c.if-t-x.false
-    (omega (arith, c.if-starts-n.true, (c.starts_of-starts.ensures c.args.ticks c.args.first.now c.args.size.now)))
-    ∙ ap some (sym c.larger-w.ensures)
+    (omega (arith, c.if-starts-n.true, c.starts-starts.ensures))
+    ∙ ap some (sym c.max-w.ensures)
 
 -- what has counted for it
 counted : (c : Then-starts-n)
     → c.find.evaluations + c.tally_of-tally.result
     ≡ c.walk.evaluations
-    + counted_at ((flat_tasks ((column_frame c.args.framed c.args.ticks c.args.count c.args.first.now c.args.size.now)) c.args.loads.now c.args.periods.now c.args.jitter c.args.deadline)) (column c.args.keeps.now) c.args.task c.walk.q
+    + counted_at (tasks_in c.args.supply.now c.args.columns.now c.args.jitter c.args.deadline) (column c.args.keeps.now) c.args.task c.walk.q
 counted c =
     omega (
       arith,
       c.find.invariant.0.counted,
-      found_counted ((column_frame c.args.framed c.args.ticks c.args.count c.args.first.now c.args.size.now)) _ _ _ _ _ _ c.requires.walkable.search ((ruled_columns _ _ _ _ _ c.requires.supplies.columns)) _ _ c.walk.invariant.q_high
-          ((ap₂ ◌*◌ c.wide.ensures c.wide-in-walk.ensures)) _
+      found_counted (frame_in c.args.supply.now) _ _ _ _ _ _ c.requires.walkable.search (ruled_columns _ _ _ _ _ c.requires.supplies.columns) _ _ c.walk.invariant.q_high
+          (ap₂ ◌*◌ c.from.ensures c.from-in-walk.ensures) _
           c.once_each-once.ensures _ _ _ _ _ _ _
           c.find.invariant.0.search
-          ((let given = c.args in
-          counts_by ((flat_tasks ((column_frame c.args.framed c.args.ticks c.args.count c.args.first.now c.args.size.now)) c.args.loads.now c.args.periods.now c.args.jitter c.args.deadline)) (tally_of given.framed) _
-          (counts_of given.framed given.ticks given.count given.first.now given.size.now given.loads.now given.periods.now given.jitter given.deadline)
-          c.tally_of-tally.ensures))
+          (counts_in c.args.supply.now c.args.columns.now c.args.jitter c.args.deadline _ c.tally_of-tally.ensures)
           c.above_load.ensures
           c.if-t-gt10000000.false
-          ((rw c.find.invariant.2 at c.reach_from-x.ensures.reached))
+          (rw c.find.invariant.2 at c.reach_from-x.ensures.reached)
           c.if-t-x.false
-          (omega (arith, c.if-starts-n.true, (c.starts_of-starts.ensures c.args.ticks c.args.first.now c.args.size.now))),
+          (omega (arith, c.if-starts-n.true, c.starts-starts.ensures)),
     )
 
 pub once_each-once-requires : goal.once_each-once-requires
-once_each-once-requires c = c.requires.walkable.search.above
+once_each-once-requires c = loads_of _ _ _ _ c.requires.walkable.search.above
 
-pub starts_of-starts-requires : goal.starts_of-starts-requires
-starts_of-starts-requires c = tt
+pub starts-starts-requires : goal.starts-starts-requires
+starts-starts-requires c = tt
 
 pub tally_of-tally-requires : goal.tally_of-tally-requires
 tally_of-tally-requires c = tt
@@ -114,24 +104,24 @@ tally_of-tally-requires c = tt
 pub walk-init : goal.walk-init
 walk-init c = walk_start _ _ _ (ruled (goal.at.walk-init c).Start)
 
-pub wide-requires : goal.wide-requires
-wide-requires c = tt
+pub from-requires : goal.from-requires
+from-requires c = tt
 
-pub wide-requires-in-walk : goal.wide-requires-in-walk
-wide-requires-in-walk c = tt
+pub from-requires-in-walk : goal.from-requires-in-walk
+from-requires-in-walk c = tt
 
 pub overflow_mul-own : goal.overflow_mul-own
-overflow_mul-own c = omega (arith, own_small (goal.at.overflow_mul-own c).After-wide-in-walk)
+overflow_mul-own c = omega (arith, own_small (goal.at.overflow_mul-own c).After-from-in-walk)
 
 pub overflow_add-need : goal.overflow_add-need
-overflow_add-need c = omega (arith, own_small (goal.at.overflow_add-need c).After-wide-in-walk, c.once_each-once.ensures.high)
+overflow_add-need c = omega (arith, own_small (goal.at.overflow_add-need c).After-from-in-walk, c.once_each-once.ensures.high)
 
 pub start_at-start-requires : goal.start_at-start-requires
 start_at-start-requires c =
     (record {
       supplies = c.requires.supplies;
       n_bound = some_start _ (ruled (goal.at.start_at-start-requires c).Start);
-      need_le_max_tick = omega (arith, own_small (goal.at.start_at-start-requires c).After-wide-in-walk, c.once_each-once.ensures.high);
+      need_le_max_tick = omega (arith, own_small (goal.at.start_at-start-requires c).After-from-in-walk, c.once_each-once.ensures.high);
     })
 
 pub find-init : goal.find-init
@@ -140,7 +130,8 @@ find-init c = (
     tries = 0;
     counted = omega arith;
     search =
-        seek_start ((column_frame c.args.framed c.args.ticks c.args.count c.args.first.now c.args.size.now)) _ _ _ _ _ _ c.requires.walkable.search (ruled (goal.at.find-init c).Start) _ _ c.walk.invariant.q_high (own_is (goal.at.find-init c).After-wide-in-walk) _
+        seek_start (frame_in c.args.supply.now) _ _ _ _ _ _ c.requires.walkable.search (ruled (goal.at.find-init c).Start) _ _ c.walk.invariant.q_high
+        (own_is (goal.at.find-init c).After-from-in-walk) _
         c.once_each-once.ensures _
         c.start_at-start.ensures.reach.reached;
   },
@@ -158,7 +149,7 @@ overflow_add-evaluations c =
       head.small,
       head.q_high,
       c.tally_of-tally.ensures,
-      tally_high c.args.framed,
+      tally_high c.args.supply.now.framed,
     )
 
 pub above_load-requires : goal.above_load-requires
@@ -171,14 +162,14 @@ above_load-requires c =
     })
 
 pub overflow_add-d : goal.overflow_add-d
-overflow_add-d c = omega (arith, own_small (goal.at.overflow_add-d c).After-wide-in-walk, c.above_load.ensures.high)
+overflow_add-d c = omega (arith, own_small (goal.at.overflow_add-d c).After-from-in-walk, c.above_load.ensures.high)
 
 pub reach_from-x-requires : goal.reach_from-x-requires
 reach_from-x-requires c =
     (record {
       supplies = c.requires.supplies;
       begins = c.find.invariant.1;
-      d_le_max_tick = omega (arith, own_small (goal.at.reach_from-x-requires c).After-wide-in-walk, c.above_load.ensures.high);
+      d_le_max_tick = omega (arith, own_small (goal.at.reach_from-x-requires c).After-from-in-walk, c.above_load.ensures.high);
     })
 
 pub find-preserved-then-t-x : goal.find-preserved-then-t-x
@@ -188,8 +179,8 @@ find-preserved-then-t-x c =
         tries = so_far.0.tries + c.tally_of-tally.result;
         counted = omega (arith, so_far.0.counted);
         search =
-            seek_next ((column_frame c.args.framed c.args.ticks c.args.count c.args.first.now c.args.size.now)) _ _ _ _ _ _ c.requires.walkable.search (ruled (goal.at.find-preserved-then-t-x c).Start) _ _ c.walk.invariant.q_high
-            (own_is (goal.at.find-preserved-then-t-x c).After-wide-in-walk) _
+            seek_next (frame_in c.args.supply.now) _ _ _ _ _ _ c.requires.walkable.search (ruled (goal.at.find-preserved-then-t-x c).Start) _ _ c.walk.invariant.q_high
+            (own_is (goal.at.find-preserved-then-t-x c).After-from-in-walk) _
             c.once_each-once.ensures _ _ _ _ _ _ _
             so_far.0.search
             (counts (goal.at.find-preserved-then-t-x c).At-walk)
@@ -202,8 +193,8 @@ find-preserved-then-t-x c =
       so_far.2,
     )
 
-pub larger-w-requires : goal.larger-w-requires
-larger-w-requires c = tt
+pub max-w-requires : goal.max-w-requires
+max-w-requires c = tt
 
 pub overflow_add-n : goal.overflow_add-n
 overflow_add-n c = omega (arith, c.find.invariant.0.search.left, starts_are (goal.at.overflow_add-n c).At-walk)
@@ -213,7 +204,7 @@ start_at-next-requires c =
     (record {
       supplies = c.requires.supplies;
       n_bound = omega (arith, c.if-starts-n.false, starts_are (goal.at.start_at-next-requires c).At-walk);
-      need_le_max_tick = omega (arith, own_small (goal.at.start_at-next-requires c).After-wide-in-walk, c.once_each-once.ensures.high);
+      need_le_max_tick = omega (arith, own_small (goal.at.start_at-next-requires c).After-from-in-walk, c.once_each-once.ensures.high);
     })
 
 pub find-preserved : goal.find-preserved
@@ -223,9 +214,9 @@ find-preserved c =
         tries = so_far.0.tries + c.tally_of-tally.result;
         counted = omega (arith, so_far.0.counted);
         search =
-            rw c.larger-w.ensures
-            (seek_turn ((column_frame c.args.framed c.args.ticks c.args.count c.args.first.now c.args.size.now)) _ _ _ _ _ _ c.requires.walkable.search (ruled (goal.at.find-preserved c).Start) _ _ c.walk.invariant.q_high
-            (own_is (goal.at.find-preserved c).After-wide-in-walk) _
+            rw c.max-w.ensures
+            (seek_turn (frame_in c.args.supply.now) _ _ _ _ _ _ c.requires.walkable.search (ruled (goal.at.find-preserved c).Start) _ _ c.walk.invariant.q_high
+            (own_is (goal.at.find-preserved c).After-from-in-walk) _
             c.once_each-once.ensures _ _ _ _ _ _ _
             so_far.0.search
             (counts (goal.at.find-preserved c).At-walk)
@@ -244,13 +235,15 @@ pub overflow_cast-w : goal.overflow_cast-w
 overflow_cast-w c =
     omega (
       arith,
-      c.larger-w.ensures,
+      c.max-w.ensures,
       c.find.invariant.0.search.largest_high,
       c.if-t-gt10000000.false,
     )
 
 pub response-r-requires : goal.response-r-requires
-response-r-requires c = met_at _ _ _ _ _ _ _ _ _ _ _ c.requires.walkable (ruled (goal.at.response-r-requires c).Start) c.walk.invariant (found (goal.at.response-r-requires c).Then-starts-n)
+response-r-requires c =
+    met_at _ _ _ _ _ _ _ _ _ _ _ c.requires.walkable (ruled (goal.at.response-r-requires c).Start) c.walk.invariant
+    (found (goal.at.response-r-requires c).Then-starts-n)
 
 pub better-best-requires : goal.better-best-requires
 better-best-requires c = tt
@@ -277,11 +270,11 @@ walk-preserved c =
       so_far.counted,
       so_far.search.few,
       c.tally_of-tally.ensures,
-      tally_high c.args.framed,
+      tally_high c.args.supply.now.framed,
     ))
     (ruled (goal.at.walk-preserved c).Start)
-    (periodic ((column_frame c.args.framed c.args.ticks c.args.count c.args.first.now c.args.size.now)) _ _ _ _ c.args.jitter c.args.deadline c.requires.walkable.search (ruled (goal.at.walk-preserved c).Start))
-    (own_load ((column_frame c.args.framed c.args.ticks c.args.count c.args.first.now c.args.size.now)) _ _ _ _ c.args.jitter c.args.deadline c.requires.walkable.search (ruled (goal.at.walk-preserved c).Start))
+    (periodic (frame_in c.args.supply.now) _ _ _ _ c.args.jitter c.args.deadline c.requires.walkable.search (ruled (goal.at.walk-preserved c).Start))
+    (own_load (frame_in c.args.supply.now) _ _ _ _ c.args.jitter c.args.deadline c.requires.walkable.search (ruled (goal.at.walk-preserved c).Start))
     c.response-r.ensures.low
     c.if-deadline-r.false
     (rw c.gap.ensures at c.if-w-gap.false))
@@ -289,18 +282,18 @@ walk-preserved c =
 pub returns-then-t-gt10000000 : goal.returns-then-t-gt10000000
 returns-then-t-gt10000000 c =
     let so_far = c.find.invariant.0 in
-    ap answered
     (says_horizon _ _ _ _ _ _ c.walk.invariant _
     (omega (
       arith,
       so_far.counted,
-      over_counted ((column_frame c.args.framed c.args.ticks c.args.count c.args.first.now c.args.size.now)) _ _ _ _ _ _ c.requires.walkable.search (ruled (goal.at.returns-then-t-gt10000000 c).Start) _ _ _ _ _ _ so_far.search (counts (goal.at.returns-then-t-gt10000000 c).At-walk) c.if-t-gt10000000.true,
+      over_counted (frame_in c.args.supply.now) _ _ _ _ _ _ c.requires.walkable.search (ruled (goal.at.returns-then-t-gt10000000 c).Start) _ _ _ _ _ _ so_far.search
+          (counts (goal.at.returns-then-t-gt10000000 c).At-walk) c.if-t-gt10000000.true,
     ))
-    (seek_over ((column_frame c.args.framed c.args.ticks c.args.count c.args.first.now c.args.size.now)) _ _ _ _ _ _ c.requires.walkable.search (ruled (goal.at.returns-then-t-gt10000000 c).Start) _ _ _ _ _ _ so_far.search (counts (goal.at.returns-then-t-gt10000000 c).At-walk) c.if-t-gt10000000.true))
+    (seek_over (frame_in c.args.supply.now) _ _ _ _ _ _ c.requires.walkable.search (ruled (goal.at.returns-then-t-gt10000000 c).Start) _ _ _ _ _ _ so_far.search
+    (counts (goal.at.returns-then-t-gt10000000 c).At-walk) c.if-t-gt10000000.true))
 
 pub returns-then-deadline-r : goal.returns-then-deadline-r
 returns-then-deadline-r c =
-    ap answered
     (says_late _ _ _ _ _ _ (found (goal.at.returns-then-deadline-r c).Then-starts-n)
     c.response-r.ensures.is _ _ _
     c.walk.invariant
@@ -310,8 +303,7 @@ returns-then-deadline-r c =
 pub returns-then-w-gap : goal.returns-then-w-gap
 returns-then-w-gap c =
     rw c.better-best.ensures
-    (ap answered
-    (says_fits _ _ _ _ _ _ (found (goal.at.returns-then-w-gap c).Then-starts-n)
+    ((says_fits _ _ _ _ _ _ (found (goal.at.returns-then-w-gap c).Then-starts-n)
     c.response-r.ensures.is _ _ _
     c.walk.invariant
     (counted (goal.at.returns-then-w-gap c).Then-starts-n)

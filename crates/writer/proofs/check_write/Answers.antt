@@ -1,103 +1,113 @@
 -- Each check decides where those before it pass.
 use Prim.Native.Nat.{◌≤◌}
-use mathlib.Core.Path.{◌≡◌, sym, ap, ◌∙◌}
-use mathlib.Core.Option.{some, none}
-use mathlib.Core.List.{[], ◌∷◌}
+use mathlib.Core.Path.{◌≡◌, sym, ◌∙◌}
+use mathlib.Core.List.{List, [], ◌∷◌}
 use native.Mathlib.Omega.{arith}
-use Rattle.model.specs.Checks.{check_tasks, check_count, check_slots}
+use Rattle.model.specs.Tasks.{Release}
+use Rattle.model.specs.Checks.{Lent}
 use Rattle.model.specs.Calls.{lends, releases_of}
 use Rattle.model.proofs.CheckLaws.{valid_of, count_of, slots_first, slots_rest}
 use Rattle.model.proofs.OrderLaws.{no_single, no_kept, no_unfit, refused_tasks, refused_count, refused_slots, releases_decide}
-use Rattle.taskset.specs.TaskSet.{view_of, refusal_in}
+use Rattle.taskset.specs.TaskSet.{view_of}
+use Rattle.refusal.proofs.PassedOn.{passed_on}
 use Rattle.releases.proofs.ReleaseLaws.{Columns, columns_of, length_releases}
-use Rattle.fileformat.specs.FileCalls.{sheet_bytes, list_bytes}
+use Rattle.fileformat.specs.FileCalls.{list_bytes}
 use Rattle.fileformat.proofs.WidthLaws.{list_high}
 use Rattle.fileformat.proofs.TaskSizeLaws.{tasks_bytes_high}
 use Rattle.fileformat.proofs.RoundTrips.{charge_bytes_high}
-use Rattle.writer.proofs.WriteLaws.{rising_of, bytes_lent, bytes_short, bytes_long}
-use Rattle.writer.proofs.check_write.Goals.{In-Fine, In-Fine-few, In-Fine-long, After-list_size}
+use Rattle.writer.proofs.WriteLaws.{fine_of, rising_of, bytes_lent, bytes_short, bytes_long}
+use Rattle.writer.proofs.check_write.Goals.{Start, In_ok-check, In_ok-check_count, In_ok-check_columns, After-list_size}
 use Rattle.writer.proofs.check_write.Goals as goal
 
+-- the list, its columns, and the bytes
+abbrev list : Start → List Release
+list c = let a = c.args in releases_of a.count a.task.now a.tick.now a.cost.now
+
+abbrev columns : Start → List Lent
+columns c = let a = c.args in lends a.count a.task.now ∷ lends a.count a.tick.now ∷ lends a.count a.cost.now ∷ []
+
+abbrev bytes : Start → List Lent
+bytes c = bytes_lent (view_of c.args.s) (list c) c.args.room ∷ []
+
 -- the checks that passed
-sheet_fine : (c : In-Fine) → none ≡ check_tasks (view_of c.args.s)
-sheet_fine c = sym (ap refusal_in c.in-Fine.is) ∙ c.check-sheet.ensures
+few_tasks : (c : In_ok-check) → c.args.s.count ≤ 32
+few_tasks c = (valid_of _ (sym c.in_ok-check.ensures)).few_tasks
 
-count_fine : (c : In-Fine-few) → none ≡ check_count (some c.args.count)
-count_fine c = sym (ap refusal_in c.in-Fine-few.is) ∙ c.check_count-few.ensures
+few_releases : (c : In_ok-check_count) → c.args.count ≤ 1024
+few_releases c = count_of _ c.in_ok-check_count.ensures
 
-columns_fine
-    : (c : In-Fine-long) → none ≡ check_slots ((lends c.args.count c.args.task.now ∷ lends c.args.count c.args.tick.now ∷ lends c.args.count c.args.cost.now ∷ []))
-columns_fine c = sym (ap refusal_in c.in-Fine-long.is) ∙ c.check_columns-long.ensures
+columns_long : (c : In_ok-check_columns) → let a = c.args in Columns a.count a.task.now a.tick.now a.cost.now
+columns_long c = columns_of _ _ _ _ c.in_ok-check_columns.ensures
 
-few_tasks : (c : In-Fine-long) → c.args.s.count ≤ 32
-few_tasks c = (valid_of _ (sym ((sym (ap refusal_in c.in-Fine.is) ∙ c.check-sheet.ensures)))).few_tasks
-
-few_releases : (c : In-Fine-long) → c.args.count ≤ 1024
-few_releases c = count_of _ ((sym (ap refusal_in c.in-Fine-few.is) ∙ c.check_count-few.ensures))
-
-columns_long : (c : In-Fine-long) → let a = c.args in Columns a.count a.task.now a.tick.now a.cost.now
-columns_long c = columns_of _ _ _ _ (columns_fine c)
-
-size_is : (c : After-list_size) → c.list_size.result ≡ list_bytes ((let a = c.args in releases_of a.count a.task.now a.tick.now a.cost.now))
+-- the bytes
+size_is : (c : After-list_size) → let a = c.args in c.list_size.result ≡ list_bytes (releases_of a.count a.task.now a.tick.now a.cost.now)
 size_is c = c.list_size.ensures c.args.task.now c.args.cost.now
 
 size_small : (c : After-list_size) → c.list_size.result ≤ 14336
 size_small c =
     let a = c.args in
-    omega (arith, size_is c, list_high ((let a = c.args in releases_of a.count a.task.now a.tick.now a.cost.now)), length_releases a.count a.task.now a.tick.now a.cost.now, (count_of _ ((sym (ap refusal_in c.in-Fine-few.is) ∙ c.check_count-few.ensures))))
-
-sheet_is : (c : After-list_size) → c.sheet_size-sized.result ≡ sheet_bytes (view_of c.args.s)
-sheet_is c = c.sheet_size-sized.ensures
+    let l = releases_of a.count a.task.now a.tick.now a.cost.now in
+    omega (arith, size_is c, list_high l, length_releases a.count a.task.now a.tick.now a.cost.now, count_of _ c.in_ok-check_count.ensures)
 
 sheet_small : (c : After-list_size) → c.sheet_size-sized.result ≤ 578
 sheet_small c =
     let s = c.args.s in
-    omega (arith, sheet_is c, charge_bytes_high s.charge, tasks_bytes_high (view_of s) s.count, ((valid_of _ (sym ((sym (ap refusal_in c.in-Fine.is) ∙ c.check-sheet.ensures)))).few_tasks))
+    let few = (valid_of _ (sym c.in_ok-check.ensures)).few_tasks in
+    omega (arith, c.sheet_size-sized.ensures, charge_bytes_high s.charge, tasks_bytes_high (view_of s) s.count, few)
 
-pub returns-in_default : goal.returns-in_default
-returns-in_default c = rw c.in_default.is (refused_tasks _ _ (sym (ap refusal_in c.in_default.is) ∙ c.check-sheet.ensures))
+pub returns-in_err-check : goal.returns-in_err-check
+returns-in_err-check c = passed_on _ _ c.from_residual.ensures.1 (refused_tasks _ _ c.in_err-check.ensures)
 
-pub returns-in_default-few : goal.returns-in_default-few
-returns-in_default-few c =
-    rw c.in_default-few.is (refused_count _ _ (sheet_fine (goal.at.returns-in_default-few c).In-Fine) (no_single _)
-    (sym (ap refusal_in c.in_default-few.is) ∙ c.check_count-few.ensures))
+pub returns-in_err-check_count : goal.returns-in_err-check_count
+returns-in_err-check_count c =
+    passed_on _ _ c.from_residual-in_err-check_count.ensures.1
+    (refused_count _ _ c.in_ok-check.ensures (no_single _) c.in_err-check_count.ensures)
 
-pub returns-in_default-long : goal.returns-in_default-long
-returns-in_default-long c =
-    rw c.in_default-long.is (refused_slots _ _ (sheet_fine (goal.at.returns-in_default-long c).In-Fine) (no_single _) (count_fine (goal.at.returns-in_default-long c).In-Fine-few)
-    (slots_first ((lends c.args.count c.args.task.now ∷ lends c.args.count c.args.tick.now ∷ lends c.args.count c.args.cost.now ∷ [])) ((bytes_lent (view_of c.args.s) (releases_of c.args.count c.args.task.now c.args.tick.now c.args.cost.now) c.args.room ∷ [])) _ (sym (ap refusal_in c.in_default-long.is) ∙ c.check_columns-long.ensures)))
+pub returns-in_err-check_columns : goal.returns-in_err-check_columns
+returns-in_err-check_columns c =
+    let x = (goal.at.returns-in_err-check_columns c).Start in
+    passed_on _ _ c.from_residual-in_err-check_columns.ensures.1
+    (refused_slots _ _ c.in_ok-check.ensures (no_single _) c.in_ok-check_count.ensures
+    (slots_first (columns x) (bytes x) _ c.in_err-check_columns.ensures))
 
 pub check_releases-listed-requires : goal.check_releases-listed-requires
-check_releases-listed-requires c = (few_tasks c, (columns_long c).task_long, (columns_long c).tick_long, (columns_long c).cost_long)
+check_releases-listed-requires c =
+    let long = columns_long c in
+    (few_tasks (goal.at.check_releases-listed-requires c).In_ok-check, long.task_long, long.tick_long, long.cost_long)
 
 pub sheet_size-sized-requires : goal.sheet_size-sized-requires
-sheet_size-sized-requires c = few_tasks (goal.at.sheet_size-sized-requires c).In-Fine-long
+sheet_size-sized-requires c = few_tasks (goal.at.sheet_size-sized-requires c).In_ok-check
 
 pub list_size-requires : goal.list_size-requires
 list_size-requires c =
-    let a = c.args in (
-      few_releases (goal.at.list_size-requires c).In-Fine-long,
-      (columns_long (goal.at.list_size-requires c).In-Fine-long).tick_long,
+    let a = c.args in
+    let p = goal.at.list_size-requires c in (
+      few_releases p.In_ok-check_count,
+      (columns_long p.In_ok-check_columns).tick_long,
       λ e. rising_of (view_of a.s) a.count a.task.now a.tick.now a.cost.now
-          (sym (c.is_fine.ensures e) ∙ c.check_releases-listed.ensures),
+          (fine_of _ (sym c.is_ok.ensures.value ∙ e) ∙ c.check_releases-listed.ensures),
     )
 
 pub overflow_add-end : goal.overflow_add-end
 overflow_add-end c = omega (arith, sheet_small c, size_small c)
 
 pub overflow_add-result : goal.overflow_add-result
-overflow_add-result c = omega (arith, sheet_small (goal.at.overflow_add-result c).After-list_size, size_small (goal.at.overflow_add-result c).After-list_size)
+overflow_add-result c = let p = (goal.at.overflow_add-result c).After-list_size in omega (arith, sheet_small p, size_small p)
 
 pub returns-then-room-end : goal.returns-then-room-end
 returns-then-room-end c =
-    refused_slots _ _ (sheet_fine (goal.at.returns-then-room-end c).In-Fine) (no_single _) (count_fine (goal.at.returns-then-room-end c).In-Fine-few)
-    (bytes_short (view_of c.args.s) c.sheet_size-sized.result c.list_size.result ((let a = c.args in releases_of a.count a.task.now a.tick.now a.cost.now)) c.args.room (sheet_is (goal.at.returns-then-room-end c).After-list_size) (size_is (goal.at.returns-then-room-end c).After-list_size)
-    (omega arith) ∙ sym (slots_rest ((lends c.args.count c.args.task.now ∷ lends c.args.count c.args.tick.now ∷ lends c.args.count c.args.cost.now ∷ [])) ((bytes_lent (view_of c.args.s) (releases_of c.args.count c.args.task.now c.args.tick.now c.args.cost.now) c.args.room ∷ [])) (columns_fine (goal.at.returns-then-room-end c).In-Fine-long)))
+    let p = goal.at.returns-then-room-end c in
+    let x = p.Start in
+    refused_slots _ _ c.in_ok-check.ensures (no_single _) c.in_ok-check_count.ensures
+    (bytes_short (view_of c.args.s) _ _ (list x) _ c.sheet_size-sized.ensures (size_is p.After-list_size) (omega arith)
+    ∙ sym (slots_rest (columns x) (bytes x) c.in_ok-check_columns.ensures))
 
 pub returns : goal.returns
 returns c =
+    let p = goal.at.returns c in
+    let x = p.Start in
     c.check_releases-listed.ensures
-    ∙ releases_decide _ (sheet_fine (goal.at.returns c).In-Fine) (no_single _) (count_fine (goal.at.returns c).In-Fine-few)
-    (bytes_long (view_of c.args.s) c.sheet_size-sized.result c.list_size.result ((let a = c.args in releases_of a.count a.task.now a.tick.now a.cost.now)) c.args.room (sheet_is (goal.at.returns c).After-list_size) (size_is (goal.at.returns c).After-list_size)
-    (omega arith) ∙ sym (slots_rest ((lends c.args.count c.args.task.now ∷ lends c.args.count c.args.tick.now ∷ lends c.args.count c.args.cost.now ∷ [])) ((bytes_lent (view_of c.args.s) (releases_of c.args.count c.args.task.now c.args.tick.now c.args.cost.now) c.args.room ∷ [])) (columns_fine (goal.at.returns c).In-Fine-long)))
+    ∙ releases_decide _ c.in_ok-check.ensures (no_single _) c.in_ok-check_count.ensures
+    (bytes_long (view_of c.args.s) _ _ (list x) _ c.sheet_size-sized.ensures (size_is p.After-list_size) (omega arith)
+    ∙ sym (slots_rest (columns x) (bytes x) c.in_ok-check_columns.ensures))
     (no_kept _) no_unfit

@@ -1,10 +1,6 @@
 -- The bytes of the releases below i are counted.
-use Prim.Native.Nat.{◌-◌}
 use Rattle.writer.proofs.PartLaws.{Sized}
 use Rattle.writer.proofs.counted_size.Given as goal
 
 abbrev pub invariant-loop-i : goal.invariant-loop-i
 invariant-loop-i l = Sized l.count l.tick l.size l.i
-
-abbrev pub decreases-loop-i : goal.decreases-loop-i
-decreases-loop-i l = l.count - l.i

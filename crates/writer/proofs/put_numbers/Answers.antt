@@ -13,7 +13,11 @@ long_two : (c : After-put_number-2) → length c.put_number-2.new.out ≡ length
 long_two c = stored_long _ _ _ _ c.put_number-2.ensures ∙ (stored_long _ _ _ _ c.put_number.ensures ∙ length-set c.args.out.now c.args.at c.args.kind)
 
 long_three : (c : After-put_number-3) → length c.put_number-3.new.out ≡ length c.args.out.now
-long_three c = stored_long _ _ _ _ c.put_number-3.ensures ∙ (stored_long _ _ _ _ c.put_number-2.ensures ∙ (stored_long _ _ _ _ c.put_number.ensures ∙ length-set c.args.out.now c.args.at c.args.kind))
+long_three c =
+    stored_long _ _ _ _ c.put_number-3.ensures
+    ∙ stored_long _ _ _ _ c.put_number-2.ensures
+    ∙ stored_long _ _ _ _ c.put_number.ensures
+    ∙ length-set c.args.out.now c.args.at c.args.kind
 
 pub put_number-requires : goal.put_number-requires
 put_number-requires c = simp length-set (omega arith)

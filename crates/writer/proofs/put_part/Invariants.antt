@@ -1,11 +1,7 @@
 -- The releases below i are written.
-use Prim.Native.Nat.{◌-◌}
 use Rattle.fileformat.specs.Records.{width_in}
 use Rattle.writer.proofs.PartLaws.{PartPut}
 use Rattle.writer.proofs.put_part.Given as goal
 
 abbrev pub invariant-loop-i : goal.invariant-loop-i
 invariant-loop-i l = PartPut l.initial.out l.from l.first l.last (width_in l.long) l.task l.tick l.cost l.out l.at l.i
-
-abbrev pub decreases-loop-i : goal.decreases-loop-i
-decreases-loop-i l = l.last - l.i

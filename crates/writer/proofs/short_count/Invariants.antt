@@ -1,9 +1,8 @@
 -- From k on every tick is over the short limit.
-use Rattle.writer.proofs.PartLaws.{Seeking}
+use Prim.Native.Nat.{ℕ, ◌≤◌, ◌<◌}
+use lib.ListN.{get_or}
+use Rattle.model.specs.Limits.{max_short_tick}
 use Rattle.writer.proofs.short_count.Given as goal
 
 abbrev pub invariant-loop-k : goal.invariant-loop-k
-invariant-loop-k l = Seeking l.count l.tick l.k
-
-abbrev pub decreases-loop-k : goal.decreases-loop-k
-decreases-loop-k l = l.k
+invariant-loop-k l = (p : ℕ) → l.k ≤ p → p < l.count → max_short_tick < get_or l.tick p 0

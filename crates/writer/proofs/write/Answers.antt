@@ -1,13 +1,12 @@
 -- A write that is not refused has room for the tasks, the releases and the end record, one after the other.
 use Prim.Native.Nat.{◌+◌, ◌≤◌}
-use mathlib.Core.Path.{◌≡◌, sym, ap, ◌∙◌}
-use mathlib.Core.Option.{none}
+use mathlib.Core.Path.{◌≡◌, ◌∙◌}
 use native.Mathlib.Omega.{arith}
 use lib.ListN.{length, length-set}
-use Rattle.model.specs.Checks.{refusal_of}
 use Rattle.model.specs.Calls.{releases_of}
-use Rattle.taskset.specs.TaskSet.{view_of, refusal_in}
-use Rattle.fileformat.specs.FileCalls.{sheet_bytes, list_bytes, write_inputs}
+use Rattle.taskset.specs.TaskSet.{view_of}
+use Rattle.refusal.proofs.PassedOn.{passed}
+use Rattle.fileformat.specs.FileCalls.{sheet_bytes, list_bytes}
 use Rattle.releases.proofs.ReleaseLaws.{length_releases}
 use Rattle.fileformat.proofs.WidthLaws.{list_high}
 use Rattle.fileformat.proofs.TaskSizeLaws.{tasks_bytes_high}
@@ -16,26 +15,29 @@ use Rattle.writer.specs.Writer.{part}
 use Rattle.writer.proofs.StoreLaws.{stored_long}
 use Rattle.writer.proofs.PartLaws.{bytes_split, shorts_alike, longs_alike}
 use Rattle.writer.proofs.WriteLaws.{WriteFits, write_fits, stored_both, write_refused, write_done}
-use Rattle.writer.proofs.write.Goals.{In_default, After-short_count-shorts, After-slice_known-4-1, After-put_part-arg-2-1}
+use Rattle.writer.proofs.write.Goals.{In_ok-check_write, After-short_count-shorts, After-put_part-middle, After-put_part-end}
 use Rattle.writer.proofs.write.Goals as goal
 
 -- the check that passed
-accepted : (c : In_default) → let a =
-    c.args in none ≡ refusal_of (write_inputs (view_of a.s) a.count a.task.now a.tick.now a.cost.now (length a.out.now))
-accepted c = sym (ap refusal_in c.in_default.is) ∙ c.check_write-k.ensures
+fits
+    : (c : In_ok-check_write) → let a =
+    c.args in WriteFits a.s a.count a.task.now a.tick.now a.cost.now (length a.out.now)
+fits c = write_fits _ _ _ _ _ _ c.in_ok-check_write.ensures
 
-fits : (c : In_default) → let a = c.args in WriteFits a.s a.count a.task.now a.tick.now a.cost.now (length a.out.now)
-fits c = write_fits _ _ _ _ _ _ (accepted c)
-
-in_array : (c : In_default) → c.args.s.count ≤ length c.args.s.tasks
+in_array : (c : In_ok-check_write) → c.args.s.count ≤ length c.args.s.tasks
 in_array c =
     let e : length c.args.s.tasks ≡ 32 = c.well_formed.0.1.1.0.1.0.1 in
     omega (arith, (fits c).few_tasks)
 
 -- the bytes of both parts
-split : (c : After-short_count-shorts) → let a = c.args in list_bytes (part 0 c.short_count-shorts.result a.task.now a.tick.now a.cost.now) + list_bytes
-    (part c.short_count-shorts.result a.count a.task.now a.tick.now a.cost.now) ≡ list_bytes (releases_of a.count a.task.now a.tick.now a.cost.now)
-split c = let a = c.args in bytes_split a.task.now a.tick.now a.cost.now c.short_count-shorts.result a.count c.short_count-shorts.ensures.within
+split
+    : (c : After-short_count-shorts) → let a = c.args in
+    let k = c.short_count-shorts.result in
+    list_bytes (part 0 k a.task.now a.tick.now a.cost.now) + list_bytes (part k a.count a.task.now a.tick.now a.cost.now)
+    ≡ list_bytes (releases_of a.count a.task.now a.tick.now a.cost.now)
+split c =
+    let a = c.args in
+    bytes_split a.task.now a.tick.now a.cost.now c.short_count-shorts.result a.count c.short_count-shorts.ensures.within
 
 -- where the releases begin
 sized : (c : After-short_count-shorts) → c.put_sheet-start.result ≡ sheet_bytes (view_of c.args.s)
@@ -43,31 +45,43 @@ sized c = c.put_sheet-start.ensures.end
 
 -- where the file ends
 end_is
-    : (c : After-slice_known-4-1) → let a = c.args in c.put_part-end.result ≡ sheet_bytes (view_of a.s) + list_bytes
-    (releases_of a.count a.task.now a.tick.now a.cost.now)
-end_is c = omega (arith, c.put_part-end.ensures.end, c.put_part-middle.ensures.end, (c.put_sheet-start.ensures.end), (let a = c.args in bytes_split a.task.now a.tick.now a.cost.now c.short_count-shorts.result a.count c.short_count-shorts.ensures.within))
+    : (c : After-put_part-end) → let a = c.args in
+    c.put_part-end.result ≡ sheet_bytes (view_of a.s) + list_bytes (releases_of a.count a.task.now a.tick.now a.cost.now)
+end_is c =
+    let a = c.args in
+    let s = bytes_split a.task.now a.tick.now a.cost.now c.short_count-shorts.result a.count c.short_count-shorts.ensures.within in
+    omega (arith, c.put_part-end.ensures.end, c.put_part-middle.ensures.end, c.put_sheet-start.ensures.end, s)
 
 -- the lent bytes are as many as before
-long_one : (c : After-put_part-arg-2-1) → length c.put_part-middle.new.out ≡ length c.args.out.now
+long_one : (c : After-put_part-middle) → length c.put_part-middle.new.out ≡ length c.args.out.now
 long_one c = stored_long _ _ _ _ c.put_part-middle.ensures.bytes ∙ stored_long _ _ _ _ c.put_sheet-start.ensures.bytes
 
-long : (c : After-slice_known-4-1) → length c.put_part-end.new.out ≡ length c.args.out.now
-long c = stored_long _ _ _ _ c.put_part-end.ensures.bytes ∙ (stored_long _ _ _ _ c.put_part-middle.ensures.bytes ∙ stored_long _ _ _ _ c.put_sheet-start.ensures.bytes)
+long : (c : After-put_part-end) → length c.put_part-end.new.out ≡ length c.args.out.now
+long c =
+    stored_long _ _ _ _ c.put_part-end.ensures.bytes
+    ∙ stored_long _ _ _ _ c.put_part-middle.ensures.bytes
+    ∙ stored_long _ _ _ _ c.put_sheet-start.ensures.bytes
 
-pub returns-in-Refused : goal.returns-in-Refused
-returns-in-Refused c = write_refused _ _ _ _ _ _ _ _ (sym (ap refusal_in c.in-Refused.is) ∙ c.check_write-k.ensures)
+pub returns-in_err-check_write : goal.returns-in_err-check_write
+returns-in_err-check_write c =
+    rw (passed _ _ c.from_residual.ensures.1) (write_refused _ _ _ _ _ _ _ c.in_err-check_write.ensures)
 
 pub put_sheet-start-requires : goal.put_sheet-start-requires
-put_sheet-start-requires c = ((fits (goal.at.put_sheet-start-requires c).In_default).few_tasks, omega (arith, (fits (goal.at.put_sheet-start-requires c).In_default).bytes), in_array (goal.at.put_sheet-start-requires c).In_default)
+put_sheet-start-requires c =
+    let p = (goal.at.put_sheet-start-requires c).In_ok-check_write in
+    let f = fits p in
+    (f.few_tasks, omega (arith, f.bytes), in_array p)
 
 pub short_count-shorts-requires : goal.short_count-shorts-requires
-short_count-shorts-requires c = (fits (goal.at.short_count-shorts-requires c).In_default).columns.tick_long
+short_count-shorts-requires c = (fits (goal.at.short_count-shorts-requires c).In_ok-check_write).columns.tick_long
 
 pub put_part-middle-requires : goal.put_part-middle-requires
 put_part-middle-requires c =
-    let f = fits (goal.at.put_part-middle-requires c).In_default in
-    let w = c.short_count-shorts.ensures.within in (
-      omega (arith, f.bytes, split (goal.at.put_part-middle-requires c).After-short_count-shorts, sized (goal.at.put_part-middle-requires c).After-short_count-shorts, stored_long _ _ _ _ c.put_sheet-start.ensures.bytes),
+    let p = goal.at.put_part-middle-requires c in
+    let f = fits p.In_ok-check_write in
+    let w = c.short_count-shorts.ensures.within in
+    let b = p.After-short_count-shorts in (
+      omega (arith, f.bytes, split b, sized b, stored_long _ _ _ _ c.put_sheet-start.ensures.bytes),
       omega arith,
       omega (arith, w, f.columns.task_long),
       omega (arith, w, f.columns.tick_long),
@@ -77,8 +91,10 @@ put_part-middle-requires c =
 
 pub put_part-end-requires : goal.put_part-end-requires
 put_part-end-requires c =
-    let f = fits (goal.at.put_part-end-requires c).In_default in (
-      omega (arith, f.bytes, split (goal.at.put_part-end-requires c).After-short_count-shorts, c.put_part-middle.ensures.end, sized (goal.at.put_part-end-requires c).After-short_count-shorts, long_one c),
+    let p = goal.at.put_part-end-requires c in
+    let f = fits p.In_ok-check_write in
+    let b = p.After-short_count-shorts in (
+      omega (arith, f.bytes, split b, c.put_part-middle.ensures.end, sized b, long_one p.After-put_part-middle),
       c.short_count-shorts.ensures.within,
       f.columns.task_long,
       f.columns.tick_long,
@@ -87,16 +103,20 @@ put_part-end-requires c =
     )
 
 pub bounds-out-end : goal.bounds-out-end
-bounds-out-end c = omega (arith, end_is c, (fits (goal.at.bounds-out-end c).In_default).bytes, long c)
+bounds-out-end c =
+    let p = goal.at.bounds-out-end c in
+    let e = p.After-put_part-end in
+    omega (arith, end_is e, (fits p.In_ok-check_write).bytes, long e)
 
 pub overflow_add-result : goal.overflow_add-result
 overflow_add-result c =
-    let f = fits (goal.at.overflow_add-result c).In_default in
+    let p = goal.at.overflow_add-result c in
+    let f = fits p.In_ok-check_write in
     let a = c.args in
     let l = releases_of a.count a.task.now a.tick.now a.cost.now in
     omega (
       arith,
-      end_is c,
+      end_is p.After-put_part-end,
       charge_bytes_high a.s.charge,
       tasks_bytes_high (view_of a.s) a.s.count,
       f.few_tasks,
@@ -106,11 +126,14 @@ overflow_add-result c =
     )
 
 pub shape_of-out : goal.shape_of-out
-shape_of-out c = omega (arith, length-set c.put_part-end.new.out c.put_part-end.result 3, long c)
+shape_of-out c =
+    omega (arith, length-set c.put_part-end.new.out c.put_part-end.result 3, long (goal.at.shape_of-out c).After-put_part-end)
 
 pub returns : goal.returns
 returns c =
-    let p = c.put_part-middle.ensures in
-    write_done _ _ _ _ _ _ (in_array (goal.at.returns c).In_default) _ _ _ _ (accepted (goal.at.returns c).In_default) c.put_sheet-start.ensures.bytes
-    (stored_both _ _ _ _ _ _ _ _ _ _ c.short_count-shorts.ensures.within p.bytes p.end c.put_part-end.ensures.bytes)
-    (sized (goal.at.returns c).After-short_count-shorts) (end_is c) (fits (goal.at.returns c).In_default).bytes
+    let p = goal.at.returns c in
+    let w = p.In_ok-check_write in
+    let b = c.put_part-middle.ensures in
+    write_done _ _ _ _ _ _ (in_array w) _ _ _ _ c.in_ok-check_write.ensures c.put_sheet-start.ensures.bytes
+    (stored_both _ _ _ _ _ _ _ _ _ _ c.short_count-shorts.ensures.within b.bytes b.end c.put_part-end.ensures.bytes)
+    (sized p.After-short_count-shorts) (end_is p.After-put_part-end) (fits w).bytes

@@ -1,7 +1,0 @@
--- Past the end the default stands.
-use mathlib.Core.Path.{sym}
-use lib.ListN.{get_or-eq_default}
-use Rattle.numbers.proofs.number_at.Goals as goal
-
-pub returns : goal.returns
-returns c = sym (get_or-eq_default c.args.row.now 0 c.if-at-row.false)

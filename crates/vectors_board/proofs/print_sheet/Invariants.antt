@@ -1,9 +1,0 @@
--- The loop stays below the count and within the 32 entries.
-use Prim.Native.Nat.{◌-◌, ◌≤◌}
-use Rattle.vectors_board.proofs.print_sheet.Given as goal
-
-abbrev pub invariant-loop-i : goal.invariant-loop-i
-invariant-loop-i l = l.i ≤ l.n
-
-abbrev pub decreases-loop-i : goal.decreases-loop-i
-decreases-loop-i l = l.n - l.i

@@ -1,9 +1,0 @@
--- The loop stays within both windows.
-use Prim.Native.Nat.{◌-◌, ◌≤◌}
-use Rattle.vectors_monitor.proofs.print_changes.Given as goal
-
-abbrev pub invariant-loop-i : goal.invariant-loop-i
-invariant-loop-i l = l.i ≤ l.n
-
-abbrev pub decreases-loop-i : goal.decreases-loop-i
-decreases-loop-i l = l.n - l.i
