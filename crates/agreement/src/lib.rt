@@ -4,9 +4,11 @@
 ghost use Rattle.std.specs.Prelude.{◌≡◌};
 ghost use Rattle.frame.specs.FrameView.{framed_of};
 ghost use Rattle.agreement.specs.Agreement.{Ticked, Jumped, SameEnds};
+ghost use Rattle.releases.specs.Over.{over};
 
 use frame::Frame;
 use refusal::Refusal;
+use releases::Releases;
 use taskset::TaskSet;
 
 // What the ticking run and the run that jumps answered.
@@ -22,23 +24,20 @@ pub fn both_runs(
     s: TaskSet,
     f: Option<Frame>,
     kept: &[u32],
-    count: usize,
-    task: &[u32],
-    tick: &[u64],
-    cost: &[u32],
+    list: &Releases,
     ready: &mut [u64],
     finish: &mut [u64],
     readies: &mut [u64],
     finishes: &mut [u64],
 ) -> BothAnswers
-    ensures ticks { Ticked (framed_of s f) kept.now count task.now tick.now cost.now ready.old finish.old
+    ensures ticks { over (Ticked (framed_of s f) kept.now) list.now ready.old finish.old
         result.ticked ready.new finish.new }
-    ensures jumps { Jumped (framed_of s f) kept.now count task.now tick.now cost.now readies.old finishes.old
+    ensures jumps { over (Jumped (framed_of s f) kept.now) list.now readies.old finishes.old
         result.jumped readies.new finishes.new }
     ensures same { ready.old ≡ readies.old → finish.old ≡ finishes.old
         → SameEnds result.ticked ready.new finish.new result.jumped readies.new finishes.new }
 {
-    let ticked = schedule::run(s, f, kept, count, task, tick, cost, ready, finish);
-    let jumped = jumps::run(s, f, kept, count, task, tick, cost, readies, finishes);
+    let ticked = schedule::run(s, f, kept, list, ready, finish);
+    let jumped = jumps::run(s, f, kept, list, readies, finishes);
     BothAnswers { ticked, jumped }
 }

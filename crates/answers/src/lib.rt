@@ -10,10 +10,12 @@ ghost use Rattle.loader.specs.Pieces.{Fed};
 ghost use Rattle.answers.specs.Answers.{sheet_text, choose_text, list_text, replay_text, Printed, PrintedFed};
 ghost use Rattle.answers.specs.Listed.{Listed};
 ghost use Rattle.answers.specs.Tried.{ChosenIs, Tried, TriedFed, OrRefusal};
+ghost use Rattle.releases.specs.Over.{over};
 
 use choice::Extent;
 use loader::Loader;
 use refusal::Refusal;
+use releases::Releases;
 use taskset::TaskSet;
 
 // The columns of a choice that was made, and which of the two it is.
@@ -49,32 +51,15 @@ fn put_chosen(s: TaskSet, out: &mut [u8]) -> Result<usize, Refusal>
 }
 
 // The text of the run of n releases with the kept jitters of whichever choice was made.
-fn put_replayed(
-    s: TaskSet,
-    n: usize,
-    task: &[u32],
-    tick: &[u64],
-    cost: &[u32],
-    out: &mut [u8],
-) -> Result<usize, Refusal>
-    requires { Listed (view_of s) n task.now tick.now cost.now × (108608 ≤ length out.old) }
-    ensures { Tried 108608 out.old (list_text (view_of s) n task.now tick.now cost.now (choice (view_of s))) out.new result }
+fn put_replayed(s: TaskSet, list: &Releases, out: &mut [u8]) -> Result<usize, Refusal>
+    requires { over (Listed (view_of s)) list.now × (108608 ≤ length out.old) }
+    ensures { Tried 108608 out.old (over (list_text (view_of s)) list.now (choice (view_of s))) out.new result }
 {
     let c = choose(s)?;
     let mut ready: [u64; 1024] = [0; 1024];
     let mut finish: [u64; 1024] = [0; 1024];
-    jumps::run(
-        s,
-        None,
-        &c.keep,
-        n,
-        task,
-        tick,
-        cost,
-        &mut ready,
-        &mut finish,
-    )?;
-    Ok(report::put_run(out, n, task, tick, &ready, &finish))
+    jumps::run(s, None, &c.keep, list, &mut ready, &mut finish)?;
+    Ok(report::put_run(out, list.count, list.task, list.tick, &ready, &finish))
 }
 
 // The choice of a file.
@@ -95,7 +80,13 @@ fn replay_file(file: &[u8], out: &mut [u8]) -> Result<usize, Refusal>
     let mut tick: [u64; 1024] = [0; 1024];
     let mut cost: [u32; 1024] = [0; 1024];
     let got = reader::read(file, &mut task, &mut tick, &mut cost)?;
-    put_replayed(got.tasks, got.releases, &task, &tick, &cost, out)
+    let list = Releases {
+        count: got.releases,
+        task: &task,
+        tick: &tick,
+        cost: &cost,
+    };
+    put_replayed(got.tasks, &list, out)
 }
 
 // The choice of a loader that was fed a text.

@@ -11,10 +11,12 @@ ghost use Rattle.admission.specs.Offers.{answer_by};
 ghost use Rattle.admission.specs.Boards as admission_boards;
 ghost use Rattle.plan.specs.PlanView.{board_view};
 ghost use Rattle.board.specs.BoardCalls.{board_in, commit_of, list_refusal, soon_after};
+ghost use Rattle.releases.specs.Over.{over};
 
 use frame::Frame;
 use plan::{Board, Plan};
 use refusal::{Reason, Refusal};
+use releases::Releases;
 use taskset::TaskSet;
 
 // Opens a board with a sheet, its frame and the choice made of them, or the choice's refusal: 5, 4, 6 and 17 by task, 18, 15.
@@ -44,23 +46,17 @@ fn kept_of(p: Plan) -> [u32; 32]
 
 // The checks of a commit before the offer: the sheet in force and its frame (5, 4, 6, 17, 18), the count of the releases (10), their columns (13), the kept jitters in
 // force (12), and the releases in order (7, 8, 9), none of them before the last commit's tick.
-fn check_list(
-    b: Board,
-    count: usize,
-    task: &[u32],
-    tick: &[u64],
-    cost: &[u32],
-) -> Result<(), Refusal>
-    ensures { refusal_in result ≡ list_refusal (board_view b) count task.now tick.now cost.now }
+fn check_list(b: Board, list: &Releases) -> Result<(), Refusal>
+    ensures { refusal_in result ≡ over (list_refusal (board_view b)) list.now }
 {
     let plan = b.plan;
     let s = plan.tasks;
     frame::check_sheet(s, b.frame)?;
-    releases::check_count(count)?;
-    releases::check_columns(count, task, tick, cost)?;
+    releases::check_count(list.count)?;
+    releases::check_columns(list.count, list.task, list.tick, list.cost)?;
     let kept = kept_of(plan);
     taskset::check_kept(s, &kept)?;
-    releases::check_releases(s, b.last, count, task, tick, cost)
+    releases::check_releases(s, b.last, list)
 }
 
 // Whether one of the first n ticks of a column is over t.
@@ -77,9 +73,9 @@ fn any_over(column: &[u64], n: usize, t: u64) -> bool
 }
 
 // Whether a tick is before the last commit's, or before a finish of the run of these releases.
-fn is_too_soon(b: Board, count: usize, task: &[u32], tick: &[u64], cost: &[u32], at: u64) -> bool
-    requires { none ≡ list_refusal (board_view b) count task.now tick.now cost.now }
-    ensures { result ≡ soon_after (board_view b) count task.now tick.now cost.now at }
+fn is_too_soon(b: Board, list: &Releases, at: u64) -> bool
+    requires { none ≡ over (list_refusal (board_view b)) list.now }
+    ensures { result ≡ over (soon_after (board_view b)) list.now at }
 {
     if at < b.last {
         return true;
@@ -88,18 +84,8 @@ fn is_too_soon(b: Board, count: usize, task: &[u32], tick: &[u64], cost: &[u32],
     let kept = kept_of(plan);
     let mut ready: [u64; 1024] = [0; 1024];
     let mut finish: [u64; 1024] = [0; 1024];
-    let _ = jumps::run(
-        plan.tasks,
-        b.frame,
-        &kept,
-        count,
-        task,
-        tick,
-        cost,
-        &mut ready,
-        &mut finish,
-    );
-    any_over(&finish, count, at)
+    let _ = jumps::run(plan.tasks, b.frame, &kept, list, &mut ready, &mut finish);
+    any_over(&finish, list.count, at)
 }
 
 // The checks of a commit: those of the releases, then 19 at 0 where the offer is stale, then 20 at 0 where the tick is too soon.
@@ -108,16 +94,13 @@ pub fn check_commit(
     o: Plan,
     s: TaskSet,
     f: Option<Frame>,
-    count: usize,
-    task: &[u32],
-    tick: &[u64],
-    cost: &[u32],
+    list: &Releases,
     at: u64,
 ) -> Result<(), Refusal>
     ensures { refusal_in result
-        ≡ admission_boards.commit_refusal (board_view b) (commit_of o s f count task.now tick.now cost.now at) }
+        ≡ admission_boards.commit_refusal (board_view b) (over (commit_of o s f) list.now at) }
 {
-    check_list(b, count, task, tick, cost)?;
+    check_list(b, list)?;
     let plan = b.plan;
     if comparison::is_stale(plan.tasks, b.frame, s, f, o) {
         return Err(Refusal {
@@ -125,7 +108,7 @@ pub fn check_commit(
             place: 0,
         });
     }
-    if is_too_soon(b, count, task, tick, cost, at) {
+    if is_too_soon(b, list, at) {
         return Err(Refusal {
             reason: Reason::TooSoon,
             place: 0,
@@ -141,18 +124,15 @@ pub fn commit(
     o: Plan,
     s: TaskSet,
     f: Option<Frame>,
-    count: usize,
-    task: &[u32],
-    tick: &[u64],
-    cost: &[u32],
+    list: &Releases,
     at: u64,
 ) -> Result<(), Refusal>
     ensures answer { answer_by (refusal_in result) (board_view b.new)
-        ≡ admission_boards.commit_call (board_view b.old) (commit_of o s f count task.now tick.now cost.now at) }
+        ≡ admission_boards.commit_call (board_view b.old) (over (commit_of o s f) list.now at) }
     ensures left { board_view b.new
-        ≡ admission_boards.board_after (board_view b.old) (commit_of o s f count task.now tick.now cost.now at) }
+        ≡ admission_boards.board_after (board_view b.old) (over (commit_of o s f) list.now at) }
 {
-    check_commit(*b, o, s, f, count, task, tick, cost, at)?;
+    check_commit(*b, o, s, f, list, at)?;
     *b = Board {
         plan: o,
         frame: f,

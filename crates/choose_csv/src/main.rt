@@ -11,7 +11,7 @@ use std::io::Read;
 // Standard output.
 const STDOUT_FILENO: i32 = 1;
 
-// What follows on a read: it failed, or the answer of the loader is printed, or more is read into it.
+// What follows on a read: it failed, or the answer of the loader is printed, or more is read into it. Three cases, so neither Option nor Result.
 #[derive(Clone, Copy)]
 pub enum Turn {
     Fails,

@@ -25,7 +25,8 @@ pub struct Window {
     pub length: u32,
 }
 
-// A frame: its ticks, the number of its windows, and the windows. Those past the number are not looked at. A sheet may have none.
+// A frame: its ticks, the number of its windows, and the windows. Those past the number are not looked at. A sheet may have none. An array with a
+// count: no heap.
 #[derive(Clone, Copy)]
 pub struct Frame {
     pub ticks: u32,

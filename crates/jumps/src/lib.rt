@@ -15,10 +15,12 @@ ghost use Rattle.frame.specs.FrameView.{framed_of};
 ghost use Rattle.frame.specs.WindowColumns.{IsSupply, frame_in};
 ghost use Rattle.queues.specs.Queues.{jobs_of, never, first_from, wake_of, Timely, Runnable};
 ghost use Rattle.jumps.specs.Jumps.{jump_in, stops_of, comes, coming_of, Queued, Next, Awake, Waking};
+ghost use Rattle.releases.specs.Over.{over};
 
 use frame::{Frame, Supply};
 use queues::{NEVER, first_jobs, first_work, may_run, next_of, wake_of, work_of};
 use refusal::Refusal;
+use releases::Releases;
 use taskset::TaskSet;
 
 // Whether the job at p is one of task i that may not run in tick t yet.
@@ -165,6 +167,7 @@ fn fill_finish(
     let mut wake: u64 = 0;
     let mut t: u64 = 0;
     let mut stops: u32 = 0;
+    // The number of turns is not known before, so this is no `for`.
     loop {
         wake = next_wake(task, ready, n, tasks, t, wake, &mut coming, &mut due);
         let i = top_started(&since, tasks, t);
@@ -201,28 +204,27 @@ pub fn run(
     s: TaskSet,
     f: Option<Frame>,
     kept: &[u32],
-    count: usize,
-    task: &[u32],
-    tick: &[u64],
-    cost: &[u32],
+    list: &Releases,
     ready: &mut [u64],
     finish: &mut [u64],
 ) -> Result<u32, Refusal>
     ensures answer { jump_in result
-        ≡ jump_call (framed_of s f) kept.now count task.now tick.now cost.now ready.old finish.old }
+        ≡ over (jump_call (framed_of s f) kept.now) list.now ready.old finish.old }
     ensures ticks { ready.new
         ≡ column_after (refusal_of
-        (run_inputs (framed_of s f) kept.now count task.now tick.now cost.now ready.old finish.old))
-        (ready_list (framed_of s f) (column kept.now) (releases_of count task.now tick.now cost.now)) ready.old }
+        (over (run_inputs (framed_of s f) kept.now) list.now ready.old finish.old))
+        (ready_list (framed_of s f) (column kept.now) (over releases_of list.now)) ready.old }
     ensures finishes { finish.new
         ≡ column_after (refusal_of
-        (run_inputs (framed_of s f) kept.now count task.now tick.now cost.now ready.old finish.old))
-        (finish_list (framed_of s f) (column kept.now) (releases_of count task.now tick.now cost.now)) finish.old }
+        (over (run_inputs (framed_of s f) kept.now) list.now ready.old finish.old))
+        (finish_list (framed_of s f) (column kept.now) (over releases_of list.now)) finish.old }
 {
-    queues::check_and_shape(s, f, kept, count, task, tick, cost, ready, finish.len())?;
+    queues::check_and_shape(s, f, kept, list, ready, finish.len())?;
     let tasks = s.count;
     let charge = s.charge as u32;
     let supply = frame::supply_of(f);
-    let stops = fill_finish(&supply, task, cost, charge, ready, count, tasks, finish);
+    let stops = fill_finish(
+        &supply, list.task, list.cost, charge, ready, list.count, tasks, finish,
+    );
     Ok(stops)
 }

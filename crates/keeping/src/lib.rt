@@ -18,7 +18,7 @@ pub struct Window {
 }
 
 // What the walk over q says at one q: the least kept jitter, which stops here, with its largest R; that no kept jitter fits;
-// or the largest W(q) + pickup + J − qP so far.
+// or the largest W(q) + pickup + J − qP so far. Three cases, so neither Option nor Result.
 #[derive(Clone, Copy)]
 pub enum Step {
     Stops { keep: u32, worst: u32 },
@@ -70,6 +70,7 @@ fn window_of(
     let mut w: u64 = 0;
     let mut k = 0;
     let mut tries: u64 = 0;
+    // The number of turns is not known before, so this is no `for`.
     loop {
         tries += tally;
         if 10000000 < t {
@@ -140,6 +141,7 @@ pub fn least_keep(
     let mut q: u32 = 0;
     let mut high: u32 = 0;
     let mut evaluations: u64 = 0;
+    // The number of turns is not known before, so this is no `for`.
     loop {
         let window = window_of(columns, factors, keeps, supply, i, once, q)?;
         evaluations += window.tries;

@@ -20,7 +20,7 @@ pub struct LineSoFar {
     pub third: u32,
 }
 
-// What a byte does to a line: it goes on, it ends with a task, or it has another form.
+// What a byte does to a line: it goes on, it ends with a task, or it has another form. Three cases, so neither Option nor Result.
 #[derive(Clone, Copy)]
 pub enum Taken {
     Goes { line: LineSoFar },

@@ -43,6 +43,7 @@ use interface::{
     code_of, put_sheet, put_words, refusal_code, sheet_from, short_code, slots_code, task_at,
 };
 use refusal::{Reason, Refusal};
+use releases::Releases;
 use verdict::Verdict;
 
 // Arrival count of one task in t ticks, with kept jitters: one word.
@@ -151,7 +152,13 @@ pub extern "C" fn nolkrada_trace_check(
         answer.old result answer.new }
 {
     let s = sheet_from(sheet, count, charge);
-    match trace::check_trace(s, n as usize, task, tick, cost) {
+    let list = Releases {
+        count: n as usize,
+        task,
+        tick,
+        cost,
+    };
+    match trace::check_trace(s, &list) {
         Err(r) => slots_code(r, 2, answer.len()),
         Ok(None) => put_words(answer, &[0, 0]),
         Ok(Some(p)) => put_words(answer, &[1, p as u64]),
@@ -182,7 +189,13 @@ pub extern "C" fn nolkrada_ready(
         (releases_of n task.now tick.now cost.now)) ready.old }
 {
     let s = sheet_from(sheet, count, charge);
-    let checked = trace::ready_ticks(s, kept, n as usize, task, tick, cost, ready);
+    let list = Releases {
+        count: n as usize,
+        task,
+        tick,
+        cost,
+    };
+    let checked = trace::ready_ticks(s, kept, &list, ready);
     code_of(checked)
 }
 
@@ -219,7 +232,13 @@ pub extern "C" fn nolkrada_run(
 {
     let s = sheet_from(sheet, count, charge);
     let f = frame_from(frame);
-    let checked = schedule::run(s, f, kept, n as usize, task, tick, cost, ready, finish);
+    let list = Releases {
+        count: n as usize,
+        task,
+        tick,
+        cost,
+    };
+    let checked = schedule::run(s, f, kept, &list, ready, finish);
     code_of(checked)
 }
 
@@ -249,23 +268,19 @@ pub extern "C" fn nolkrada_jump(
 {
     let s = sheet_from(sheet, count, charge);
     let f = frame_from(frame);
+    let list = Releases {
+        count: n as usize,
+        task,
+        tick,
+        cost,
+    };
     if answer.len() < 1 {
-        return match queues::check_two(
-            s,
-            f,
-            kept,
-            n as usize,
-            task,
-            tick,
-            cost,
-            ready.len(),
-            finish.len(),
-        ) {
+        return match queues::check_two(s, f, kept, &list, ready.len(), finish.len()) {
             Err(r) => slots_code(r, 1, answer.len()),
             Ok(()) => short_code(1),
         };
     }
-    match jumps::run(s, f, kept, n as usize, task, tick, cost, ready, finish) {
+    match jumps::run(s, f, kept, &list, ready, finish) {
         Err(r) => refusal_code(r),
         Ok(stops) => put_words(answer, &[u64::from(stops)]),
     }
@@ -404,13 +419,19 @@ pub extern "C" fn nolkrada_write(
         out.old answer.old result out.new answer.new }
 {
     let s = sheet_from(sheet, count, charge);
+    let list = Releases {
+        count: n as usize,
+        task,
+        tick,
+        cost,
+    };
     if answer.len() < 1 {
-        return match writer::check_write(s, n as usize, task, tick, cost, out.len()) {
+        return match writer::check_write(s, &list, out.len()) {
             Err(r) => slots_code(r, 1, answer.len()),
             Ok(()) => short_code(1),
         };
     }
-    match writer::write(s, n as usize, task, tick, cost, out) {
+    match writer::write(s, &list, out) {
         Err(r) => refusal_code(r),
         Ok(bytes) => put_words(answer, &[bytes as u64]),
     }
@@ -540,7 +561,13 @@ pub extern "C" fn nolkrada_board_commit(
     let o = rows::plan_from(offer);
     let s = sheet_from(sheet, count, charge);
     let f = frame_from(frame);
-    rowcalls::commit_row(board, o, s, f, n as usize, task, tick, cost, at)
+    let list = Releases {
+        count: n as usize,
+        task,
+        tick,
+        cost,
+    };
+    rowcalls::commit_row(board, o, s, f, &list, at)
 }
 
 // The small trace of a sheet at a position counted from 0, of up to `releases` releases with ticks below `ticks`: its releases in three columns, and two words,

@@ -14,9 +14,11 @@ ghost use Rattle.frame.specs.FrameView.{frame_of, framed_of};
 ghost use Rattle.trace.specs.TraceCalls.{call_inputs};
 ghost use Rattle.queues.specs.Framed.{framed_first};
 ghost use Rattle.queues.specs.Queues.{start_of, next_of, never, wake_of, top_ready, wake_all, work_of, Timely, Workable};
+ghost use Rattle.releases.specs.Over.{over};
 
 use frame::Frame;
 use refusal::Refusal;
+use releases::Releases;
 use taskset::{PICKUP, TaskSet};
 
 // A tick over every start and finish tick of a run.
@@ -146,18 +148,15 @@ pub fn check_two(
     s: TaskSet,
     f: Option<Frame>,
     kept: &[u32],
-    count: usize,
-    task: &[u32],
-    tick: &[u64],
-    cost: &[u32],
+    list: &Releases,
     first: usize,
     second: usize,
 ) -> Result<(), Refusal>
     ensures { refusal_in result
-        ≡ refusal_of (call_inputs (framed_of s f) kept.now count task.now tick.now cost.now (min first second)) }
+        ≡ refusal_of (over (call_inputs (framed_of s f) kept.now) list.now (min first second)) }
 {
     check_framed(s, f)?;
-    trace::check_two(s, kept, count, task, tick, cost, first, second)
+    trace::check_two(s, kept, list, first, second)
 }
 
 // The checks of a run, with `slots` for the finish ticks; where they pass, the ready ticks are written to the first slots of `ready`.
@@ -165,20 +164,17 @@ pub fn check_and_shape(
     s: TaskSet,
     f: Option<Frame>,
     kept: &[u32],
-    count: usize,
-    task: &[u32],
-    tick: &[u64],
-    cost: &[u32],
+    list: &Releases,
     ready: &mut [u64],
     slots: usize,
 ) -> Result<(), Refusal>
     ensures refusal { refusal_in result
-        ≡ refusal_of (call_inputs (framed_of s f) kept.now count task.now tick.now cost.now
+        ≡ refusal_of (over (call_inputs (framed_of s f) kept.now) list.now
         (min (length ready.old) slots)) }
     ensures ticks { ready.new
         ≡ column_after (refusal_in result)
-        (ready_list (framed_of s f) (column kept.now) (releases_of count task.now tick.now cost.now)) ready.old }
+        (ready_list (framed_of s f) (column kept.now) (over releases_of list.now)) ready.old }
 {
     check_framed(s, f)?;
-    trace::check_and_shape(s, kept, count, task, tick, cost, ready, slots)
+    trace::check_and_shape(s, kept, list, ready, slots)
 }

@@ -26,6 +26,7 @@ fn scan(f: &[u8]) -> Result<Scanned, Refusal>
     let mut before: u64 = 0;
     let mut start = 0;
     let mut at = 0;
+    // The number of turns is not known before, so this is no `for`.
     loop {
         match record_at(f, at) {
             Err(Fault::Reason(reason)) => return Err(Refusal { reason, place: at }),

@@ -1,1 +1,2 @@
 pub mod Releases
+pub mod Over

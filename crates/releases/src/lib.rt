@@ -10,12 +10,22 @@ ghost use Rattle.refusal.specs.Refusal.{refusal_in};
 ghost use Rattle.taskset.specs.TaskSet.{view_of};
 ghost use Rattle.model.specs.Checks.{fault_at};
 ghost use Rattle.releases.specs.Releases.{release};
+ghost use Rattle.releases.specs.Over.{over};
 
 use refusal::{Reason, Refusal};
 use taskset::TaskSet;
 
 // The largest tick of a release.
 const MAX_TICK: u64 = 1000000000000000;
+
+// A list of releases in three columns: how many, and for each its task, its tick and its cost. Slots past the count are not looked at.
+#[derive(Clone, Copy)]
+pub struct Releases<'a> {
+    pub count: usize,
+    pub task: &'a [u32],
+    pub tick: &'a [u64],
+    pub cost: &'a [u32],
+}
 
 // One release of a task whose cost is `most`, whose tick may be `low` to `high`: 8 or 9 with the place given, or nothing wrong.
 pub fn check_release(
@@ -56,17 +66,16 @@ pub fn check_release(
 }
 
 // The releases in order, none of them before tick `since`: 7, 8 or 9 at the first release with a fault.
-pub fn check_releases(
-    s: TaskSet,
-    since: u64,
-    count: usize,
-    task: &[u32],
-    tick: &[u64],
-    cost: &[u32],
-) -> Result<(), Refusal>
-    requires { (s.count ≤ 32) × (count ≤ length task.now) × (count ≤ length tick.now) × (count ≤ length cost.now) }
-    ensures { refusal_in result ≡ check_releases (view_of s) since 0 (releases_of count task.now tick.now cost.now) }
+pub fn check_releases(s: TaskSet, since: u64, list: &Releases) -> Result<(), Refusal>
+    requires { (s.count ≤ 32) × (list.now.count ≤ length list.now.task.now) × (list.now.count ≤ length list.now.tick.now) × (list.now.count ≤ length list.now.cost.now) }
+    ensures { refusal_in result ≡ check_releases (view_of s) since 0 (over releases_of list.now) }
 {
+    let Releases {
+        count,
+        task,
+        tick,
+        cost,
+    } = *list;
     let tasks = s.count;
     let mut before = since;
     for i in 0..count {
@@ -124,17 +133,11 @@ pub fn check_columns(count: usize, task: &[u32], tick: &[u64], cost: &[u32]) -> 
 }
 
 // A sheet and a list: the sheet (5, 4, 6), the list's count (10), its columns (13), its releases (7, 8, 9).
-pub fn check_list(
-    s: TaskSet,
-    count: usize,
-    task: &[u32],
-    tick: &[u64],
-    cost: &[u32],
-) -> Result<(), Refusal>
-    ensures { refusal_in result ≡ refusal_of (list_inputs (view_of s) count task.now tick.now cost.now) }
+pub fn check_list(s: TaskSet, list: &Releases) -> Result<(), Refusal>
+    ensures { refusal_in result ≡ refusal_of (over (list_inputs (view_of s)) list.now) }
 {
     taskset::check(s)?;
-    check_count(count)?;
-    check_columns(count, task, tick, cost)?;
-    check_releases(s, 0, count, task, tick, cost)
+    check_count(list.count)?;
+    check_columns(list.count, list.task, list.tick, list.cost)?;
+    check_releases(s, 0, list)
 }

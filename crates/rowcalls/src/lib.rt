@@ -8,10 +8,12 @@ ghost use Rattle.plan.specs.PlanView.{task_entry, board_view};
 ghost use Rattle.board.specs.BoardCalls.{commit_of};
 ghost use Rattle.rows.specs.Rows as rows_rows;
 ghost use Rattle.interface.specs.Interface.{as_words, Ends};
+ghost use Rattle.releases.specs.Over.{over};
 
 use frame::Frame;
 use interface::{short_code, slots_code};
 use plan::Plan;
+use releases::Releases;
 use taskset::{Task, TaskSet};
 
 // Opens a board in a row of 264 numbers.
@@ -52,19 +54,16 @@ pub fn commit_row(
     o: Plan,
     s: TaskSet,
     f: Option<Frame>,
-    count: usize,
-    task: &[u32],
-    tick: &[u64],
-    cost: &[u32],
+    list: &Releases,
     at: u64,
 ) -> u64
     ensures { Ends rows_rows.board_numbers
         (as_words rows_rows.board_row
         (admission_boards.commit_call (board_view (rows_rows.board_from row.old))
-        (commit_of o s f count task.now tick.now cost.now at))) row.old result row.new }
+        (over (commit_of o s f) list.now at))) row.old result row.new }
 {
     let mut b = rows::board_from(row);
-    match board::commit(&mut b, o, s, f, count, task, tick, cost, at) {
+    match board::commit(&mut b, o, s, f, list, at) {
         Err(r) => slots_code(r, 264, row.len()),
         Ok(()) => {
             if row.len() < 264 {

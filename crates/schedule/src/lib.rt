@@ -13,10 +13,12 @@ ghost use Rattle.refusal.specs.Refusal.{refusal_in};
 ghost use Rattle.frame.specs.FrameView.{framed_of};
 ghost use Rattle.frame.specs.WindowColumns.{HasColumns, frame_in};
 ghost use Rattle.queues.specs.Queues.{jobs_of, Runnable};
+ghost use Rattle.releases.specs.Over.{over};
 
 use frame::{Frame, Supply};
 use queues::{NEVER, first_jobs, first_work, next_of, top_ready, wake_all, work_of};
 use refusal::Refusal;
+use releases::Releases;
 use taskset::TaskSet;
 
 // The finish ticks of the run of n jobs in a frame, if any, in the first n slots of the column lent. `head` has the oldest unfinished job of
@@ -42,6 +44,7 @@ fn fill_finish(
     let mut left = first_work(&head, cost, charge, n, tasks);
     let mut wake: u64 = 0;
     let mut t: u64 = 0;
+    // The number of turns is not known before, so this is no `for`.
     loop {
         if t < wake {
             t += 1;
@@ -82,29 +85,28 @@ pub fn run(
     s: TaskSet,
     f: Option<Frame>,
     kept: &[u32],
-    count: usize,
-    task: &[u32],
-    tick: &[u64],
-    cost: &[u32],
+    list: &Releases,
     ready: &mut [u64],
     finish: &mut [u64],
 ) -> Result<(), Refusal>
     ensures refusal { refusal_in result
-        ≡ refusal_of (run_inputs (framed_of s f) kept.now count task.now tick.now cost.now ready.old
+        ≡ refusal_of (over (run_inputs (framed_of s f) kept.now) list.now ready.old
         finish.old) }
     ensures ticks { ready.new
         ≡ column_after (refusal_of
-        (run_inputs (framed_of s f) kept.now count task.now tick.now cost.now ready.old finish.old))
-        (ready_list (framed_of s f) (column kept.now) (releases_of count task.now tick.now cost.now)) ready.old }
+        (over (run_inputs (framed_of s f) kept.now) list.now ready.old finish.old))
+        (ready_list (framed_of s f) (column kept.now) (over releases_of list.now)) ready.old }
     ensures finishes { finish.new
         ≡ column_after (refusal_of
-        (run_inputs (framed_of s f) kept.now count task.now tick.now cost.now ready.old finish.old))
-        (finish_list (framed_of s f) (column kept.now) (releases_of count task.now tick.now cost.now)) finish.old }
+        (over (run_inputs (framed_of s f) kept.now) list.now ready.old finish.old))
+        (finish_list (framed_of s f) (column kept.now) (over releases_of list.now)) finish.old }
 {
-    queues::check_and_shape(s, f, kept, count, task, tick, cost, ready, finish.len())?;
+    queues::check_and_shape(s, f, kept, list, ready, finish.len())?;
     let tasks = s.count;
     let charge = s.charge as u32;
     let supply = frame::supply_of(f);
-    fill_finish(&supply, task, cost, charge, ready, count, tasks, finish);
+    fill_finish(
+        &supply, list.task, list.cost, charge, ready, list.count, tasks, finish,
+    );
     Ok(())
 }

@@ -24,7 +24,7 @@ pub struct Task {
 }
 
 // "Sheet": a count and 32 task entries, task 0 with the highest priority, and the charge S that each job takes beside its cost, 0 where
-// there is none. Entries past the count are not looked at.
+// there is none. Entries past the count are not looked at. An array with a count, as all of the library: it has no heap.
 #[derive(Clone, Copy)]
 pub struct TaskSet {
     pub tasks: [Task; 32],

@@ -12,8 +12,10 @@ ghost use Rattle.refusal.specs.Refusal.{refusal_in, option_in};
 ghost use Rattle.taskset.specs.TaskSet.{view_of};
 ghost use Rattle.trace.specs.Standing.{Standing};
 ghost use Rattle.trace.specs.TraceCalls.{trace_in, slots_lent, call_inputs, Shapable};
+ghost use Rattle.releases.specs.Over.{over};
 
 use refusal::{Reason, Refusal};
+use releases::Releases;
 use shaper::Shaper;
 use taskset::TaskSet;
 
@@ -54,18 +56,17 @@ fn full_shapers(s: TaskSet) -> Shapers
 }
 
 // The ready ticks of a list that passed its check, written to the first slots of a column: each release goes through its task's shaper.
-pub fn fill_ready(
-    s: TaskSet,
-    kept: &[u32],
-    count: usize,
-    task: &[u32],
-    tick: &[u64],
-    ready: &mut [u64],
-)
-    requires { Shapable (view_of s) count task.now tick.now × (s.count ≤ length kept.now) × (count ≤ length ready.old) }
+pub fn fill_ready(s: TaskSet, kept: &[u32], list: &Releases, ready: &mut [u64])
+    requires { Shapable (view_of s) list.now.count list.now.task.now list.now.tick.now × (s.count ≤ length kept.now) × (list.now.count ≤ length ready.old) }
     ensures { (cost : List ℕ) → ready.new ≡ ready_list (view_of s) (column kept.now)
-        (releases_of count task.now tick.now cost) ++ drop count ready.old }
+        (releases_of list.now.count list.now.task.now list.now.tick.now cost) ++ drop list.now.count ready.old }
 {
+    let Releases {
+        count,
+        task,
+        tick,
+        ..
+    } = *list;
     let mut all = kept_shapers(s, kept);
     for p in 0..count {
         let i = task[p] as usize;
@@ -78,10 +79,16 @@ pub fn fill_ready(
 
 // The first release that is too close to an earlier one of its task, in a list that passed its check: the first that the shapers with the
 // full jitters would move. None: the list is legal.
-fn first_close(s: TaskSet, count: usize, task: &[u32], tick: &[u64]) -> Option<usize>
-    requires { Shapable (view_of s) count task.now tick.now }
-    ensures { (cost : List ℕ) → option_in result ≡ first_close (view_of s) (releases_of count task.now tick.now cost) }
+fn first_close(s: TaskSet, list: &Releases) -> Option<usize>
+    requires { Shapable (view_of s) list.now.count list.now.task.now list.now.tick.now }
+    ensures { (cost : List ℕ) → option_in result ≡ first_close (view_of s) (releases_of list.now.count list.now.task.now list.now.tick.now cost) }
 {
+    let Releases {
+        count,
+        task,
+        tick,
+        ..
+    } = *list;
     let mut all = full_shapers(s);
     for p in 0..count {
         let i = task[p] as usize;
@@ -98,31 +105,17 @@ fn first_close(s: TaskSet, count: usize, task: &[u32], tick: &[u64]) -> Option<u
 
 // The trace check of a list of releases, after the checks of sheet and list: the first release that is too close to an earlier one of its
 // task, or none where the list is legal.
-pub fn check_trace(
-    s: TaskSet,
-    count: usize,
-    task: &[u32],
-    tick: &[u64],
-    cost: &[u32],
-) -> Result<Option<usize>, Refusal>
-    ensures { trace_in result ≡ trace_call (view_of s) count task.now tick.now cost.now }
+pub fn check_trace(s: TaskSet, list: &Releases) -> Result<Option<usize>, Refusal>
+    ensures { trace_in result ≡ over (trace_call (view_of s)) list.now }
 {
-    releases::check_list(s, count, task, tick, cost)?;
-    Ok(first_close(s, count, task, tick))
+    releases::check_list(s, list)?;
+    Ok(first_close(s, list))
 }
 
 // The lent slices of a call with kept jitters and a list: 13 at the first that is too short. `slots` is the length of the shortest column
 // that the call writes by release.
-fn check_slots(
-    tasks: usize,
-    kept: &[u32],
-    count: usize,
-    task: &[u32],
-    tick: &[u64],
-    cost: &[u32],
-    slots: usize,
-) -> Result<(), Refusal>
-    ensures { refusal_in result ≡ check_slots (slots_lent tasks kept.now count task.now tick.now cost.now slots) }
+fn check_slots(tasks: usize, kept: &[u32], list: &Releases, slots: usize) -> Result<(), Refusal>
+    ensures { refusal_in result ≡ check_slots (over (slots_lent tasks kept.now) list.now slots) }
 {
     if kept.len() < tasks {
         return Err(Refusal {
@@ -130,11 +123,11 @@ fn check_slots(
             place: tasks,
         });
     }
-    releases::check_columns(count, task, tick, cost)?;
-    if slots < count {
+    releases::check_columns(list.count, list.task, list.tick, list.cost)?;
+    if slots < list.count {
         return Err(Refusal {
             reason: Reason::ShortSlice,
-            place: count,
+            place: list.count,
         });
     }
     Ok(())
@@ -142,39 +135,28 @@ fn check_slots(
 
 // The checks of a call with kept jitters and a list: the sheet (5, 4, 6, 17), the list's count (10), the lent slices (13), the kept jitters (12),
 // the releases (7, 8, 9).
-pub fn check_call(
-    s: TaskSet,
-    kept: &[u32],
-    count: usize,
-    task: &[u32],
-    tick: &[u64],
-    cost: &[u32],
-    slots: usize,
-) -> Result<(), Refusal>
-    ensures { refusal_in result ≡ refusal_of (call_inputs (view_of s) kept.now count task.now tick.now cost.now slots) }
+pub fn check_call(s: TaskSet, kept: &[u32], list: &Releases, slots: usize) -> Result<(), Refusal>
+    ensures { refusal_in result ≡ refusal_of (over (call_inputs (view_of s) kept.now) list.now slots) }
 {
     taskset::check(s)?;
-    releases::check_count(count)?;
-    check_slots(s.count, kept, count, task, tick, cost, slots)?;
+    releases::check_count(list.count)?;
+    check_slots(s.count, kept, list, slots)?;
     taskset::check_kept(s, kept)?;
-    releases::check_releases(s, 0, count, task, tick, cost)
+    releases::check_releases(s, 0, list)
 }
 
 // The checks of a call to which two columns for its answer are lent, of so many slots.
 pub fn check_two(
     s: TaskSet,
     kept: &[u32],
-    count: usize,
-    task: &[u32],
-    tick: &[u64],
-    cost: &[u32],
+    list: &Releases,
     first: usize,
     second: usize,
 ) -> Result<(), Refusal>
     ensures { refusal_in result
-        ≡ refusal_of (call_inputs (view_of s) kept.now count task.now tick.now cost.now (min first second)) }
+        ≡ refusal_of (over (call_inputs (view_of s) kept.now) list.now (min first second)) }
 {
-    check_call(s, kept, count, task, tick, cost, first.min(second))
+    check_call(s, kept, list, first.min(second))
 }
 
 // The checks of a call to which a column for ready ticks and another of so many slots are lent, and where they pass the ready ticks of the
@@ -182,22 +164,19 @@ pub fn check_two(
 pub fn check_and_shape(
     s: TaskSet,
     kept: &[u32],
-    count: usize,
-    task: &[u32],
-    tick: &[u64],
-    cost: &[u32],
+    list: &Releases,
     ready: &mut [u64],
     slots: usize,
 ) -> Result<(), Refusal>
     ensures refusal { refusal_in result
-        ≡ refusal_of (call_inputs (view_of s) kept.now count task.now tick.now cost.now
+        ≡ refusal_of (over (call_inputs (view_of s) kept.now) list.now
         (min (length ready.old) slots)) }
     ensures ticks { ready.new
         ≡ column_after (refusal_in result)
-        (ready_list (view_of s) (column kept.now) (releases_of count task.now tick.now cost.now)) ready.old }
+        (ready_list (view_of s) (column kept.now) (over releases_of list.now)) ready.old }
 {
-    check_two(s, kept, count, task, tick, cost, ready.len(), slots)?;
-    fill_ready(s, kept, count, task, tick, ready);
+    check_two(s, kept, list, ready.len(), slots)?;
+    fill_ready(s, kept, list, ready);
     Ok(())
 }
 
@@ -205,18 +184,15 @@ pub fn check_and_shape(
 pub fn ready_ticks(
     s: TaskSet,
     kept: &[u32],
-    count: usize,
-    task: &[u32],
-    tick: &[u64],
-    cost: &[u32],
+    list: &Releases,
     ready: &mut [u64],
 ) -> Result<(), Refusal>
     ensures refusal { refusal_in result
-        ≡ refusal_of (ready_inputs (view_of s) kept.now count task.now tick.now cost.now ready.old) }
+        ≡ refusal_of (over (ready_inputs (view_of s) kept.now) list.now ready.old) }
     ensures ticks { ready.new
-        ≡ column_after (refusal_of (ready_inputs (view_of s) kept.now count task.now tick.now cost.now ready.old))
-        (ready_list (view_of s) (column kept.now) (releases_of count task.now tick.now cost.now)) ready.old }
+        ≡ column_after (refusal_of (over (ready_inputs (view_of s) kept.now) list.now ready.old))
+        (ready_list (view_of s) (column kept.now) (over releases_of list.now)) ready.old }
 {
     let slots = ready.len();
-    check_and_shape(s, kept, count, task, tick, cost, ready, slots)
+    check_and_shape(s, kept, list, ready, slots)
 }

@@ -8,11 +8,13 @@ ghost use Rattle.admission.specs.Offers as admission_offers;
 ghost use Rattle.admission.specs.Boards as admission_boards;
 ghost use Rattle.plan.specs.PlanView.{task_entry, board_view};
 ghost use Rattle.offer.specs.Plans.{plan_in};
+ghost use Rattle.releases.specs.Over.{over};
 ghost use Rattle.board.specs.BoardCalls.{board_in, commit_of};
 
 use frame::{Frame, Window};
 use plan::{Board, Plan};
 use refusal::Refusal;
+use releases::Releases;
 use taskset::{Task, TaskSet};
 
 // The board, and the offer of the last ask that was not refused.
@@ -108,16 +110,13 @@ fn commit_call(
     offer: Plan,
     set: TaskSet,
     frame: Option<Frame>,
-    count: usize,
-    task: &[u32],
-    tick: &[u64],
-    cost: &[u32],
+    list: &Releases,
     at: u64,
 )
     ensures { board_view board.new
-        ≡ admission_boards.board_after (board_view board.old) (commit_of offer set frame count task.now tick.now cost.now at) }
+        ≡ admission_boards.board_after (board_view board.old) (over (commit_of offer set frame) list.now at) }
 {
-    let got = board::commit(board, offer, set, frame, count, task, tick, cost, at);
+    let got = board::commit(board, offer, set, frame, list, at);
     print_answer(&got);
 }
 
@@ -229,19 +228,15 @@ fn commit_step(held: Held, head: &[u32; 168]) -> Held {
     let task = cases::lent_column::<1056>();
     let tick = cases::lent_ticks::<1056>();
     let cost = cases::lent_column::<1056>();
+    let list = Releases {
+        count: cases::index(head[1]),
+        task: task.as_slice(),
+        tick: tick.as_slice(),
+        cost: cost.as_slice(),
+    };
     let at = read_tick();
     let mut board = held.board;
-    commit_call(
-        &mut board,
-        offer,
-        set,
-        frame,
-        cases::index(head[1]),
-        task.as_slice(),
-        tick.as_slice(),
-        cost.as_slice(),
-        at,
-    );
+    commit_call(&mut board, offer, set, frame, &list, at);
     print_board(board);
     Held {
         board,

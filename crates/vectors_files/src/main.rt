@@ -7,10 +7,12 @@ ghost use Rattle.model.specs.Checks.{refusal_of};
 ghost use Rattle.model.specs.Calls.{column_after};
 ghost use Rattle.taskset.specs.TaskSet.{view_of};
 ghost use Rattle.fileformat.specs.File.{encode};
+ghost use Rattle.releases.specs.Over.{over};
 ghost use Rattle.fileformat.specs.FileCalls.{file_of, read_call, read_column, write_inputs};
 
 use reader::ReadAnswer;
 use refusal::Refusal;
+use releases::Releases;
 use taskset::TaskSet;
 
 // Standard output.
@@ -92,14 +94,14 @@ fn print_written(answer: Result<usize, Refusal>) {
 }
 
 // Calls the write, and prints the answer and the bytes lent.
-fn write_call(set: TaskSet, count: usize, task: &[u32], tick: &[u64], cost: &[u32], out: &mut [u8])
+fn write_call(set: TaskSet, list: &Releases, out: &mut [u8])
     ensures { out.new
         ≡ column_after
-        (refusal_of (write_inputs (view_of set) count task.now tick.now cost.now (length out.old)))
-        (encode (file_of set count task.now tick.now cost.now))
+        (refusal_of (over (write_inputs (view_of set)) list.now (length out.old)))
+        (encode (over (file_of set) list.now))
         out.old }
 {
-    print_written(writer::write(set, count, task, tick, cost, out));
+    print_written(writer::write(set, list, out));
     print_bytes(out, out.len());
 }
 
@@ -112,20 +114,19 @@ fn write_case(head: &[u32; 168]) {
     let cost = cases::lent_column::<1056>();
     let mut out = [0u8; 16384];
     let n = cases::read_block(&mut out);
-    write_call(
-        set,
+    let list = Releases {
         count,
-        task.as_slice(),
-        tick.as_slice(),
-        cost.as_slice(),
-        &mut out[..n],
-    );
+        task: task.as_slice(),
+        tick: tick.as_slice(),
+        cost: cost.as_slice(),
+    };
+    write_call(set, &list, &mut out[..n]);
 }
 
 // Writes what was read, and prints the bytes of the file.
-fn write_again(set: TaskSet, count: usize, task: &[u32], tick: &[u64], cost: &[u32]) {
+fn write_again(set: TaskSet, list: &Releases) {
     let mut out = [0u8; 16384];
-    let answer = writer::write(set, count, task, tick, cost, &mut out);
+    let answer = writer::write(set, list, &mut out);
     print_written(answer);
     if let Ok(bytes) = answer {
         print_bytes(&out, bytes);
@@ -140,7 +141,15 @@ fn again_case() {
     let mut tick = [0u64; 1024];
     let mut cost = [0u32; 1024];
     match reader::read(&file[..n], &mut task, &mut tick, &mut cost) {
-        Ok(got) => write_again(got.tasks, got.releases, &task, &tick, &cost),
+        Ok(got) => {
+            let list = Releases {
+                count: got.releases,
+                task: &task,
+                tick: &tick,
+                cost: &cost,
+            };
+            write_again(got.tasks, &list)
+        }
         Err(r) => cases::print_refusal(r),
     }
 }

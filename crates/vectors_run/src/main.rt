@@ -10,9 +10,11 @@ ghost use Rattle.model.specs.Ready.{ready_list};
 ghost use Rattle.model.specs.Run.{finish_list};
 ghost use Rattle.model.specs.Calls.{releases_of, column_after, run_inputs};
 ghost use Rattle.frame.specs.FrameView.{framed_of};
+ghost use Rattle.releases.specs.Over.{over};
 
 use frame::Frame;
 use refusal::Refusal;
+use releases::Releases;
 use taskset::TaskSet;
 
 // Calls the run, and prints the answer and the columns lent.
@@ -20,25 +22,22 @@ fn run_call(
     set: TaskSet,
     frame: Option<Frame>,
     kept: &[u32],
-    count: usize,
-    task: &[u32],
-    tick: &[u64],
-    cost: &[u32],
+    list: &Releases,
     ready: &mut [u64],
     finish: &mut [u64],
 )
     ensures ticks { ready.new
         ≡ column_after
-        (refusal_of (run_inputs (framed_of set frame) kept.now count task.now tick.now cost.now ready.old finish.old))
-        (ready_list (framed_of set frame) (column kept.now) (releases_of count task.now tick.now cost.now))
+        (refusal_of (over (run_inputs (framed_of set frame) kept.now) list.now ready.old finish.old))
+        (ready_list (framed_of set frame) (column kept.now) (over releases_of list.now))
         ready.old }
     ensures finishes { finish.new
         ≡ column_after
-        (refusal_of (run_inputs (framed_of set frame) kept.now count task.now tick.now cost.now ready.old finish.old))
-        (finish_list (framed_of set frame) (column kept.now) (releases_of count task.now tick.now cost.now))
+        (refusal_of (over (run_inputs (framed_of set frame) kept.now) list.now ready.old finish.old))
+        (finish_list (framed_of set frame) (column kept.now) (over releases_of list.now))
         finish.old }
 {
-    cases::print_checked(schedule::run(set, frame, kept, count, task, tick, cost, ready, finish));
+    cases::print_checked(schedule::run(set, frame, kept, list, ready, finish));
     cases::print_ticks(ready);
     cases::print_ticks(finish);
 }
@@ -59,25 +58,22 @@ fn jump_call(
     set: TaskSet,
     frame: Option<Frame>,
     kept: &[u32],
-    count: usize,
-    task: &[u32],
-    tick: &[u64],
-    cost: &[u32],
+    list: &Releases,
     ready: &mut [u64],
     finish: &mut [u64],
 )
     ensures ticks { ready.new
         ≡ column_after
-        (refusal_of (run_inputs (framed_of set frame) kept.now count task.now tick.now cost.now ready.old finish.old))
-        (ready_list (framed_of set frame) (column kept.now) (releases_of count task.now tick.now cost.now))
+        (refusal_of (over (run_inputs (framed_of set frame) kept.now) list.now ready.old finish.old))
+        (ready_list (framed_of set frame) (column kept.now) (over releases_of list.now))
         ready.old }
     ensures finishes { finish.new
         ≡ column_after
-        (refusal_of (run_inputs (framed_of set frame) kept.now count task.now tick.now cost.now ready.old finish.old))
-        (finish_list (framed_of set frame) (column kept.now) (releases_of count task.now tick.now cost.now))
+        (refusal_of (over (run_inputs (framed_of set frame) kept.now) list.now ready.old finish.old))
+        (finish_list (framed_of set frame) (column kept.now) (over releases_of list.now))
         finish.old }
 {
-    print_jump(jumps::run(set, frame, kept, count, task, tick, cost, ready, finish));
+    print_jump(jumps::run(set, frame, kept, list, ready, finish));
     cases::print_ticks(ready);
     cases::print_ticks(finish);
 }
@@ -92,6 +88,12 @@ fn run_case(head: &[u32; 168]) {
     let task = cases::lent_column::<1056>();
     let tick = cases::lent_ticks::<1056>();
     let cost = cases::lent_column::<1056>();
+    let list = Releases {
+        count,
+        task: task.as_slice(),
+        tick: tick.as_slice(),
+        cost: cost.as_slice(),
+    };
     let mut ready = cases::lent_ticks::<1056>();
     let readies = ready.lent;
     let mut finish = cases::lent_ticks::<1056>();
@@ -103,10 +105,7 @@ fn run_case(head: &[u32; 168]) {
             set,
             frame,
             kept.as_slice(),
-            count,
-            task.as_slice(),
-            tick.as_slice(),
-            cost.as_slice(),
+            &list,
             &mut ready.slots[..readies],
             &mut finish.slots[..finishes],
         );
@@ -116,10 +115,7 @@ fn run_case(head: &[u32; 168]) {
         set,
         frame,
         kept.as_slice(),
-        count,
-        task.as_slice(),
-        tick.as_slice(),
-        cost.as_slice(),
+        &list,
         &mut ready2[..readies],
         &mut finish2[..finishes],
     );

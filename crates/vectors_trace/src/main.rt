@@ -7,9 +7,11 @@ ghost use Rattle.model.specs.Choice.{column};
 ghost use Rattle.model.specs.Checks.{refusal_of};
 ghost use Rattle.model.specs.Ready.{ready_list};
 ghost use Rattle.model.specs.Calls.{releases_of, column_after, ready_inputs};
+ghost use Rattle.releases.specs.Over.{over};
 ghost use Rattle.taskset.specs.TaskSet.{view_of};
 
 use refusal::Refusal;
+use releases::Releases;
 use taskset::TaskSet;
 
 // Prints what the trace check answers.
@@ -28,32 +30,24 @@ fn trace_case(head: &[u32; 168]) {
     let task = cases::lent_column::<1056>();
     let tick = cases::lent_ticks::<1056>();
     let cost = cases::lent_column::<1056>();
-    print_trace(trace::check_trace(
-        set,
+    let list = Releases {
         count,
-        task.as_slice(),
-        tick.as_slice(),
-        cost.as_slice(),
-    ));
+        task: task.as_slice(),
+        tick: tick.as_slice(),
+        cost: cost.as_slice(),
+    };
+    print_trace(trace::check_trace(set, &list));
 }
 
 // Calls the ready ticks, and prints the answer and the column lent.
-fn ready_call(
-    set: TaskSet,
-    kept: &[u32],
-    count: usize,
-    task: &[u32],
-    tick: &[u64],
-    cost: &[u32],
-    ready: &mut [u64],
-)
+fn ready_call(set: TaskSet, kept: &[u32], list: &Releases, ready: &mut [u64])
     ensures { ready.new
         ≡ column_after
-        (refusal_of (ready_inputs (view_of set) kept.now count task.now tick.now cost.now ready.old))
-        (ready_list (view_of set) (column kept.now) (releases_of count task.now tick.now cost.now))
+        (refusal_of (over (ready_inputs (view_of set) kept.now) list.now ready.old))
+        (ready_list (view_of set) (column kept.now) (over releases_of list.now))
         ready.old }
 {
-    cases::print_checked(trace::ready_ticks(set, kept, count, task, tick, cost, ready));
+    cases::print_checked(trace::ready_ticks(set, kept, list, ready));
     cases::print_ticks(ready);
 }
 
@@ -65,17 +59,15 @@ fn ready_case(head: &[u32; 168]) {
     let task = cases::lent_column::<1056>();
     let tick = cases::lent_ticks::<1056>();
     let cost = cases::lent_column::<1056>();
+    let list = Releases {
+        count,
+        task: task.as_slice(),
+        tick: tick.as_slice(),
+        cost: cost.as_slice(),
+    };
     let mut ready = cases::lent_ticks::<1056>();
     let readies = ready.lent;
-    ready_call(
-        set,
-        kept.as_slice(),
-        count,
-        task.as_slice(),
-        tick.as_slice(),
-        cost.as_slice(),
-        &mut ready.slots[..readies],
-    );
+    ready_call(set, kept.as_slice(), &list, &mut ready.slots[..readies]);
 }
 
 // One case: 0 is the trace check, 1 the ready ticks.

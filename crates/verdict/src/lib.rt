@@ -101,6 +101,7 @@ fn walk(
     let mut best = Best { worst: 0, first: 0 };
     let mut q: u32 = 0;
     let mut evaluations: u64 = 0;
+    // The number of turns is not known before, so this is no `for`.
     'walk: loop {
         let own = u64::from(q + 1) * u64::from(cost);
         let need = own + once;

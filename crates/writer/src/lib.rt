@@ -13,8 +13,10 @@ ghost use Rattle.refusal.specs.Refusal.{refusal_in};
 ghost use Rattle.taskset.specs.TaskSet.{view_of};
 ghost use Rattle.fileformat.specs.FileCalls.{tasks_in, charge_bytes, tasks_bytes, sheet_bytes, list_bytes, write_inputs};
 ghost use Rattle.writer.specs.Writer.{stored, number_bytes, sheet_part, part, Alike, Rising, Cut, WriteSays};
+ghost use Rattle.releases.specs.Over.{over};
 
 use refusal::{Reason, Refusal};
+use releases::Releases;
 use taskset::{Task, TaskSet};
 
 // The low byte of a number.
@@ -210,22 +212,15 @@ fn put_part(
 
 // The checks of a write: the sheet (5, 4, 6, 17), the count (10), the columns and then the bytes (13), the releases (7, 8, 9). The releases are
 // looked at before the bytes are counted: where they pass, the ticks never fall, and the bytes are known by the last ticks.
-pub fn check_write(
-    s: TaskSet,
-    count: usize,
-    task: &[u32],
-    tick: &[u64],
-    cost: &[u32],
-    room: usize,
-) -> Result<(), Refusal>
-    ensures { refusal_in result ≡ refusal_of (write_inputs (view_of s) count task.now tick.now cost.now room) }
+pub fn check_write(s: TaskSet, list: &Releases, room: usize) -> Result<(), Refusal>
+    ensures { refusal_in result ≡ refusal_of (over (write_inputs (view_of s)) list.now room) }
 {
     taskset::check(s)?;
-    releases::check_count(count)?;
-    releases::check_columns(count, task, tick, cost)?;
-    let listed = releases::check_releases(s, 0, count, task, tick, cost);
+    releases::check_count(list.count)?;
+    releases::check_columns(list.count, list.task, list.tick, list.cost)?;
+    let listed = releases::check_releases(s, 0, list);
     let sized = entries::sheet_size(s);
-    let end = sized + list_size(count, tick, listed.is_ok());
+    let end = sized + list_size(list.count, list.tick, listed.is_ok());
     if room <= end {
         return Err(Refusal {
             reason: Reason::ShortSlice,
@@ -236,21 +231,18 @@ pub fn check_write(
 }
 
 // Writes a sheet and a list of releases as a file; the answer is the number of bytes written. A refusal changes no byte; bytes past the file keep what they held.
-pub fn write(
-    s: TaskSet,
-    count: usize,
-    task: &[u32],
-    tick: &[u64],
-    cost: &[u32],
-    out: &mut [u8],
-) -> Result<usize, Refusal>
-    ensures { WriteSays s count task.now tick.now cost.now out.old result out.new }
+pub fn write(s: TaskSet, list: &Releases, out: &mut [u8]) -> Result<usize, Refusal>
+    ensures { over (WriteSays s) list.now out.old result out.new }
 {
-    check_write(s, count, task, tick, cost, out.len())?;
+    check_write(s, list, out.len())?;
     let start = put_sheet(out, s);
-    let shorts = short_count(count, tick);
-    let middle = put_part(out, start, 0, shorts, false, task, tick, cost);
-    let end = put_part(out, middle, shorts, count, true, task, tick, cost);
+    let shorts = short_count(list.count, list.tick);
+    let middle = put_part(
+        out, start, 0, shorts, false, list.task, list.tick, list.cost,
+    );
+    let end = put_part(
+        out, middle, shorts, list.count, true, list.task, list.tick, list.cost,
+    );
     out[end] = 3;
     Ok(end + 1)
 }

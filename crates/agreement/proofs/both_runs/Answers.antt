@@ -7,10 +7,10 @@ use Rattle.agreement.proofs.both_runs.Goals as goal
 pub returns : goal.returns
 returns c =
     let a = c.args in
-    let ticked : Ticked (framed_of a.s a.f) a.kept.now a.count a.task.now a.tick.now a.cost.now a.ready.now a.finish.now _ _ _ =
+    let ticked : Ticked (framed_of a.s a.f) a.kept.now a.list.now.count a.list.now.task.now a.list.now.tick.now a.list.now.cost.now a.ready.now a.finish.now _ _ _ =
     record { refusal = c.run-ticked.ensures.refusal; ready_column = c.run-ticked.ensures.ticks; finish_column = c.run-ticked.ensures.finishes }
     in
-    let jumped : Jumped (framed_of a.s a.f) a.kept.now a.count a.task.now a.tick.now a.cost.now a.readies.now a.finishes.now _ _ _ =
+    let jumped : Jumped (framed_of a.s a.f) a.kept.now a.list.now.count a.list.now.task.now a.list.now.tick.now a.list.now.cost.now a.readies.now a.finishes.now _ _ _ =
     record { answer = c.run-jumped.ensures.answer; ready_column = c.run-jumped.ensures.ticks; finish_column = c.run-jumped.ensures.finishes }
     in
     (record {

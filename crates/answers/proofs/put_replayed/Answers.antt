@@ -18,13 +18,13 @@ returns-in_err-c c = rw (passed _ _ c.from_residual.ensures.1) (unfit_list _ _ _
 pub returns-in_err-run : goal.returns-in_err-run
 returns-in_err-run c =
     absurd
-    (never_refused _ _ c.args.n c.args.task.now c.args.tick.now c.args.cost.now zeros zeros (omega (arith, c.requires.0.few)) (omega (arith, c.requires.0.few))
+    (never_refused _ _ c.args.list.now.count c.args.list.now.task.now c.args.list.now.tick.now c.args.list.now.cost.now zeros zeros (omega (arith, c.requires.0.few)) (omega (arith, c.requires.0.few))
     c.requires.0 c.in_ok-c.ensures.kept _ _ c.in_err-run.ensures.answer)
 
 pub returns : goal.returns
 returns c =
     rw
-    (ran_said _ _ c.args.n c.args.task.now c.args.tick.now c.args.cost.now zeros zeros (omega (arith, c.requires.0.few)) (omega (arith, c.requires.0.few))
+    (ran_said _ _ c.args.list.now.count c.args.list.now.task.now c.args.list.now.tick.now c.args.list.now.cost.now zeros zeros (omega (arith, c.requires.0.few)) (omega (arith, c.requires.0.few))
     c.requires.0 c.in_ok-c.ensures.kept _ _ c.in_ok-run.ensures.ticks c.in_ok-run.ensures.finishes
-    ∙ c.in_ok-c.ensures.list c.args.n c.args.task.now c.args.tick.now c.args.cost.now)
+    ∙ c.in_ok-c.ensures.list c.args.list.now.count c.args.list.now.task.now c.args.list.now.tick.now c.args.list.now.cost.now)
     at c.put_run.ensures

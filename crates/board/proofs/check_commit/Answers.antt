@@ -12,13 +12,13 @@ use Rattle.board.proofs.check_commit.Goals as goal
 -- the checks before the offer pass
 fine
     : (c : In_ok-check_list)
-    → let a = c.args in none ≡ list_refusal (board_view a.b) a.count a.task.now a.tick.now a.cost.now
+    → let a = c.args in none ≡ list_refusal (board_view a.b) a.list.now.count a.list.now.task.now a.list.now.tick.now a.list.now.cost.now
 fine c = c.in_ok-check_list.ensures
 
 pub returns-in_err-check_list : goal.returns-in_err-check_list
 returns-in_err-check_list c =
     let a = c.args in
-    passed_on _ _ c.from_residual.ensures.1 (commit_list (board_view a.b) (commit_of a.o a.s a.f a.count a.task.now a.tick.now a.cost.now a.at) _
+    passed_on _ _ c.from_residual.ensures.1 (commit_list (board_view a.b) (commit_of a.o a.s a.f a.list.now.count a.list.now.task.now a.list.now.tick.now a.list.now.cost.now a.at) _
     (c.in_err-check_list.ensures))
 
 pub is_stale-requires : goal.is_stale-requires
@@ -28,7 +28,7 @@ pub returns-then-is_stale : goal.returns-then-is_stale
 unfolding stale
 returns-then-is_stale c =
     let a = c.args in
-    commit_stale (board_view a.b) (commit_of a.o a.s a.f a.count a.task.now a.tick.now a.cost.now a.at) (fine
+    commit_stale (board_view a.b) (commit_of a.o a.s a.f a.list.now.count a.list.now.task.now a.list.now.tick.now a.list.now.cost.now a.at) (fine
     (goal.at.returns-then-is_stale c).In_ok-check_list) (sym c.is_stale.ensures ∙ c.if-is_stale.true)
 
 pub is_too_soon-requires : goal.is_too_soon-requires
@@ -38,7 +38,7 @@ pub returns-then-is_too_soon : goal.returns-then-is_too_soon
 unfolding stale
 returns-then-is_too_soon c =
     let a = c.args in
-    commit_soon (board_view a.b) (commit_of a.o a.s a.f a.count a.task.now a.tick.now a.cost.now a.at) (fine
+    commit_soon (board_view a.b) (commit_of a.o a.s a.f a.list.now.count a.list.now.task.now a.list.now.tick.now a.list.now.cost.now a.at) (fine
     (goal.at.returns-then-is_too_soon c).In_ok-check_list) (sym c.is_stale.ensures ∙ c.if-is_stale.false) (sym
     c.is_too_soon.ensures ∙ c.if-is_too_soon.true)
 
@@ -46,6 +46,6 @@ pub returns : goal.returns
 unfolding stale
 returns c =
     let a = c.args in
-    commit_passes (board_view a.b) (commit_of a.o a.s a.f a.count a.task.now a.tick.now a.cost.now a.at) (fine
+    commit_passes (board_view a.b) (commit_of a.o a.s a.f a.list.now.count a.list.now.task.now a.list.now.tick.now a.list.now.cost.now a.at) (fine
     (goal.at.returns c).In_ok-check_list) (sym c.is_stale.ensures ∙ c.if-is_stale.false) (sym
     c.is_too_soon.ensures ∙ c.if-is_too_soon.false)

@@ -27,13 +27,13 @@ sheet_fine c = c.in_ok-check_sheet.ensures
 few : (c : In_ok-check_sheet) → c.args.b.plan.tasks.count ≤ 32
 few c = (valid_of _ (sym (sheet_fine c))).few_tasks
 
-count_fine : (c : In_ok-check_count) → none ≡ check_count (some c.args.count)
+count_fine : (c : In_ok-check_count) → none ≡ check_count (some c.args.list.now.count)
 count_fine c = c.in_ok-check_count.ensures
 
 slots_fine
     : (c : In_ok-check_columns)
     → let a = c.args in
-    none ≡ check_slots (lends a.count a.task.now ∷ lends a.count a.tick.now ∷ lends a.count a.cost.now ∷ [])
+    none ≡ check_slots (lends a.list.now.count a.list.now.task.now ∷ lends a.list.now.count a.list.now.tick.now ∷ lends a.list.now.count a.list.now.cost.now ∷ [])
 slots_fine c = c.in_ok-check_columns.ensures
 
 -- the kept jitters in force
@@ -82,7 +82,7 @@ check_releases-requires c =
     let a =
     c.args
     in
-    let k = columns_of a.count a.task.now a.tick.now a.cost.now (slots_fine (goal.at.check_releases-requires c).In_ok-check_columns) in
+    let k = columns_of a.list.now.count a.list.now.task.now a.list.now.tick.now a.list.now.cost.now (slots_fine (goal.at.check_releases-requires c).In_ok-check_columns) in
     (few (goal.at.check_releases-requires c).In_ok-check_sheet, k.task_long, k.tick_long, k.cost_long)
 
 pub returns : goal.returns

@@ -14,19 +14,19 @@ use Rattle.jumps.proofs.run.Goals as goal
 -- every check passes
 fine : (c : In_ok-check_and_shape)
     → let a = c.args in
-    Cleared (framed_of a.s a.f) a.kept.now a.count a.task.now a.tick.now a.cost.now a.ready.now a.finish.now
+    Cleared (framed_of a.s a.f) a.kept.now a.list.now.count a.list.now.task.now a.list.now.tick.now a.list.now.cost.now a.ready.now a.finish.now
 fine c =
     let a = c.args in
     record {
       clear = c.in_ok-check_and_shape.ensures.refusal
-          ∙ run_checks (framed_of a.s a.f) a.kept.now a.count a.task.now a.tick.now a.cost.now a.ready.now a.finish.now;
+          ∙ run_checks (framed_of a.s a.f) a.kept.now a.list.now.count a.list.now.task.now a.list.now.tick.now a.list.now.cost.now a.ready.now a.finish.now;
     }
 
 pub returns-in_err-check_and_shape : goal.returns-in_err-check_and_shape
 returns-in_err-check_and_shape c =
     let a = c.args in
     let e = c.in_err-check_and_shape.ensures.refusal
-    ∙ run_checks (framed_of a.s a.f) a.kept.now a.count a.task.now a.tick.now a.cost.now a.ready.now a.finish.now in
+    ∙ run_checks (framed_of a.s a.f) a.kept.now a.list.now.count a.list.now.task.now a.list.now.tick.now a.list.now.cost.now a.ready.now a.finish.now in
     (record {
       answer = passed_answer _ _ _ c.from_residual.ensures.1 (jump_refused _ _ _ _ _ _ _ _ _ e);
       ticks = column_by _ _ _ _ _ c.in_err-check_and_shape.ensures.ticks e;

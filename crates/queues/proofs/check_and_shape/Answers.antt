@@ -17,7 +17,7 @@ returns-in_err-check_framed c =
     let a = c.args in
     let e = c.from_residual.ensures.1 in
     (record {
-      refusal = passed_on _ _ e (first_refuses (view_of a.s) a.kept.now a.count a.task.now a.tick.now a.cost.now (min (length a.ready.now) a.slots) (frame_of a.f) _ c.in_err-check_framed.ensures);
+      refusal = passed_on _ _ e (first_refuses (view_of a.s) a.kept.now a.list.now.count a.list.now.task.now a.list.now.tick.now a.list.now.cost.now (min (length a.ready.now) a.slots) (frame_of a.f) _ c.in_err-check_framed.ensures);
       ticks = column_kept _ _ _ _ (sym (passed_on _ _ e refl));
     })
 
@@ -26,8 +26,8 @@ returns c =
     let a = c.args in
     let e = c.in_ok-check_framed.ensures in (record {
       refusal = c.check_and_shape.ensures.refusal
-          ∙ first_passes (view_of a.s) a.kept.now a.count a.task.now a.tick.now a.cost.now (min (length a.ready.now) a.slots) (frame_of a.f) e;
+          ∙ first_passes (view_of a.s) a.kept.now a.list.now.count a.list.now.task.now a.list.now.tick.now a.list.now.cost.now (min (length a.ready.now) a.slots) (frame_of a.f) e;
       ticks = c.check_and_shape.ensures.ticks
           ∙ ap (λ y. column_after (refusal_in c.check_and_shape.result) y a.ready.now)
-          (ready_alike (frame_of a.f) (view_of a.s) (column a.kept.now) (releases_of a.count a.task.now a.tick.now a.cost.now));
+          (ready_alike (frame_of a.f) (view_of a.s) (column a.kept.now) (releases_of a.list.now.count a.list.now.task.now a.list.now.tick.now a.list.now.cost.now));
     })

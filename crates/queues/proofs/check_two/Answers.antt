@@ -11,11 +11,11 @@ pub returns-in_err-check_framed : goal.returns-in_err-check_framed
 returns-in_err-check_framed c =
     let a = c.args in
     let e = c.in_err-check_framed.ensures in
-    passed_on _ _ c.from_residual.ensures.1 (first_refuses (view_of a.s) a.kept.now a.count a.task.now a.tick.now a.cost.now (min a.first a.second) (frame_of a.f) _ e)
+    passed_on _ _ c.from_residual.ensures.1 (first_refuses (view_of a.s) a.kept.now a.list.now.count a.list.now.task.now a.list.now.tick.now a.list.now.cost.now (min a.first a.second) (frame_of a.f) _ e)
 
 pub returns : goal.returns
 returns c =
     let a = c.args in
     let e = c.in_ok-check_framed.ensures in
     c.check_two.ensures
-    ∙ first_passes (view_of a.s) a.kept.now a.count a.task.now a.tick.now a.cost.now (min a.first a.second) (frame_of a.f) e
+    ∙ first_passes (view_of a.s) a.kept.now a.list.now.count a.list.now.task.now a.list.now.tick.now a.list.now.cost.now (min a.first a.second) (frame_of a.f) e

@@ -15,12 +15,12 @@ use Rattle.releases.proofs.check_list.Goals as goal
 sheet_fine : (c : In_ok-check) → none ≡ check_tasks (view_of c.args.s)
 sheet_fine c = c.in_ok-check.ensures
 
-count_fine : (c : In_ok-check_count) → none ≡ check_count (some c.args.count)
+count_fine : (c : In_ok-check_count) → none ≡ check_count (some c.args.list.now.count)
 count_fine c = c.in_ok-check_count.ensures
 
 columns_fine
     : (c : In_ok-check_columns) → let a =
-    c.args in none ≡ check_slots (lends a.count a.task.now ∷ lends a.count a.tick.now ∷ lends a.count a.cost.now ∷ [])
+    c.args in none ≡ check_slots (lends a.list.now.count a.list.now.task.now ∷ lends a.list.now.count a.list.now.tick.now ∷ lends a.list.now.count a.list.now.cost.now ∷ [])
 columns_fine c = c.in_ok-check_columns.ensures
 
 pub returns-in_err-check : goal.returns-in_err-check
@@ -39,7 +39,7 @@ returns-in_err-check_columns c =
 pub check_releases-requires : goal.check_releases-requires
 check_releases-requires c =
     let a = c.args in
-    let long = columns_of a.count a.task.now a.tick.now a.cost.now (columns_fine (goal.at.check_releases-requires c).In_ok-check_columns) in
+    let long = columns_of a.list.now.count a.list.now.task.now a.list.now.tick.now a.list.now.cost.now (columns_fine (goal.at.check_releases-requires c).In_ok-check_columns) in
     ((valid_of _ (sym (sheet_fine (goal.at.check_releases-requires c).In_ok-check))).few_tasks, long.task_long, long.tick_long, long.cost_long)
 
 pub returns : goal.returns

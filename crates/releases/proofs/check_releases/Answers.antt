@@ -10,7 +10,7 @@ pub loop-i-init : goal.loop-i-init
 loop-i-init c = checking_none _ _ _ _ _ _
 
 pub overflow_cast-at : goal.overflow_cast-at
-overflow_cast-at c = omega (arith, c.shared_slice_known-in-loop-i-2-1.given c.loop-i.i)
+overflow_cast-at c = omega (arith, c.type_inv.task c.loop-i.i)
 
 pub returns-then-tasks-at : goal.returns-then-tasks-at
 returns-then-tasks-at c =

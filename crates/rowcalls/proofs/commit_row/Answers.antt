@@ -18,7 +18,7 @@ answer
     : (c : In-Ok)
     → let a = c.args in
     answered (board_view c.commit.new.b)
-    ≡ commit_call (board_view (board_from a.row.now)) (commit_of a.o a.s a.f a.count a.task.now a.tick.now a.cost.now a.at)
+    ≡ commit_call (board_view (board_from a.row.now)) (commit_of a.o a.s a.f a.list.now.count a.list.now.task.now a.list.now.tick.now a.list.now.cost.now a.at)
 unfolding answer_by
 answer c = rw c.board_from-b.ensures at c.in-Ok.ensures.answer
 
@@ -30,13 +30,13 @@ pub returns-in-Err : goal.returns-in-Err
 unfolding answer_by
 returns-in-Err c =
     let a = c.args in
-    board_refused (commit_call (board_view (board_from a.row.now)) (commit_of a.o a.s a.f a.count a.task.now a.tick.now a.cost.now a.at))
+    board_refused (commit_call (board_view (board_from a.row.now)) (commit_of a.o a.s a.f a.list.now.count a.list.now.task.now a.list.now.tick.now a.list.now.cost.now a.at))
     _ _ _ _ (rw c.board_from-b.ensures at c.in-Err.ensures.answer) c.slots_code.ensures
 
 pub returns-then-row-lt264 : goal.returns-then-row-lt264
 returns-then-row-lt264 c =
     let a = c.args in
-    board_few (commit_call (board_view (board_from a.row.now)) (commit_of a.o a.s a.f a.count a.task.now a.tick.now a.cost.now a.at)) _
+    board_few (commit_call (board_view (board_from a.row.now)) (commit_of a.o a.s a.f a.list.now.count a.list.now.task.now a.list.now.tick.now a.list.now.cost.now a.at)) _
     c.commit.new.b (answer (goal.at.returns-then-row-lt264 c).In-Ok) _ c.if-row-lt264.true c.short_code.ensures
 
 pub put_board-requires : goal.put_board-requires
@@ -45,6 +45,6 @@ put_board-requires c = (c.if-row-lt264.false, valid (goal.at.put_board-requires 
 pub returns-else-row-lt264 : goal.returns-else-row-lt264
 returns-else-row-lt264 c =
     let a = c.args in
-    board_written (commit_call (board_view (board_from a.row.now)) (commit_of a.o a.s a.f a.count a.task.now a.tick.now a.cost.now a.at))
+    board_written (commit_call (board_view (board_from a.row.now)) (commit_of a.o a.s a.f a.list.now.count a.list.now.task.now a.list.now.tick.now a.list.now.cost.now a.at))
     a.row.now c.commit.new.b (answer (goal.at.returns-else-row-lt264 c).In-Ok) _ c.if-row-lt264.false (valid (goal.at.returns-else-row-lt264 c).In-Ok)
     c.put_board.ensures

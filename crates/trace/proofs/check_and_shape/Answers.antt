@@ -16,7 +16,7 @@ use Rattle.trace.proofs.check_and_shape.Goals as goal
 call_fine
     : (c : In_ok-check_two)
     → let a = c.args in
-    none ≡ refusal_of (call_inputs (view_of a.s) a.kept.now a.count a.task.now a.tick.now a.cost.now (min (length a.ready.now) a.slots))
+    none ≡ refusal_of (call_inputs (view_of a.s) a.kept.now a.list.now.count a.list.now.task.now a.list.now.tick.now a.list.now.cost.now (min (length a.ready.now) a.slots))
 call_fine c = c.in_ok-check_two.ensures
 
 pub returns-in_err-check_two : goal.returns-in_err-check_two
@@ -30,8 +30,8 @@ returns-in_err-check_two c =
 pub fill_ready-requires : goal.fill_ready-requires
 fill_ready-requires c =
     let a = c.args in
-    let g = callable_of (view_of a.s) a.kept.now a.count a.task.now a.tick.now a.cost.now _ (call_fine (goal.at.fill_ready-requires c).In_ok-check_two) in
-    let long : a.count ≤ length a.ready.now = omega (arith, g.slots_long) in
+    let g = callable_of (view_of a.s) a.kept.now a.list.now.count a.list.now.task.now a.list.now.tick.now a.list.now.cost.now _ (call_fine (goal.at.fill_ready-requires c).In_ok-check_two) in
+    let long : a.list.now.count ≤ length a.ready.now = omega (arith, g.slots_long) in
     (listed_shapable _ _ _ _ _ g.listed, g.kept_long, long)
 
 pub returns : goal.returns

@@ -18,11 +18,11 @@ use Rattle.trace.proofs.check_call.Goals as goal
 sheet_fine : (c : In_ok-check) → none ≡ check_tasks (view_of c.args.s)
 sheet_fine c = c.in_ok-check.ensures
 
-count_fine : (c : In_ok-check_count) → none ≡ check_count (some c.args.count)
+count_fine : (c : In_ok-check_count) → none ≡ check_count (some c.args.list.now.count)
 count_fine c = c.in_ok-check_count.ensures
 
 slots_fine
-    : (c : In_ok-check_slots) → none ≡ check_slots ((slots_lent c.args.s.count c.args.kept.now c.args.count c.args.task.now c.args.tick.now c.args.cost.now c.args.slots))
+    : (c : In_ok-check_slots) → none ≡ check_slots ((slots_lent c.args.s.count c.args.kept.now c.args.list.now.count c.args.list.now.task.now c.args.list.now.tick.now c.args.list.now.cost.now c.args.slots))
 slots_fine c = c.in_ok-check_slots.ensures
 
 kept_fine
@@ -33,8 +33,8 @@ kept_fine
 kept_fine c = c.in_ok-check_kept.ensures
 
 long
-    : (c : Start) → none ≡ check_slots ((slots_lent c.args.s.count c.args.kept.now c.args.count c.args.task.now c.args.tick.now c.args.cost.now c.args.slots))
-    → LongEnough c.args.s.count c.args.kept.now c.args.count c.args.task.now c.args.tick.now c.args.cost.now c.args.slots
+    : (c : Start) → none ≡ check_slots ((slots_lent c.args.s.count c.args.kept.now c.args.list.now.count c.args.list.now.task.now c.args.list.now.tick.now c.args.list.now.cost.now c.args.slots))
+    → LongEnough c.args.s.count c.args.kept.now c.args.list.now.count c.args.list.now.task.now c.args.list.now.tick.now c.args.list.now.cost.now c.args.slots
 long c e = long_enough _ _ _ _ _ _ _ e
 
 few_tasks : (c : In_ok-check) → c.args.s.count ≤ max_tasks

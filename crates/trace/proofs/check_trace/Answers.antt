@@ -12,7 +12,7 @@ use Rattle.trace.proofs.check_trace.Goals.{In_ok-check_list}
 use Rattle.trace.proofs.check_trace.Goals as goal
 
 list_fine : (c : In_ok-check_list) → let a =
-    c.args in none ≡ refusal_of (list_inputs (view_of a.s) a.count a.task.now a.tick.now a.cost.now)
+    c.args in none ≡ refusal_of (list_inputs (view_of a.s) a.list.now.count a.list.now.task.now a.list.now.tick.now a.list.now.cost.now)
 list_fine c = c.in_ok-check_list.ensures
 
 pub returns-in_err-check_list : goal.returns-in_err-check_list
@@ -21,7 +21,7 @@ returns-in_err-check_list c = passed_answer _ _ _ c.from_residual.ensures.1 (tra
 pub first_close-requires : goal.first_close-requires
 first_close-requires c =
     let a = c.args in
-    listed_shapable (view_of a.s) a.count a.task.now a.tick.now a.cost.now (listed_of _ _ _ _ _ (list_fine (goal.at.first_close-requires c).In_ok-check_list))
+    listed_shapable (view_of a.s) a.list.now.count a.list.now.task.now a.list.now.tick.now a.list.now.cost.now (listed_of _ _ _ _ _ (list_fine (goal.at.first_close-requires c).In_ok-check_list))
 
 pub returns : goal.returns
 returns c = trace_answered _ _ _ _ _ _ (list_fine (goal.at.returns c).In_ok-check_list) (ap answered (c.first_close.ensures _))

@@ -9,4 +9,4 @@ pub returns : goal.returns
 returns c =
     let a = c.args in
     c.check_call.ensures
-    ∙ ap (λ x. refusal_of (call_inputs (view_of a.s) a.kept.now a.count a.task.now a.tick.now a.cost.now x)) c.min.ensures
+    ∙ ap (λ x. refusal_of (call_inputs (view_of a.s) a.kept.now a.list.now.count a.list.now.task.now a.list.now.tick.now a.list.now.cost.now x)) c.min.ensures

@@ -19,11 +19,11 @@ twice n = omega arith
 checks : (c : After-check_and_shape)
     → let a = c.args in
     refusal_in c.check_and_shape.result
-    ≡ refusal_of (call_inputs (view_of a.s) a.kept.now a.count a.task.now a.tick.now a.cost.now (length a.ready.now))
+    ≡ refusal_of (call_inputs (view_of a.s) a.kept.now a.list.now.count a.list.now.task.now a.list.now.tick.now a.list.now.cost.now (length a.ready.now))
 checks c =
     let a = c.args in
     c.check_and_shape.ensures.refusal
-    ∙ ap (λ x. refusal_of (call_inputs (view_of a.s) a.kept.now a.count a.task.now a.tick.now a.cost.now x)) (twice (length a.ready.now))
+    ∙ ap (λ x. refusal_of (call_inputs (view_of a.s) a.kept.now a.list.now.count a.list.now.task.now a.list.now.tick.now a.list.now.cost.now x)) (twice (length a.ready.now))
 
 pub returns : goal.returns
 returns c =

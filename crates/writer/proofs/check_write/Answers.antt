@@ -21,10 +21,10 @@ use Rattle.writer.proofs.check_write.Goals as goal
 
 -- the list, its columns, and the bytes
 abbrev list : Start → List Release
-list c = let a = c.args in releases_of a.count a.task.now a.tick.now a.cost.now
+list c = let a = c.args in releases_of a.list.now.count a.list.now.task.now a.list.now.tick.now a.list.now.cost.now
 
 abbrev columns : Start → List Lent
-columns c = let a = c.args in lends a.count a.task.now ∷ lends a.count a.tick.now ∷ lends a.count a.cost.now ∷ []
+columns c = let a = c.args in lends a.list.now.count a.list.now.task.now ∷ lends a.list.now.count a.list.now.tick.now ∷ lends a.list.now.count a.list.now.cost.now ∷ []
 
 abbrev bytes : Start → List Lent
 bytes c = bytes_lent (view_of c.args.s) (list c) c.args.room ∷ []
@@ -33,21 +33,21 @@ bytes c = bytes_lent (view_of c.args.s) (list c) c.args.room ∷ []
 few_tasks : (c : In_ok-check) → c.args.s.count ≤ 32
 few_tasks c = (valid_of _ (sym c.in_ok-check.ensures)).few_tasks
 
-few_releases : (c : In_ok-check_count) → c.args.count ≤ 1024
+few_releases : (c : In_ok-check_count) → c.args.list.now.count ≤ 1024
 few_releases c = count_of _ c.in_ok-check_count.ensures
 
-columns_long : (c : In_ok-check_columns) → let a = c.args in Columns a.count a.task.now a.tick.now a.cost.now
+columns_long : (c : In_ok-check_columns) → let a = c.args in Columns a.list.now.count a.list.now.task.now a.list.now.tick.now a.list.now.cost.now
 columns_long c = columns_of _ _ _ _ c.in_ok-check_columns.ensures
 
 -- the bytes
-size_is : (c : After-list_size) → let a = c.args in c.list_size.result ≡ list_bytes (releases_of a.count a.task.now a.tick.now a.cost.now)
-size_is c = c.list_size.ensures c.args.task.now c.args.cost.now
+size_is : (c : After-list_size) → let a = c.args in c.list_size.result ≡ list_bytes (releases_of a.list.now.count a.list.now.task.now a.list.now.tick.now a.list.now.cost.now)
+size_is c = c.list_size.ensures c.args.list.now.task.now c.args.list.now.cost.now
 
 size_small : (c : After-list_size) → c.list_size.result ≤ 14336
 size_small c =
     let a = c.args in
-    let l = releases_of a.count a.task.now a.tick.now a.cost.now in
-    omega (arith, size_is c, list_high l, length_releases a.count a.task.now a.tick.now a.cost.now, count_of _ c.in_ok-check_count.ensures)
+    let l = releases_of a.list.now.count a.list.now.task.now a.list.now.tick.now a.list.now.cost.now in
+    omega (arith, size_is c, list_high l, length_releases a.list.now.count a.list.now.task.now a.list.now.tick.now a.list.now.cost.now, count_of _ c.in_ok-check_count.ensures)
 
 sheet_small : (c : After-list_size) → c.sheet_size-sized.result ≤ 578
 sheet_small c =
@@ -84,7 +84,7 @@ list_size-requires c =
     let p = goal.at.list_size-requires c in (
       few_releases p.In_ok-check_count,
       (columns_long p.In_ok-check_columns).tick_long,
-      λ e. rising_of (view_of a.s) a.count a.task.now a.tick.now a.cost.now
+      λ e. rising_of (view_of a.s) a.list.now.count a.list.now.task.now a.list.now.tick.now a.list.now.cost.now
           (fine_of _ (sym c.is_ok.ensures.value ∙ e) ∙ c.check_releases-listed.ensures),
     )
 

@@ -21,7 +21,7 @@ use Rattle.writer.proofs.write.Goals as goal
 -- the check that passed
 fits
     : (c : In_ok-check_write) → let a =
-    c.args in WriteFits a.s a.count a.task.now a.tick.now a.cost.now (length a.out.now)
+    c.args in WriteFits a.s a.list.now.count a.list.now.task.now a.list.now.tick.now a.list.now.cost.now (length a.out.now)
 fits c = write_fits _ _ _ _ _ _ c.in_ok-check_write.ensures
 
 in_array : (c : In_ok-check_write) → c.args.s.count ≤ length c.args.s.tasks
@@ -33,11 +33,11 @@ in_array c =
 split
     : (c : After-short_count-shorts) → let a = c.args in
     let k = c.short_count-shorts.result in
-    list_bytes (part 0 k a.task.now a.tick.now a.cost.now) + list_bytes (part k a.count a.task.now a.tick.now a.cost.now)
-    ≡ list_bytes (releases_of a.count a.task.now a.tick.now a.cost.now)
+    list_bytes (part 0 k a.list.now.task.now a.list.now.tick.now a.list.now.cost.now) + list_bytes (part k a.list.now.count a.list.now.task.now a.list.now.tick.now a.list.now.cost.now)
+    ≡ list_bytes (releases_of a.list.now.count a.list.now.task.now a.list.now.tick.now a.list.now.cost.now)
 split c =
     let a = c.args in
-    bytes_split a.task.now a.tick.now a.cost.now c.short_count-shorts.result a.count c.short_count-shorts.ensures.within
+    bytes_split a.list.now.task.now a.list.now.tick.now a.list.now.cost.now c.short_count-shorts.result a.list.now.count c.short_count-shorts.ensures.within
 
 -- where the releases begin
 sized : (c : After-short_count-shorts) → c.put_sheet-start.result ≡ sheet_bytes (view_of c.args.s)
@@ -46,10 +46,10 @@ sized c = c.put_sheet-start.ensures.end
 -- where the file ends
 end_is
     : (c : After-put_part-end) → let a = c.args in
-    c.put_part-end.result ≡ sheet_bytes (view_of a.s) + list_bytes (releases_of a.count a.task.now a.tick.now a.cost.now)
+    c.put_part-end.result ≡ sheet_bytes (view_of a.s) + list_bytes (releases_of a.list.now.count a.list.now.task.now a.list.now.tick.now a.list.now.cost.now)
 end_is c =
     let a = c.args in
-    let s = bytes_split a.task.now a.tick.now a.cost.now c.short_count-shorts.result a.count c.short_count-shorts.ensures.within in
+    let s = bytes_split a.list.now.task.now a.list.now.tick.now a.list.now.cost.now c.short_count-shorts.result a.list.now.count c.short_count-shorts.ensures.within in
     omega (arith, c.put_part-end.ensures.end, c.put_part-middle.ensures.end, c.put_sheet-start.ensures.end, s)
 
 -- the lent bytes are as many as before
@@ -113,7 +113,7 @@ overflow_add-result c =
     let p = goal.at.overflow_add-result c in
     let f = fits p.In_ok-check_write in
     let a = c.args in
-    let l = releases_of a.count a.task.now a.tick.now a.cost.now in
+    let l = releases_of a.list.now.count a.list.now.task.now a.list.now.tick.now a.list.now.cost.now in
     omega (
       arith,
       end_is p.After-put_part-end,
@@ -122,7 +122,7 @@ overflow_add-result c =
       f.few_tasks,
       f.few_releases,
       list_high l,
-      length_releases a.count a.task.now a.tick.now a.cost.now,
+      length_releases a.list.now.count a.list.now.task.now a.list.now.tick.now a.list.now.cost.now,
     )
 
 pub shape_of-out : goal.shape_of-out
