@@ -9,13 +9,13 @@ ghost use Rattle.model.specs.Calls.{choice_inputs, choice_call, column_after, ke
 ghost use Rattle.refusal.specs.Refusal.{refusal_in};
 ghost use Rattle.taskset.specs.TaskSet.{view_of};
 ghost use Rattle.frame.specs.FrameView.{framed_of};
-ghost use Rattle.frame.specs.WindowColumns.{IsSupply, frame_in};
-ghost use Rattle.demand.specs.Columns.{HasFactors};
+ghost use Rattle.frame.specs.WindowColumns.{IsSupply, frame_in, supply_lent};
+ghost use Rattle.demand.specs.Columns.{HasFactors, columns_lent, factors_lent};
 ghost use Rattle.keeping.specs.Keeping.{Walkable};
 ghost use Rattle.choice.specs.Choices.{KeepOf, ChoicesAre, any_low, DecisionIs, room_inputs, extent_in, spares, scope_told};
 
-use demand::{FactorColumns, TaskColumns, columns_of, factors_of};
-use frame::{Frame, Supply, check_sheet, supply_of};
+use demand::{FactorSlices, TaskSlices, columns_of, factors_of};
+use frame::{Frame, SupplySlices, check_sheet, supply_of};
 use keeping::{Least, least_keep};
 use refusal::{Reason, Refusal};
 use taskset::TaskSet;
@@ -46,19 +46,19 @@ pub struct Decision {
 
 // The kept jitter of task i, given the kept jitters of the tasks above: 0 where it is spared, that is, not judged; else the least at which it fits.
 fn keep_for(
-    columns: &TaskColumns,
-    factors: &FactorColumns,
+    columns: &TaskSlices,
+    factors: &FactorSlices,
     keeps: &[u32],
-    supply: &Supply,
+    supply: &SupplySlices,
     i: usize,
     jitter: u32,
     deadline: u32,
     spared: bool,
 ) -> Option<Least>
-    requires walkable { Walkable columns.now.loads columns.now.periods keeps.now i jitter deadline }
-    requires factored { HasFactors columns.now factors.now i }
-    requires supplies { IsSupply supply.now }
-    ensures { KeepOf spared (frame_in supply.now) columns.now.loads columns.now.periods keeps.now i jitter deadline result }
+    requires walkable { Walkable columns.now.loads.now columns.now.periods.now keeps.now i jitter deadline }
+    requires factored { HasFactors (columns_lent columns.now) (factors_lent factors.now) i }
+    requires supplies { IsSupply (supply_lent supply.now) }
+    ensures { KeepOf spared (frame_in (supply_lent supply.now)) columns.now.loads.now columns.now.periods.now keeps.now i jitter deadline result }
 {
     if spared {
         return Some(Least {
@@ -91,6 +91,9 @@ fn choices_of(s: TaskSet, f: Option<Frame>, extent: Extent) -> Choices
     let count = s.count;
     let factors = factors_of(&columns.periods, count - 1);
     let supply = supply_of(f);
+    let lent_columns = columns.slices();
+    let lent_factors = factors.slices();
+    let lent_supply = supply.slices();
     let mut keep: [u32; 32] = [0; 32];
     let mut worst: [u32; 32] = [0; 32];
     let mut evaluations: u64 = 0;
@@ -98,10 +101,10 @@ fn choices_of(s: TaskSet, f: Option<Frame>, extent: Extent) -> Choices
         let own = s.tasks[i];
         let spared = is_spared(extent, own.low);
         let found = keep_for(
-            &columns,
-            &factors,
+            &lent_columns,
+            &lent_factors,
             &keep,
-            &supply,
+            &lent_supply,
             i,
             own.jitter,
             own.deadline,

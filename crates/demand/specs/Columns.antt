@@ -13,6 +13,8 @@ use Rattle.taskset.specs.TaskSet.{view_of}
 use Rattle.quotient.specs.Factor.{high_of, low_of, IsFactor}
 use Rattle.demand.specs.declared.TaskColumns.{TaskColumns}
 use Rattle.demand.specs.declared.FactorColumns.{FactorColumns}
+use Rattle.demand.specs.declared.TaskSlices.{TaskSlices}
+use Rattle.demand.specs.declared.FactorSlices.{FactorSlices}
 
 -- the sum over the first n tasks of load × arrival count in t ticks
 unfoldable pub column_load : List ℕ → List ℕ → List ℕ → ℕ → ℕ → ℕ
@@ -108,3 +110,10 @@ HasTasks c keeps n = Columns c.loads c.periods keeps n
 
 abbrev pub HasFactors : TaskColumns → FactorColumns → ℕ → Type 0
 HasFactors c f n = Factored c.periods f.highs f.lows n
+
+-- the columns that are lent
+abbrev pub columns_lent : TaskSlices → TaskColumns
+columns_lent c = record { loads = c.loads.now; periods = c.periods.now }
+
+abbrev pub factors_lent : FactorSlices → FactorColumns
+factors_lent f = record { highs = f.highs.now; lows = f.lows.now }

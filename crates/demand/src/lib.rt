@@ -11,13 +11,13 @@ ghost use Rattle.taskset.specs.TaskSet.{view_of};
 ghost use Rattle.model.specs.Limits.{max_tick};
 ghost use Rattle.frame.specs.FrameView.{framed_of};
 ghost use Rattle.frame.specs.Starts.{starts_of};
-ghost use Rattle.frame.specs.WindowColumns.{IsSupply, frame_in};
+ghost use Rattle.frame.specs.WindowColumns.{IsSupply, frame_in, supply_lent};
 ghost use Rattle.quotient.specs.Factor.{IsFactor};
 ghost use Rattle.demand.specs.Seeking.{tally_of, StartedIn};
-ghost use Rattle.demand.specs.Columns.{Small, Tried, Loads, Periods, HasTasks, HasFactors, IsTerm, IsLoad, IsOnce, Copied, Prepared};
+ghost use Rattle.demand.specs.Columns.{Small, Tried, Loads, Periods, HasTasks, HasFactors, columns_lent, factors_lent, IsTerm, IsLoad, IsOnce, Copied, Prepared};
 ghost use Rattle.demand.specs.ArrivalAnswer.{arrival_in};
 
-use frame::{Frame, Supply, check_sheet};
+use frame::{Frame, SupplySlices, check_sheet};
 use quotient::{ceil_div, factor_of};
 use refusal::{Reason, Refusal};
 use taskset::TaskSet;
@@ -34,6 +34,44 @@ pub struct TaskColumns {
 pub struct FactorColumns {
     pub highs: [u32; 32],
     pub lows: [u32; 32],
+}
+
+// Loads and periods in columns of any length, which are lent.
+#[derive(Clone, Copy)]
+pub struct TaskSlices<'a> {
+    pub loads: &'a [u32],
+    pub periods: &'a [u32],
+}
+
+// The same of the factors of periods.
+#[derive(Clone, Copy)]
+pub struct FactorSlices<'a> {
+    pub highs: &'a [u32],
+    pub lows: &'a [u32],
+}
+
+impl TaskColumns {
+    // The same with its columns lent.
+    pub fn slices(&self) -> TaskSlices<'_>
+        ensures { columns_lent result ≡ self.now }
+    {
+        TaskSlices {
+            loads: &self.loads,
+            periods: &self.periods,
+        }
+    }
+}
+
+impl FactorColumns {
+    // The same with its columns lent.
+    pub fn slices(&self) -> FactorSlices<'_>
+        ensures { factors_lent result ≡ self.now }
+    {
+        FactorSlices {
+            highs: &self.highs,
+            lows: &self.lows,
+        }
+    }
 }
 
 // A start of the search for W(q): its place in the frame, the ticks of the windows before it, and the first number of ticks tried from it.
@@ -68,16 +106,16 @@ fn term(load: u32, period: u32, high: u32, low: u32, keep: u32, t: u32) -> u64
 
 // The sum over the first n tasks of load × arrival count in t ticks.
 pub fn above_load(
-    columns: &TaskColumns,
-    factors: &FactorColumns,
+    columns: &TaskSlices,
+    factors: &FactorSlices,
     keeps: &[u32],
     n: usize,
     t: u32,
 ) -> u64
-    requires columns { HasTasks columns.now keeps.now n }
-    requires factored { HasFactors columns.now factors.now n }
+    requires columns { HasTasks (columns_lent columns.now) keeps.now n }
+    requires factored { HasFactors (columns_lent columns.now) (factors_lent factors.now) n }
     requires tried { Tried t }
-    ensures { IsLoad columns.now.loads columns.now.periods keeps.now n t result }
+    ensures { IsLoad columns.now.loads.now columns.now.periods.now keeps.now n t result }
 {
     let mut sum: u64 = 0;
     for j in 0..n {
@@ -94,13 +132,13 @@ pub fn above_load(
 }
 
 // One load of each of the first n tasks.
-pub fn once_each(columns: &TaskColumns, n: usize) -> u64
-    requires { Loads columns.now.loads n }
-    ensures { IsOnce columns.now.loads n result }
+pub fn once_each(loads: &[u32], n: usize) -> u64
+    requires { Loads loads.now n }
+    ensures { IsOnce loads.now n result }
 {
     let mut sum: u64 = 0;
     for j in 0..n {
-        sum += u64::from(columns.loads[j]);
+        sum += u64::from(loads[j]);
     }
     sum
 }
@@ -116,11 +154,11 @@ pub fn tally_of(framed: bool) -> u64
 }
 
 // Start n of the search, and the least number of ticks from it among which `need` are ours.
-pub fn start_at(supply: &Supply, n: usize, need: u64) -> Start
-    requires supplies { IsSupply supply.now }
-    requires n_bound { n < starts_of (frame_in supply.now) }
+pub fn start_at(supply: &SupplySlices, n: usize, need: u64) -> Start
+    requires supplies { IsSupply (supply_lent supply.now) }
+    requires n_bound { n < starts_of (frame_in (supply_lent supply.now)) }
     requires need_le_max_tick { need ≤ max_tick }
-    ensures { StartedIn supply.now n need result }
+    ensures { StartedIn (supply_lent supply.now) n need result }
 {
     let at = supply.start_of(n);
     let before = supply.within(at);

@@ -9,6 +9,7 @@ use Rattle.model.specs.SameTasks.{SameFrame}
 use Rattle.model.specs.Frame as model_frame
 use Rattle.frame.specs.declared.Frame.{Frame}
 use Rattle.frame.specs.declared.Supply.{Supply}
+use Rattle.frame.specs.declared.SupplySlices.{SupplySlices}
 use Rattle.frame.specs.FrameView.{given, frame_of}
 
 -- a frame with these columns of first ticks and lengths
@@ -81,3 +82,14 @@ IsSupply s = Supplies s.framed s.ticks s.per s.count s.first s.size
 
 abbrev pub BeginsAt : Supply → ℕ → ℕ → Type 0
 BeginsAt s at before = Begins s.framed s.ticks s.count s.first s.size at before
+
+-- the supply whose columns are lent
+abbrev pub supply_lent : SupplySlices → Supply
+supply_lent s = record {
+  framed = s.framed;
+  ticks = s.ticks;
+  per = s.per;
+  count = s.count;
+  first = s.first.now;
+  size = s.size.now;
+}

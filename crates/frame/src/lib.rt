@@ -12,7 +12,7 @@ ghost use Rattle.refusal.specs.Refusal.{refusal_in};
 ghost use Rattle.frame.specs.FrameView.{windows_of, frame_of, framed_of, window_at, frame_from};
 ghost use Rattle.frame.specs.Starts.{start_at, starts_of};
 ghost use Rattle.frame.specs.Reached.{IsReach};
-ghost use Rattle.frame.specs.WindowColumns.{column_windows, IsWithin, Located, IsSupply, HasColumns, HasWindows, BeginsAt, frame_in, Prepared};
+ghost use Rattle.frame.specs.WindowColumns.{column_windows, column_frame, IsWithin, Located, IsSupply, HasColumns, HasWindows, BeginsAt, frame_in, supply_lent, Prepared};
 
 use numbers::number_at;
 use refusal::{Reason, Refusal};
@@ -43,6 +43,17 @@ pub struct Supply {
     pub count: usize,
     pub first: [u32; 16],
     pub size: [u32; 16],
+}
+
+// The same with first ticks and lengths in columns of any length, which are lent.
+#[derive(Clone, Copy)]
+pub struct SupplySlices<'a> {
+    pub framed: bool,
+    pub ticks: u32,
+    pub per: u32,
+    pub count: usize,
+    pub first: &'a [u32],
+    pub size: &'a [u32],
 }
 
 // Window k of a frame passed as numbers.
@@ -236,11 +247,11 @@ fn in_window(first: u32, size: u32, x: u32) -> bool
     x - first < size
 }
 
-impl Supply {
+impl SupplySlices<'_> {
     // The ticks of windows among the first x of the frame.
     pub fn within(&self, x: u32) -> u32
-        requires { HasWindows self.now }
-        ensures { IsWithin self.now.first self.now.size self.now.count x result }
+        requires { HasWindows (supply_lent self.now) }
+        ensures { IsWithin self.now.first.now self.now.size.now self.now.count x result }
     {
         let mut sum: u32 = 0;
         for k in 0..self.count {
@@ -251,10 +262,10 @@ impl Supply {
 
     // The ticks of a frame up to tick r of its windows, that tick included.
     fn locate(&self, r: u32) -> u32
-        requires windows { HasWindows self.now }
+        requires windows { HasWindows (supply_lent self.now) }
         requires le_r { 1 ≤ r }
-        requires r_bound { r ≤ model_series.sum (column self.now.size) self.now.count }
-        ensures { Located self.now.first self.now.size self.now.count r result }
+        requires r_bound { r ≤ model_series.sum (column self.now.size.now) self.now.count }
+        ensures { Located self.now.first.now self.now.size.now self.now.count r result }
     {
         let mut left = r;
         for k in 0..self.count {
@@ -269,8 +280,8 @@ impl Supply {
 
     // Our ticks among the first t.
     pub fn our_ticks(&self, t: u64) -> u64
-        requires { IsSupply self.now }
-        ensures { result ≡ model_frame.supply (model_frame.ours_in (frame_in self.now)) 0 t }
+        requires { IsSupply (supply_lent self.now) }
+        ensures { result ≡ model_frame.supply (model_frame.ours_in (frame_in (supply_lent self.now))) 0 t }
     {
         if !self.framed {
             return t;
@@ -282,10 +293,10 @@ impl Supply {
 
     // The least number of ticks from a place of the frame among which d are ours, given the ticks of windows before the place.
     pub fn reach_from(&self, at: u32, before: u32, d: u64) -> u64
-        requires supplies { IsSupply self.now }
-        requires begins { BeginsAt self.now at before }
+        requires supplies { IsSupply (supply_lent self.now) }
+        requires begins { BeginsAt (supply_lent self.now) at before }
         requires d_le_max_tick { d ≤ max_tick }
-        ensures { IsReach (model_frame.ours_in (frame_in self.now)) at d result }
+        ensures { IsReach (model_frame.ours_in (frame_in (supply_lent self.now))) at d result }
     {
         if !self.framed {
             return d;
@@ -301,9 +312,9 @@ impl Supply {
 
     // The least number of ticks from t on among which d are ours.
     pub fn reach(&self, t: u64, d: u64) -> u64
-        requires supplies { IsSupply self.now }
+        requires supplies { IsSupply (supply_lent self.now) }
         requires d_le_max_tick { d ≤ max_tick }
-        ensures { IsReach (model_frame.ours_in (frame_in self.now)) t d result }
+        ensures { IsReach (model_frame.ours_in (frame_in (supply_lent self.now))) t d result }
     {
         if !self.framed {
             return d;
@@ -315,7 +326,7 @@ impl Supply {
 
     // The number of starts that the search needs: one where there is no frame.
     pub fn starts(&self) -> usize
-        ensures { result ≡ starts_of (frame_in self.now) }
+        ensures { (ticks : ℕ) (first size : List ℕ) → result ≡ starts_of (column_frame self.now.framed ticks self.now.count first size) }
     {
         if !self.framed {
             return 1;
@@ -325,9 +336,9 @@ impl Supply {
 
     // Start k: the place in the frame after window k.
     pub fn start_of(&self, k: usize) -> u32
-        requires frame_columns { HasColumns self.now }
-        requires k_bound { k < starts_of (frame_in self.now) }
-        ensures { result ≡ start_at (frame_in self.now) k }
+        requires frame_columns { HasColumns (supply_lent self.now) }
+        requires k_bound { k < starts_of (frame_in (supply_lent self.now)) }
+        ensures { result ≡ start_at (frame_in (supply_lent self.now)) k }
     {
         if !self.framed {
             return 0;
@@ -337,8 +348,8 @@ impl Supply {
 
     // Whether a tick of the frame lies in one of its windows.
     fn in_some(&self, x: u32) -> bool
-        requires { HasWindows self.now }
-        ensures { (ticks : ℕ) → result ≡ model_frame.in_some (column_windows ticks self.now.count self.now.first self.now.size) self.now.count x }
+        requires { HasWindows (supply_lent self.now) }
+        ensures { (ticks : ℕ) → result ≡ model_frame.in_some (column_windows ticks self.now.count self.now.first.now self.now.size.now) self.now.count x }
     {
         for k in 0..self.count {
             if in_window(self.first[k], self.size[k], x) {
@@ -350,12 +361,87 @@ impl Supply {
 
     // Whether tick t is ours.
     pub fn is_ours(&self, t: u64) -> bool
-        requires { HasColumns self.now }
-        ensures { result ≡ model_frame.ours_in (frame_in self.now) t }
+        requires { HasColumns (supply_lent self.now) }
+        ensures { result ≡ model_frame.ours_in (frame_in (supply_lent self.now)) t }
     {
         if !self.framed {
             return true;
         }
         self.in_some((t % u64::from(self.ticks)) as u32)
+    }
+}
+
+impl Supply {
+    // The same with its columns lent.
+    pub fn slices(&self) -> SupplySlices<'_>
+        ensures { supply_lent result ≡ self.now }
+    {
+        SupplySlices {
+            framed: self.framed,
+            ticks: self.ticks,
+            per: self.per,
+            count: self.count,
+            first: &self.first,
+            size: &self.size,
+        }
+    }
+
+    // The ticks of windows among the first x of the frame.
+    pub fn within(&self, x: u32) -> u32
+        requires { HasWindows self.now }
+        ensures { IsWithin self.now.first self.now.size self.now.count x result }
+    {
+        self.slices().within(x)
+    }
+
+    // Our ticks among the first t.
+    pub fn our_ticks(&self, t: u64) -> u64
+        requires { IsSupply self.now }
+        ensures { result ≡ model_frame.supply (model_frame.ours_in (frame_in self.now)) 0 t }
+    {
+        self.slices().our_ticks(t)
+    }
+
+    // The least number of ticks from a place of the frame among which d are ours, given the ticks of windows before the place.
+    pub fn reach_from(&self, at: u32, before: u32, d: u64) -> u64
+        requires supplies { IsSupply self.now }
+        requires begins { BeginsAt self.now at before }
+        requires d_le_max_tick { d ≤ max_tick }
+        ensures { IsReach (model_frame.ours_in (frame_in self.now)) at d result }
+    {
+        self.slices().reach_from(at, before, d)
+    }
+
+    // The least number of ticks from t on among which d are ours.
+    pub fn reach(&self, t: u64, d: u64) -> u64
+        requires supplies { IsSupply self.now }
+        requires d_le_max_tick { d ≤ max_tick }
+        ensures { IsReach (model_frame.ours_in (frame_in self.now)) t d result }
+    {
+        self.slices().reach(t, d)
+    }
+
+    // The number of starts that the search needs: one where there is no frame.
+    pub fn starts(&self) -> usize
+        ensures { result ≡ starts_of (frame_in self.now) }
+    {
+        self.slices().starts()
+    }
+
+    // Start k: the place in the frame after window k.
+    pub fn start_of(&self, k: usize) -> u32
+        requires frame_columns { HasColumns self.now }
+        requires k_bound { k < starts_of (frame_in self.now) }
+        ensures { result ≡ start_at (frame_in self.now) k }
+    {
+        self.slices().start_of(k)
+    }
+
+    // Whether tick t is ours.
+    pub fn is_ours(&self, t: u64) -> bool
+        requires { HasColumns self.now }
+        ensures { result ≡ model_frame.ours_in (frame_in self.now) t }
+    {
+        self.slices().is_ours(t)
     }
 }

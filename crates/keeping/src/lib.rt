@@ -2,12 +2,12 @@
 #![tactic(auto)]
 
 ghost use Rattle.std.specs.Prelude.{◌≡◌, ◌≤◌};
-ghost use Rattle.frame.specs.WindowColumns.{IsSupply, frame_in};
-ghost use Rattle.demand.specs.Columns.{HasFactors};
+ghost use Rattle.frame.specs.WindowColumns.{IsSupply, frame_in, supply_lent};
+ghost use Rattle.demand.specs.Columns.{HasFactors, columns_lent, factors_lent};
 ghost use Rattle.keeping.specs.Keeping.{Searched, Walkable, WindowOf, LeastOf, Product, Stepped, step_of};
 
-use demand::{FactorColumns, TaskColumns, above_load, once_each, start_at, tally_of};
-use frame::Supply;
+use demand::{FactorSlices, TaskSlices, above_load, once_each, start_at, tally_of};
+use frame::SupplySlices;
 use taskset::PICKUP;
 
 // W(q), with how many t count for it.
@@ -46,18 +46,18 @@ fn product(n: u32, x: u32) -> u64
 // W(q) of task n, start by start of the frame: from the ticks that q + 1 loads of its own and `once`, one load of each task above, take, on with those of the demand in
 // the t just tried; the largest of the starts. None where it is over the horizon H, or there is none. Without a frame there is one start, and every t of the search counts.
 fn window_of(
-    columns: &TaskColumns,
-    factors: &FactorColumns,
+    columns: &TaskSlices,
+    factors: &FactorSlices,
     keeps: &[u32],
-    supply: &Supply,
+    supply: &SupplySlices,
     n: usize,
     once: u64,
     q: u32,
 ) -> Option<Window>
-    requires searched { Searched columns.now.loads columns.now.periods keeps.now n once q }
-    requires factored { HasFactors columns.now factors.now n }
-    requires supplies { IsSupply supply.now }
-    ensures { WindowOf (frame_in supply.now) columns.now.loads columns.now.periods keeps.now n q result }
+    requires searched { Searched columns.now.loads.now columns.now.periods.now keeps.now n once q }
+    requires factored { HasFactors (columns_lent columns.now) (factors_lent factors.now) n }
+    requires supplies { IsSupply (supply_lent supply.now) }
+    ensures { WindowOf (frame_in (supply_lent supply.now)) columns.now.loads.now columns.now.periods.now keeps.now n q result }
 {
     let own = product(q + 1, columns.loads[n]);
     let need = own + once;
@@ -123,21 +123,21 @@ fn step_at(period: u32, jitter: u32, deadline: u32, high: u32, q: u32, w: u32) -
 // The least kept jitter at which task i fits, given the kept jitters of the tasks above; None where there is none. W(q) does not depend on the task's own K, so one walk
 // over q finds it. It takes the q that the verdict at that kept jitter takes.
 pub fn least_keep(
-    columns: &TaskColumns,
-    factors: &FactorColumns,
+    columns: &TaskSlices,
+    factors: &FactorSlices,
     keeps: &[u32],
-    supply: &Supply,
+    supply: &SupplySlices,
     i: usize,
     jitter: u32,
     deadline: u32,
 ) -> Option<Least>
-    requires walkable { Walkable columns.now.loads columns.now.periods keeps.now i jitter deadline }
-    requires factored { HasFactors columns.now factors.now i }
-    requires supplies { IsSupply supply.now }
-    ensures { LeastOf (frame_in supply.now) columns.now.loads columns.now.periods keeps.now i jitter deadline result }
+    requires walkable { Walkable columns.now.loads.now columns.now.periods.now keeps.now i jitter deadline }
+    requires factored { HasFactors (columns_lent columns.now) (factors_lent factors.now) i }
+    requires supplies { IsSupply (supply_lent supply.now) }
+    ensures { LeastOf (frame_in (supply_lent supply.now)) columns.now.loads.now columns.now.periods.now keeps.now i jitter deadline result }
 {
     let period = columns.periods[i];
-    let once = once_each(columns, i);
+    let once = once_each(columns.loads, i);
     let mut q: u32 = 0;
     let mut high: u32 = 0;
     let mut evaluations: u64 = 0;

@@ -7,13 +7,13 @@ ghost use Rattle.model.specs.Bound as model_bound;
 ghost use Rattle.model.specs.Evaluations as model_evaluations;
 ghost use Rattle.model.specs.Calls.{verdict_call};
 ghost use Rattle.frame.specs.FrameView.{framed_of};
-ghost use Rattle.frame.specs.WindowColumns.{IsSupply};
-ghost use Rattle.demand.specs.Columns.{HasFactors};
+ghost use Rattle.frame.specs.WindowColumns.{IsSupply, supply_lent};
+ghost use Rattle.demand.specs.Columns.{HasFactors, columns_lent, factors_lent};
 ghost use Rattle.verdict.specs.VerdictAnswer.{judged_in, verdict_in};
 ghost use Rattle.verdict.specs.Walking.{Walkable, Met, IsResponse, tasks_in, better_of};
 
-use demand::{FactorColumns, TaskColumns};
-use frame::{Frame, Supply};
+use demand::{FactorSlices, TaskSlices};
+use frame::{Frame, SupplySlices};
 use refusal::Refusal;
 use taskset::{PICKUP, TaskSet};
 
@@ -78,24 +78,24 @@ fn response(period: u32, jitter: u32, keep: u32, q: u32, w: u32) -> u32
 // and the windows of the frame, if there is one. The search for W(q) goes from start to start of the frame; without a frame there is one start, and every t of the
 // search is counted, a last one over the horizon too.
 fn walk(
-    columns: &TaskColumns,
-    factors: &FactorColumns,
+    columns: &TaskSlices,
+    factors: &FactorSlices,
     keeps: &[u32],
-    supply: &Supply,
+    supply: &SupplySlices,
     task: usize,
     jitter: u32,
     deadline: u32,
 ) -> Verdict
-    requires walkable { Walkable columns.now.loads columns.now.periods keeps.now task jitter }
-    requires factored { HasFactors columns.now factors.now task }
-    requires supplies { IsSupply supply.now }
+    requires walkable { Walkable columns.now.loads.now columns.now.periods.now keeps.now task jitter }
+    requires factored { HasFactors (columns_lent columns.now) (factors_lent factors.now) task }
+    requires supplies { IsSupply (supply_lent supply.now) }
     ensures { judged_in result
-        ≡ model_evaluations.judged (tasks_in supply.now columns.now jitter deadline) (column keeps.now) task }
+        ≡ model_evaluations.judged (tasks_in (supply_lent supply.now) (columns_lent columns.now) jitter deadline) (column keeps.now) task }
 {
     let cost = columns.loads[task];
     let period = columns.periods[task];
     let keep = keeps[task];
-    let once = demand::once_each(columns, task);
+    let once = demand::once_each(columns.loads, task);
     let starts = supply.starts();
     let tally = demand::tally_of(supply.framed);
     let mut best = Best { worst: 0, first: 0 };
@@ -166,11 +166,14 @@ pub fn verdict_of(
     let factors = demand::factors_of(&columns.periods, task);
     let supply = frame::supply_of(f);
     let own = s.tasks[task];
+    let lent_columns = columns.slices();
+    let lent_factors = factors.slices();
+    let lent_supply = supply.slices();
     Ok(walk(
-        &columns,
-        &factors,
+        &lent_columns,
+        &lent_factors,
         kept,
-        &supply,
+        &lent_supply,
         task,
         own.jitter,
         own.deadline,

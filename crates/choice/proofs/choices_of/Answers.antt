@@ -1,7 +1,10 @@
+use mathlib.Core.Path.{sym, subst}
 use native.Mathlib.Omega.{arith}
 use Rattle.model.specs.Tasks.{Valid}
 use Rattle.model.proofs.FramedLaws.{bare_valid}
 use Rattle.taskset.specs.TaskSet.{view_of}
+use Rattle.frame.specs.WindowColumns.{Prepared}
+use Rattle.demand.specs.Columns.{Copied, HasFactors, factors_lent}
 use Rattle.demand.proofs.FlatColumnLaws.{copied_periods, factored}
 use Rattle.choice.proofs.ChoosingLaws.{choosing_none, choosing_walk, choosing_unfit, choosing_few, choosing_next, choosing_all}
 use Rattle.choice.proofs.choices_of.Goals.{Start}
@@ -21,21 +24,24 @@ pub supply_of-supply-requires : goal.supply_of-supply-requires
 supply_of-supply-requires c = c.requires.framed
 
 pub loop-i-init : goal.loop-i-init
-loop-i-init c = choosing_none _ _ _ _ _ (bare (goal.at.loop-i-init c).Start) c.columns_of-columns.ensures
+loop-i-init c = choosing_none _ _ _ _ _ (bare (goal.at.loop-i-init c).Start)
+    (subst (λ x. Copied c.args.s c.args.s.count x.loads x.periods) (sym c.slices-lent_columns.ensures) c.columns_of-columns.ensures)
 
 pub keep_for-found-requires : goal.keep_for-found-requires
 keep_for-found-requires c =
     let f = c.loop-i.invariant in
     let below = c.loop-i-test.true in (record {
       walkable = choosing_walk _ _ _ _ _ _ _ _ _ f below;
-      factored = factored _ _ _ _ c.loop-i.i c.factors_of-factors.ensures
-          (omega (arith, f.valid.few_tasks)) (omega (arith, below));
-      supplies = c.supply_of-supply.ensures.supplies;
+      factored =
+          subst (λ x. HasFactors x (factors_lent c.slices-lent_factors.result) c.loop-i.i) (sym c.slices-lent_columns.ensures)
+          (subst (λ x. HasFactors c.columns_of-columns.result x c.loop-i.i) (sym c.slices-lent_factors.ensures)
+          (factored _ _ _ _ c.loop-i.i c.factors_of-factors.ensures (omega (arith, f.valid.few_tasks)) (omega (arith, below))));
+      supplies = (subst (Prepared c.args.f) (sym c.slices-lent_supply.ensures) c.supply_of-supply.ensures).supplies;
     })
 
 pub returns-in_default : goal.returns-in_default
 returns-in_default c =
-    choosing_unfit _ _ _ _ _ _ _ _ _ c.loop-i.invariant c.loop-i-test.true _ c.supply_of-supply.ensures.same _
+    choosing_unfit _ _ _ _ _ _ _ _ _ c.loop-i.invariant c.loop-i-test.true _ (subst (Prepared c.args.f) (sym c.slices-lent_supply.ensures) c.supply_of-supply.ensures).same _
     c.is_spared-spared.ensures (rw c.in_default.is at c.keep_for-found.ensures)
 
 pub overflow_add-evaluations : goal.overflow_add-evaluations
@@ -54,4 +60,4 @@ loop-i-preserved c =
     (rw c.in-Some.is at c.keep_for-found.ensures)
 
 pub returns : goal.returns
-returns c = choosing_all _ _ _ _ _ _ _ _ _ c.loop-i.invariant _ c.supply_of-supply.ensures.same c.loop-i-test.false
+returns c = choosing_all _ _ _ _ _ _ _ _ _ c.loop-i.invariant _ (subst (Prepared c.args.f) (sym c.slices-lent_supply.ensures) c.supply_of-supply.ensures).same c.loop-i-test.false

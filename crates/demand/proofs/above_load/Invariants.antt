@@ -3,4 +3,4 @@ use Rattle.demand.proofs.FlatColumnLaws.{Summed}
 use Rattle.demand.proofs.above_load.Given as goal
 
 abbrev pub invariant-loop-j : goal.invariant-loop-j
-invariant-loop-j l = Summed l.columns.loads l.columns.periods l.keeps l.n l.t l.j l.sum
+invariant-loop-j l = Summed l.columns.loads.now l.columns.periods.now l.keeps l.n l.t l.j l.sum

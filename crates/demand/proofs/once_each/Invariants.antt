@@ -3,4 +3,4 @@ use Rattle.demand.proofs.FlatColumnLaws.{Once}
 use Rattle.demand.proofs.once_each.Given as goal
 
 abbrev pub invariant-loop-j : goal.invariant-loop-j
-invariant-loop-j l = Once l.columns.loads l.n l.j l.sum
+invariant-loop-j l = Once l.loads l.n l.j l.sum

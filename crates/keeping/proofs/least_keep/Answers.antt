@@ -1,6 +1,6 @@
 use Prim.Native.Nat.{◌+◌}
 use native.Mathlib.Omega.{arith}
-use Rattle.frame.specs.WindowColumns.{frame_in}
+use Rattle.frame.specs.WindowColumns.{frame_in, supply_lent}
 use Rattle.frame.proofs.ColumnLaws.{ruled_columns}
 use Rattle.demand.proofs.FlatColumnLaws.{loads_of}
 use Rattle.keeping.proofs.LeastLaws.{Stepping, walking_start, searched, walking_none, stepped, walking_step}
@@ -10,7 +10,7 @@ use Rattle.keeping.proofs.least_keep.Goals as goal
 -- what the step leaves
 stepping
     : (c : After-step_at)
-    → Stepping (frame_in c.args.supply.now) c.args.columns.now.loads c.args.columns.now.periods c.args.keeps.now c.args.i c.args.jitter c.args.deadline c.loop-window.q
+    → Stepping (frame_in (supply_lent c.args.supply.now)) c.args.columns.now.loads.now c.args.columns.now.periods.now c.args.keeps.now c.args.i c.args.jitter c.args.deadline c.loop-window.q
     (c.loop-window.evaluations + c.in_ok-window.window.tries) c.step_at.result
 stepping c =
     walking_step _ _ _ _ _ _ _ c.loop-window.invariant.ruled c.loop-window.invariant.may _ _ _ c.loop-window.invariant _ _ c.in_ok-window.ensures _ c.step_at.ensures

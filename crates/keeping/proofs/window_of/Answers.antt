@@ -18,7 +18,7 @@ start_at-begin-requires c =
 pub loop-t-init : goal.loop-t-init
 loop-t-init c =
     search_start _ _ _ _ _ _ _ _ _ c.requires.searched c.requires.supplies c.product-own.ensures
-    c.starts-starts.ensures c.tally_of-tally.ensures _ c.start_at-begin.ensures
+    (c.starts-starts.ensures _ _ _) c.tally_of-tally.ensures _ c.start_at-begin.ensures
 
 pub overflow_add-tries : goal.overflow_add-tries
 overflow_add-tries c = omega (arith, c.loop-t.invariant.list.few, c.loop-t.invariant.tally_few)

@@ -1,17 +1,23 @@
 -- The checks refuse, or the walk over the columns gives the verdict.
-use mathlib.Core.Path.{◌≡◌, ap, ◌∙◌}
+use mathlib.Core.Path.{◌≡◌, sym, ap, subst, ◌∙◌}
 use mathlib.Core.Option.{none}
 use native.Mathlib.Omega.{arith}
 use Rattle.model.specs.Refusal.{answered}
+use Rattle.model.specs.Choice.{column}
+use Rattle.model.specs.Evaluations.{judged}
 use Rattle.model.specs.Checks.{refusal_of}
 use Rattle.model.specs.Calls.{task_inputs, verdict_call}
 use Rattle.model.proofs.OrderLaws.{answers, refuses}
 use Rattle.model.proofs.FramedLaws.{bare_valid}
 use Rattle.refusal.proofs.PassedOn.{passed_answer}
-use Rattle.taskset.specs.TaskSet.{view_of}
+use Rattle.taskset.specs.TaskSet.{view_of, entry_of}
 use Rattle.frame.specs.FrameView.{frame_of, framed_of}
+use Rattle.frame.specs.WindowColumns.{IsSupply, supply_lent}
+use Rattle.demand.specs.Columns.{HasFactors, factors_lent}
 use Rattle.demand.proofs.FlatColumnLaws.{factored}
 use Rattle.demand.proofs.TaskCallLaws.{Passed, passed_of}
+use Rattle.verdict.specs.Walking.{Walkable, tasks_in}
+use Rattle.verdict.specs.VerdictAnswer.{judged_in}
 use Rattle.verdict.proofs.WalkableLaws.{walkable, above_periods, flat_judged}
 use Rattle.verdict.proofs.verdict_of.Goals.{In_ok-check_framed}
 use Rattle.verdict.proofs.verdict_of.Goals as goal
@@ -44,10 +50,14 @@ walk-requires c =
     let f = c.columns_of-columns.ensures in
     let made = c.factors_of-factors.ensures in
     let framed = c.args.f in
+    let own = entry_of c.args.s c.args.task in
     (record {
-      walkable = walkable _ framed _ _ _ _ p f;
-      factored = factored _ _ _ _ _ made (above_periods _ framed _ _ _ _ p f).few (omega arith);
-      supplies = c.supply_of-supply.ensures.supplies;
+      walkable = subst (λ x. Walkable x.loads x.periods c.args.kept.now c.args.task own.jitter) (sym c.slices-lent_columns.ensures) (walkable _ framed _ _ _ _ p f);
+      factored =
+          subst (λ x. HasFactors x (factors_lent c.slices-lent_factors.result) c.args.task) (sym c.slices-lent_columns.ensures)
+          (subst (λ x. HasFactors c.columns_of-columns.result x c.args.task) (sym c.slices-lent_factors.ensures)
+          (factored _ _ _ _ _ made (above_periods _ framed _ _ _ _ p f).few (omega arith)));
+      supplies = subst IsSupply (sym c.slices-lent_supply.ensures) c.supply_of-supply.ensures.supplies;
     })
 
 pub returns-in_err-check_framed : goal.returns-in_err-check_framed
@@ -59,7 +69,14 @@ returns-in_err-check_framed c =
 pub returns : goal.returns
 unfolding verdict_call
 returns c =
+    let own = entry_of c.args.s c.args.task in
     ap answered
-    (c.walk.ensures
+    (subst
+    (λ x. judged_in c.walk.result ≡ judged (tasks_in x c.columns_of-columns.result own.jitter own.deadline) (column c.args.kept.now) c.args.task)
+    c.slices-lent_supply.ensures
+    (subst
+    (λ x. judged_in c.walk.result ≡ judged (tasks_in (supply_lent c.slices-lent_supply.result) x own.jitter own.deadline) (column c.args.kept.now) c.args.task)
+    c.slices-lent_columns.ensures
+    c.walk.ensures)
     ∙ flat_judged _ c.args.f _ _ _ _ (passed (goal.at.returns c).In_ok-check_framed) c.columns_of-columns.ensures _ c.supply_of-supply.ensures.same)
     ∙ answers (task_inputs (framed_of c.args.s c.args.f) c.args.task c.args.kept.now) _ (fine (goal.at.returns c).In_ok-check_framed)

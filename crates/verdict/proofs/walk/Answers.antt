@@ -10,12 +10,13 @@ use Rattle.model.specs.Frame as model
 use Rattle.model.proofs.FrameLaws.{Ruled}
 use Rattle.frame.specs.Starts.{starts_of, start_at}
 use Rattle.frame.specs.Reached.{Reached}
-use Rattle.frame.specs.WindowColumns.{frame_in}
+use Rattle.frame.specs.WindowColumns.{frame_in, supply_lent}
 use Rattle.frame.proofs.ColumnLaws.{ruled_columns}
 use Rattle.demand.specs.Seeking.{Counts}
 use Rattle.demand.proofs.FlatColumnLaws.{loads_of}
 use Rattle.demand.proofs.SeekLaws.{some_start}
 use Rattle.demand.proofs.SeekColumnLaws.{periodic, own_load, own_high, seek_start, seek_next, seek_turn, seek_found, found_counted, seek_over, over_counted, tally_high}
+use Rattle.demand.specs.Columns.{columns_lent}
 use Rattle.verdict.specs.Walking.{tasks_in}
 use Rattle.verdict.proofs.VerdictWalkLaws.{walk_start, says_horizon, says_late, says_fits, walk_on}
 use Rattle.verdict.proofs.WalkableLaws.{counts_in, met_at}
@@ -23,73 +24,73 @@ use Rattle.verdict.proofs.walk.Goals.{Start, After-from-in-walk, At-walk, After-
 use Rattle.verdict.proofs.walk.Goals as goal
 
 -- its frame is within the rules
-ruled : (c : Start) → Ruled (frame_in c.args.supply.now)
+ruled : (c : Start) → Ruled (frame_in (supply_lent c.args.supply.now))
 ruled c = ruled_columns _ _ _ _ _ c.requires.supplies.columns
 
 -- (q + 1) × E
 own_is : (c : After-from-in-walk)
     → c.from.result * c.from-in-walk.result
-    ≡ (c.walk.q + 1) * get_or c.args.columns.now.loads c.args.task 0
+    ≡ (c.walk.q + 1) * get_or c.args.columns.now.loads.now c.args.task 0
 own_is c = ap₂ ◌*◌ c.from.ensures c.from-in-walk.ensures
 
 -- it stays far below 64 bits
 own_small : (c : After-from-in-walk) → c.from.result * c.from-in-walk.result ≤ 10000001000000
 own_small c =
-    own_high (frame_in c.args.supply.now) _ _ _ _ 0 0 c.requires.walkable.search (ruled_columns _ _ _ _ _ c.requires.supplies.columns) _ _
+    own_high (frame_in (supply_lent c.args.supply.now)) _ _ _ _ 0 0 c.requires.walkable.search (ruled_columns _ _ _ _ _ c.requires.supplies.columns) _ _
     c.walk.invariant.q_high
     (own_is c)
 
 -- the starts are those of the frame
-starts_are : (c : At-walk) → c.starts-starts.result ≡ starts_of (frame_in c.args.supply.now)
-starts_are c = c.starts-starts.ensures
+starts_are : (c : At-walk) → c.starts-starts.result ≡ starts_of (frame_in (supply_lent c.args.supply.now))
+starts_are c = c.starts-starts.ensures _ _ _
 
 -- how much a number that is tried counts
-counts : (c : At-walk) → Counts (tasks_in c.args.supply.now c.args.columns.now c.args.jitter c.args.deadline) c.tally_of-tally.result
-counts c = counts_in c.args.supply.now c.args.columns.now c.args.jitter c.args.deadline _ c.tally_of-tally.ensures
+counts : (c : At-walk) → Counts (tasks_in (supply_lent c.args.supply.now) (columns_lent c.args.columns.now) c.args.jitter c.args.deadline) c.tally_of-tally.result
+counts c = counts_in (supply_lent c.args.supply.now) (columns_lent c.args.columns.now) c.args.jitter c.args.deadline _ c.tally_of-tally.ensures
 
 -- the number of ticks that the demand just found takes from the start on
 reached : (c : After-reach_from-x)
-    → Reached (model.ours_in (frame_in c.args.supply.now))
-    (start_at (frame_in c.args.supply.now) c.find.n)
+    → Reached (model.ours_in (frame_in (supply_lent c.args.supply.now)))
+    (start_at (frame_in (supply_lent c.args.supply.now)) c.find.n)
     (c.from.result * c.from-in-walk.result + c.above_load.result)
     c.reach_from-x.result
 reached c = rw c.find.invariant.2 at c.reach_from-x.ensures.reached
 
 -- the largest over the starts is W(q)
 found : (c : Then-starts-n)
-    → window (tasks_in c.args.supply.now c.args.columns.now c.args.jitter c.args.deadline) (column c.args.keeps.now) c.args.task c.walk.q ≡ some c.max-w.result
+    → window (tasks_in (supply_lent c.args.supply.now) (columns_lent c.args.columns.now) c.args.jitter c.args.deadline) (column c.args.keeps.now) c.args.task c.walk.q ≡ some c.max-w.result
 found c =
-    seek_found (frame_in c.args.supply.now) _ _ _ _ _ _ c.requires.walkable.search (ruled_columns _ _ _ _ _ c.requires.supplies.columns) _ _ c.walk.invariant.q_high
+    seek_found (frame_in (supply_lent c.args.supply.now)) _ _ _ _ _ _ c.requires.walkable.search (ruled_columns _ _ _ _ _ c.requires.supplies.columns) _ _ c.walk.invariant.q_high
     (ap₂ ◌*◌ c.from.ensures c.from-in-walk.ensures) _
     c.once_each-once.ensures _ _ _ _ _ _ _
     c.find.invariant.0.search
-    (counts_in c.args.supply.now c.args.columns.now c.args.jitter c.args.deadline _ c.tally_of-tally.ensures)
+    (counts_in (supply_lent c.args.supply.now) (columns_lent c.args.columns.now) c.args.jitter c.args.deadline _ c.tally_of-tally.ensures)
     c.above_load.ensures
     c.if-t-gt10000000.false
     (rw c.find.invariant.2 at c.reach_from-x.ensures.reached)
     c.if-t-x.false
-    (omega (arith, c.if-starts-n.true, c.starts-starts.ensures))
+    (omega (arith, c.if-starts-n.true, c.starts-starts.ensures c.args.supply.now.ticks c.args.supply.now.first.now c.args.supply.now.size.now))
     ∙ ap some (sym c.max-w.ensures)
 
 -- what has counted for it
 counted : (c : Then-starts-n)
     → c.find.evaluations + c.tally_of-tally.result
     ≡ c.walk.evaluations
-    + counted_at (tasks_in c.args.supply.now c.args.columns.now c.args.jitter c.args.deadline) (column c.args.keeps.now) c.args.task c.walk.q
+    + counted_at (tasks_in (supply_lent c.args.supply.now) (columns_lent c.args.columns.now) c.args.jitter c.args.deadline) (column c.args.keeps.now) c.args.task c.walk.q
 counted c =
     omega (
       arith,
       c.find.invariant.0.counted,
-      found_counted (frame_in c.args.supply.now) _ _ _ _ _ _ c.requires.walkable.search (ruled_columns _ _ _ _ _ c.requires.supplies.columns) _ _ c.walk.invariant.q_high
+      found_counted (frame_in (supply_lent c.args.supply.now)) _ _ _ _ _ _ c.requires.walkable.search (ruled_columns _ _ _ _ _ c.requires.supplies.columns) _ _ c.walk.invariant.q_high
           (ap₂ ◌*◌ c.from.ensures c.from-in-walk.ensures) _
           c.once_each-once.ensures _ _ _ _ _ _ _
           c.find.invariant.0.search
-          (counts_in c.args.supply.now c.args.columns.now c.args.jitter c.args.deadline _ c.tally_of-tally.ensures)
+          (counts_in (supply_lent c.args.supply.now) (columns_lent c.args.columns.now) c.args.jitter c.args.deadline _ c.tally_of-tally.ensures)
           c.above_load.ensures
           c.if-t-gt10000000.false
           (rw c.find.invariant.2 at c.reach_from-x.ensures.reached)
           c.if-t-x.false
-          (omega (arith, c.if-starts-n.true, c.starts-starts.ensures)),
+          (omega (arith, c.if-starts-n.true, c.starts-starts.ensures c.args.supply.now.ticks c.args.supply.now.first.now c.args.supply.now.size.now)),
     )
 
 pub once_each-once-requires : goal.once_each-once-requires
@@ -130,7 +131,7 @@ find-init c = (
     tries = 0;
     counted = omega arith;
     search =
-        seek_start (frame_in c.args.supply.now) _ _ _ _ _ _ c.requires.walkable.search (ruled (goal.at.find-init c).Start) _ _ c.walk.invariant.q_high
+        seek_start (frame_in (supply_lent c.args.supply.now)) _ _ _ _ _ _ c.requires.walkable.search (ruled (goal.at.find-init c).Start) _ _ c.walk.invariant.q_high
         (own_is (goal.at.find-init c).After-from-in-walk) _
         c.once_each-once.ensures _
         c.start_at-start.ensures.reach.reached;
@@ -149,7 +150,7 @@ overflow_add-evaluations c =
       head.small,
       head.q_high,
       c.tally_of-tally.ensures,
-      tally_high c.args.supply.now.framed,
+      tally_high (supply_lent c.args.supply.now).framed,
     )
 
 pub above_load-requires : goal.above_load-requires
@@ -179,7 +180,7 @@ find-preserved-then-t-x c =
         tries = so_far.0.tries + c.tally_of-tally.result;
         counted = omega (arith, so_far.0.counted);
         search =
-            seek_next (frame_in c.args.supply.now) _ _ _ _ _ _ c.requires.walkable.search (ruled (goal.at.find-preserved-then-t-x c).Start) _ _ c.walk.invariant.q_high
+            seek_next (frame_in (supply_lent c.args.supply.now)) _ _ _ _ _ _ c.requires.walkable.search (ruled (goal.at.find-preserved-then-t-x c).Start) _ _ c.walk.invariant.q_high
             (own_is (goal.at.find-preserved-then-t-x c).After-from-in-walk) _
             c.once_each-once.ensures _ _ _ _ _ _ _
             so_far.0.search
@@ -215,7 +216,7 @@ find-preserved c =
         counted = omega (arith, so_far.0.counted);
         search =
             rw c.max-w.ensures
-            (seek_turn (frame_in c.args.supply.now) _ _ _ _ _ _ c.requires.walkable.search (ruled (goal.at.find-preserved c).Start) _ _ c.walk.invariant.q_high
+            (seek_turn (frame_in (supply_lent c.args.supply.now)) _ _ _ _ _ _ c.requires.walkable.search (ruled (goal.at.find-preserved c).Start) _ _ c.walk.invariant.q_high
             (own_is (goal.at.find-preserved c).After-from-in-walk) _
             c.once_each-once.ensures _ _ _ _ _ _ _
             so_far.0.search
@@ -270,11 +271,11 @@ walk-preserved c =
       so_far.counted,
       so_far.search.few,
       c.tally_of-tally.ensures,
-      tally_high c.args.supply.now.framed,
+      tally_high (supply_lent c.args.supply.now).framed,
     ))
     (ruled (goal.at.walk-preserved c).Start)
-    (periodic (frame_in c.args.supply.now) _ _ _ _ c.args.jitter c.args.deadline c.requires.walkable.search (ruled (goal.at.walk-preserved c).Start))
-    (own_load (frame_in c.args.supply.now) _ _ _ _ c.args.jitter c.args.deadline c.requires.walkable.search (ruled (goal.at.walk-preserved c).Start))
+    (periodic (frame_in (supply_lent c.args.supply.now)) _ _ _ _ c.args.jitter c.args.deadline c.requires.walkable.search (ruled (goal.at.walk-preserved c).Start))
+    (own_load (frame_in (supply_lent c.args.supply.now)) _ _ _ _ c.args.jitter c.args.deadline c.requires.walkable.search (ruled (goal.at.walk-preserved c).Start))
     c.response-r.ensures.low
     c.if-deadline-r.false
     (rw c.gap.ensures at c.if-w-gap.false))
@@ -286,10 +287,10 @@ returns-then-t-gt10000000 c =
     (omega (
       arith,
       so_far.counted,
-      over_counted (frame_in c.args.supply.now) _ _ _ _ _ _ c.requires.walkable.search (ruled (goal.at.returns-then-t-gt10000000 c).Start) _ _ _ _ _ _ so_far.search
+      over_counted (frame_in (supply_lent c.args.supply.now)) _ _ _ _ _ _ c.requires.walkable.search (ruled (goal.at.returns-then-t-gt10000000 c).Start) _ _ _ _ _ _ so_far.search
           (counts (goal.at.returns-then-t-gt10000000 c).At-walk) c.if-t-gt10000000.true,
     ))
-    (seek_over (frame_in c.args.supply.now) _ _ _ _ _ _ c.requires.walkable.search (ruled (goal.at.returns-then-t-gt10000000 c).Start) _ _ _ _ _ _ so_far.search
+    (seek_over (frame_in (supply_lent c.args.supply.now)) _ _ _ _ _ _ c.requires.walkable.search (ruled (goal.at.returns-then-t-gt10000000 c).Start) _ _ _ _ _ _ so_far.search
     (counts (goal.at.returns-then-t-gt10000000 c).At-walk) c.if-t-gt10000000.true))
 
 pub returns-then-deadline-r : goal.returns-then-deadline-r

@@ -2,10 +2,10 @@
 use mathlib.Core.Path.{refl}
 use native.Mathlib.Omega.{arith}
 use Rattle.frame.proofs.ReachLaws.{ours_absent_ticks, place_in, sizes, our_ticks_is, our_ticks_high}
-use Rattle.frame.proofs.Supply.our_ticks.Goals as goal
+use Rattle.frame.proofs.SupplySlices.our_ticks.Goals as goal
 
 pub returns-then-not-self : goal.returns-then-not-self
-returns-then-not-self c = ours_absent_ticks c.args.self.now.framed c.args.self.now.ticks c.args.self.now.count c.args.self.now.first c.args.self.now.size c.requires.columns c.if-not-self.true-raw c.args.t
+returns-then-not-self c = ours_absent_ticks c.args.self.now.framed c.args.self.now.ticks c.args.self.now.count c.args.self.now.first.now c.args.self.now.size.now c.requires.columns c.if-not-self.true-raw c.args.t
 
 pub nonzero_rem-t : goal.nonzero_rem-t
 nonzero_rem-t c = omega (arith, c.from-length.ensures, (sizes _ _ _ _ _ _ c.requires c.if-not-self.false-raw).ticks_low)

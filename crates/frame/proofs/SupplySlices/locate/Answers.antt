@@ -1,6 +1,6 @@
 use native.Mathlib.Omega.{arith}
 use Rattle.frame.proofs.ColumnLaws.{passed_none, passed_next, passed_here, passed_all}
-use Rattle.frame.proofs.Supply.locate.Goals as goal
+use Rattle.frame.proofs.SupplySlices.locate.Goals as goal
 
 pub loop-k-init : goal.loop-k-init
 loop-k-init c = passed_none _ _ _ c.requires.windows _ c.requires.le_r
@@ -26,7 +26,7 @@ pub returns-then-left-length : goal.returns-then-left-length
 returns-then-left-length c = passed_here _ _ _ c.requires.windows _ _ _ c.loop-k.invariant c.loop-k-test.true c.if-left-length.true
 
 pub loop-k-preserved : goal.loop-k-preserved
-loop-k-preserved c = passed_next c.args.self.now.first _ _ c.requires.windows _ _ _ c.loop-k.invariant c.loop-k-test.true c.if-left-length.false
+loop-k-preserved c = passed_next c.args.self.now.first.now _ _ c.requires.windows _ _ _ c.loop-k.invariant c.loop-k-test.true c.if-left-length.false
 
 pub returns : goal.returns
 returns c = absurd (passed_all _ _ _ c.requires.windows _ _ _ c.loop-k.invariant c.requires.r_bound c.loop-k-test.false)

@@ -1,11 +1,11 @@
 -- From the place of the tick in the frame.
 use native.Mathlib.Omega.{arith}
 use Rattle.frame.proofs.ReachLaws.{reach_absent, place_in, sizes, begins_place, reach_place}
-use Rattle.frame.proofs.Supply.reach.Goals as goal
+use Rattle.frame.proofs.SupplySlices.reach.Goals as goal
 
 pub returns-then-not-self : goal.returns-then-not-self
 returns-then-not-self c =
-    reach_absent c.args.self.now.framed c.args.self.now.ticks c.args.self.now.count c.args.self.now.first c.args.self.now.size c.requires.supplies.columns
+    reach_absent c.args.self.now.framed c.args.self.now.ticks c.args.self.now.count c.args.self.now.first.now c.args.self.now.size.now c.requires.supplies.columns
     c.if-not-self.true-raw c.args.t c.args.d
 
 pub nonzero_rem-at : goal.nonzero_rem-at
@@ -32,5 +32,5 @@ reach_from-requires c =
 
 pub returns : goal.returns
 returns c =
-    reach_place c.args.self.now.framed c.args.self.now.ticks c.args.self.now.count c.args.self.now.first c.args.self.now.size c.requires.supplies.columns c.if-not-self.false-raw c.args.t c.args.d
+    reach_place c.args.self.now.framed c.args.self.now.ticks c.args.self.now.count c.args.self.now.first.now c.args.self.now.size.now c.requires.supplies.columns c.if-not-self.false-raw c.args.t c.args.d
     _ _ c.from.ensures c.reach_from.ensures

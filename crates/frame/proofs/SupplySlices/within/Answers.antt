@@ -1,12 +1,12 @@
 use Prim.Native.Nat.{◌+◌}
 use native.Mathlib.Omega.{arith}
 use Rattle.frame.proofs.ColumnLaws.{Summed, summed_none, summed_next, summed_all}
-use Rattle.frame.proofs.Supply.within.Goals.{After-part_of-sum}
-use Rattle.frame.proofs.Supply.within.Goals as goal
+use Rattle.frame.proofs.SupplySlices.within.Goals.{After-part_of-sum}
+use Rattle.frame.proofs.SupplySlices.within.Goals as goal
 
 -- one window more
 next : (c : After-part_of-sum)
-    → Summed c.args.self.now.first c.args.self.now.size c.args.self.now.count
+    → Summed c.args.self.now.first.now c.args.self.now.size.now c.args.self.now.count
     c.args.x (c.loop-k.k + 1) (c.loop-k.sum + c.part_of-sum.result)
 next c =
     summed_next _ _ _ c.requires _ _ _ _ c.loop-k.invariant c.loop-k-test.true c.part_of-sum.ensures

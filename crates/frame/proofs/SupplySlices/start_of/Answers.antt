@@ -2,19 +2,19 @@
 use Prim.Native.Nat.{◌<◌}
 use native.Mathlib.Omega.{arith}
 use Rattle.frame.proofs.ColumnLaws.{starts_present, start_absent, start_present}
-use Rattle.frame.proofs.Supply.start_of.Goals.{Else-not-self}
-use Rattle.frame.proofs.Supply.start_of.Goals as goal
+use Rattle.frame.proofs.SupplySlices.start_of.Goals.{Else-not-self}
+use Rattle.frame.proofs.SupplySlices.start_of.Goals as goal
 
 -- the window is one of the frame
 known : (c : Else-not-self) → c.args.k < c.args.self.now.count
 known c =
     let a = c.args in
-    omega (arith, c.requires.k_bound, starts_present a.self.now.framed a.self.now.ticks a.self.now.count a.self.now.first a.self.now.size c.if-not-self.false-raw)
+    omega (arith, c.requires.k_bound, starts_present a.self.now.framed a.self.now.ticks a.self.now.count a.self.now.first.now a.self.now.size.now c.if-not-self.false-raw)
 
 pub returns-then-not-self : goal.returns-then-not-self
 returns-then-not-self c =
     let a = c.args in
-    start_absent a.self.now.framed a.self.now.ticks a.self.now.count a.self.now.first a.self.now.size a.k c.if-not-self.true-raw
+    start_absent a.self.now.framed a.self.now.ticks a.self.now.count a.self.now.first.now a.self.now.size.now a.k c.if-not-self.true-raw
 
 pub offset_bounds-self-k : goal.offset_bounds-self-k
 offset_bounds-self-k c = omega (arith, known (goal.at.offset_bounds-self-k c).Else-not-self, c.requires.frame_columns.windows.few)
@@ -39,4 +39,4 @@ nonzero_rem-result c = omega (arith, (c.requires.frame_columns.rules (c.if-not-s
 pub returns : goal.returns
 returns c =
     let a = c.args in
-    start_present a.self.now.framed a.self.now.ticks a.self.now.count a.self.now.first a.self.now.size a.k c.if-not-self.false-raw
+    start_present a.self.now.framed a.self.now.ticks a.self.now.count a.self.now.first.now a.self.now.size.now a.k c.if-not-self.false-raw

@@ -4,12 +4,12 @@ use mathlib.Core.Path.{sym, ap}
 use native.Mathlib.Omega.{arith}
 use Rattle.frame.proofs.ColumnLaws.{ours_absent, ours_present}
 use Rattle.frame.proofs.ReachLaws.{place_in}
-use Rattle.frame.proofs.Supply.is_ours.Goals as goal
+use Rattle.frame.proofs.SupplySlices.is_ours.Goals as goal
 
 pub returns-then-not-self : goal.returns-then-not-self
 returns-then-not-self c =
     let a = c.args in
-    sym (ours_absent a.self.now.framed a.self.now.ticks a.self.now.count a.self.now.first a.self.now.size c.if-not-self.true-raw a.t)
+    sym (ours_absent a.self.now.framed a.self.now.ticks a.self.now.count a.self.now.first.now a.self.now.size.now c.if-not-self.true-raw a.t)
 
 pub nonzero_rem-t : goal.nonzero_rem-t
 nonzero_rem-t c = omega (arith, c.from.ensures, (c.requires.rules (c.if-not-self.false)).ticks_low)
@@ -28,5 +28,5 @@ in_some-requires c = c.requires.windows
 pub returns : goal.returns
 returns c =
     let a = c.args in
-    ours_present a.self.now.framed a.self.now.ticks a.self.now.count a.self.now.first a.self.now.size c.if-not-self.false-raw a.t _
+    ours_present a.self.now.framed a.self.now.ticks a.self.now.count a.self.now.first.now a.self.now.size.now c.if-not-self.false-raw a.t _
     (ap (◌%◌ a.t) c.from.ensures) _ c.in_some.ensures

@@ -3,10 +3,10 @@ use Prim.Native.Nat.{◌+◌, ◌-◌, ◌/◌, ◌*◌, ◌≤◌}
 use native.Mathlib.Omega.{arith}
 use Rattle.model.specs.Frame.{ours_in}
 use Rattle.frame.specs.Reached.{IsReach}
-use Rattle.frame.specs.WindowColumns.{frame_in}
+use Rattle.frame.specs.WindowColumns.{frame_in, supply_lent}
 use Rattle.frame.proofs.ReachLaws.{reach_absent, reach_nothing, sizes, rest_high, frames_high, reach_code}
-use Rattle.frame.proofs.Supply.reach_from.Goals.{After-from-2, After-from-4}
-use Rattle.frame.proofs.Supply.reach_from.Goals as goal
+use Rattle.frame.proofs.SupplySlices.reach_from.Goals.{After-from-2, After-from-4}
+use Rattle.frame.proofs.SupplySlices.reach_from.Goals as goal
 
 -- whole frames fit in 64 bits
 frames : (c : After-from-2)
@@ -21,22 +21,22 @@ found : (c : After-from-4)
     → let past = c.from.result + c.args.d - 1 in
     let sum = past / c.from-each.result * c.from-2.result + c.from-3.result in
     (c.from-4.result ≤ sum)
-    × IsReach (ours_in (frame_in c.args.self.now)) c.args.at
+    × IsReach (ours_in (frame_in (supply_lent c.args.self.now))) c.args.at
     c.args.d (sum - c.from-4.result)
 found c =
-    reach_code c.args.self.now.framed c.args.self.now.ticks c.args.self.now.per c.args.self.now.count c.args.self.now.first c.args.self.now.size c.requires.supplies c.if-not-self.false-raw
+    reach_code c.args.self.now.framed c.args.self.now.ticks c.args.self.now.per c.args.self.now.count c.args.self.now.first.now c.args.self.now.size.now c.requires.supplies c.if-not-self.false-raw
     c.args.at c.args.before c.args.d _ _ _ _ _ _ c.requires.begins (omega arith) c.from.ensures
     c.from-each.ensures c.from-2.ensures c.from-3.ensures c.from-4.ensures
     c.locate-x.ensures
 
 pub returns-then-not-self : goal.returns-then-not-self
 returns-then-not-self c =
-    reach_absent c.args.self.now.framed c.args.self.now.ticks c.args.self.now.count c.args.self.now.first c.args.self.now.size c.requires.supplies.columns
+    reach_absent c.args.self.now.framed c.args.self.now.ticks c.args.self.now.count c.args.self.now.first.now c.args.self.now.size.now c.requires.supplies.columns
     c.if-not-self.true-raw c.args.at c.args.d
 
 pub returns-then-d-eq0 : goal.returns-then-d-eq0
 returns-then-d-eq0 c =
-    reach_nothing c.args.self.now.framed c.args.self.now.ticks c.args.self.now.count c.args.self.now.first c.args.self.now.size c.requires.supplies.columns
+    reach_nothing c.args.self.now.framed c.args.self.now.ticks c.args.self.now.count c.args.self.now.first.now c.args.self.now.size.now c.requires.supplies.columns
     c.args.at c.args.d (omega arith)
 
 pub overflow_add-past : goal.overflow_add-past
