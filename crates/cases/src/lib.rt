@@ -125,7 +125,7 @@ pub fn lent_ticks<const N: usize>() -> Column<u64, N>
 }
 
 // Reads the label of the next case and prints it; false at the end of the input.
-fn next_case() -> bool {
+pub fn next_case() -> bool {
     let mut label = [0u8; 128];
     let n = read_block(&mut label);
     if n == 0 {
@@ -271,10 +271,15 @@ pub fn print_no_tasks() {
     print_named(b"sheet", 0);
 }
 
+// Prints a refusal by its number and its place.
+pub fn print_refused(number: u32, place: usize) {
+    print_named(b"refused", u64::from(number));
+    print_named(b"at", place as u64);
+}
+
 // Prints a refusal as the programs do.
 pub fn print_refusal(r: Refusal) {
-    print_named(b"refused", u64::from(r.reason.number()));
-    print_named(b"at", r.place as u64);
+    print_refused(r.reason.number(), r.place);
 }
 
 // Prints what a call answers whose results stand in lent columns.
@@ -286,7 +291,7 @@ pub fn print_checked(answer: Result<(), Refusal>) {
 }
 
 // Ends the line of a case.
-fn end_line() {
+pub fn end_line() {
     io::write_all(STDOUT_FILENO, b"\n");
 }
 

@@ -1,17 +1,14 @@
 -- Laws of codes, lent words and sheets passed as numbers.
 use Prim.Native.Nat.{ℕ, ◌+◌, ◌-◌, ◌≤◌, ◌<◌, min}
-use mathlib.Core.Path.{◌≡◌, refl, ap}
-use mathlib.Core.Bool.{true, false}
-use mathlib.Core.Logic.{◌⊎◌, inl, inr}
+use mathlib.Core.Path.{◌≡◌, refl, sym, ap}
+use mathlib.Core.Bool.{Bool, true, false, ◌||◌}
 use mathlib.Core.Option.{some}
 use mathlib.Core.List.{List, ◌++◌}
 use native.Mathlib.Omega.{arith}
-use borrow.Author.Tests.{lt-ltb, le-ltb}
+use borrow.Author.Tests.{lt-ltb, le-ltb, le-leb, lt-leb, eq-eqb, ne_eqb}
+use lib.Dec.{leb, eqb}
 use lib.ListN.{length, drop, set, replicate}
 use Rattle.model.specs.Refusal.{Refusal, Answer, refused, answered}
-use Rattle.refusal.specs.declared.Reason.{Reason}
-use Rattle.refusal.specs.declared.Reason.TheVariants.{UnknownKind, CutOff, TaskAfterRelease, TooManyTasks, NoTask, OutOfRange, ReleaseTask, ReleaseTick, ReleaseCost, TooManyReleases, ByteAfterEnd, KeptOverJitter, ShortSlice, NoSuchTask, Unfit, Line, Charge, Frame, Stale, TooSoon}
-use Rattle.refusal.specs.Refusal.{number_of}
 use Rattle.taskset.specs.declared.Task.{Task}
 use Rattle.taskset.specs.declared.TaskSet.{TaskSet}
 use Rattle.taskset.specs.TaskSet.{no_task}
@@ -49,44 +46,31 @@ pub with_few : {A : Type 0} (n slots : ℕ) (x : A) → slots < n → with_slots
 unfolding with_slots
 with_few n slots x h = rw (with_slots, lt-ltb slots n h)
 
--- which reasons come after the slices, and which do not
-module _ (r : Reason) where
-  pub late_reason
-      : (r ≡ ReleaseTask) ⊎ ((r ≡ ReleaseTick) ⊎ ((r ≡ ReleaseCost) ⊎ ((r ≡ KeptOverJitter) ⊎ ((r ≡ Unfit) ⊎ ((r ≡ Stale) ⊎ (r ≡ TooSoon))))))
-      → true ≡ after_slots (number_of r)
-  unfolding after_slots
-  late_reason (inl e) = rw e refl
-  late_reason (inr (inl e)) = rw e refl
-  late_reason (inr (inr (inl e))) = rw e refl
-  late_reason (inr (inr (inr (inl e)))) = rw e refl
-  late_reason (inr (inr (inr (inr (inl e))))) = rw e refl
-  late_reason (inr (inr (inr (inr (inr (inl e)))))) = rw e refl
-  late_reason (inr (inr (inr (inr (inr (inr e)))))) = rw e refl
-
-pub early_reason
-    : (r : Reason) → (r ≡ ReleaseTask → ⊥) → (r ≡ ReleaseTick → ⊥) → (r ≡ ReleaseCost → ⊥) → (r ≡ KeptOverJitter → ⊥) → (r ≡ Unfit → ⊥) → (r ≡ Stale → ⊥) → (r ≡ TooSoon → ⊥)
-    → false ≡ after_slots (number_of r)
+-- which numbers come after the slices
+pub after_none : (n : ℕ) → n < 7 → false ≡ after_slots n
 unfolding after_slots
-early_reason UnknownKind a b c d e f g = refl
-early_reason CutOff a b c d e f g = refl
-early_reason TaskAfterRelease a b c d e f g = refl
-early_reason TooManyTasks a b c d e f g = refl
-early_reason NoTask a b c d e f g = refl
-early_reason OutOfRange a b c d e f g = refl
-early_reason ReleaseTask a b c d e f g = absurd (a refl)
-early_reason ReleaseTick a b c d e f g = absurd (b refl)
-early_reason ReleaseCost a b c d e f g = absurd (c refl)
-early_reason TooManyReleases a b c d e f g = refl
-early_reason ByteAfterEnd a b c d e f g = refl
-early_reason KeptOverJitter a b c d e f g = absurd (d refl)
-early_reason ShortSlice a b c d e f g = refl
-early_reason NoSuchTask a b c d e f g = refl
-early_reason Unfit a b c d e f g = absurd (e refl)
-early_reason Line a b c d e f g = refl
-early_reason Charge a b c d e f g = refl
-early_reason Frame a b c d e f g = refl
-early_reason Stale a b c d e f g = absurd (f refl)
-early_reason TooSoon a b c d e f g = absurd (g refl)
+after_none n h = rw (after_slots, ne_eqb n 12 (λ e. omega arith), lt-leb 7 n h, ne_eqb n 15 (λ e. omega arith), lt-leb 19 n (omega arith))
+
+pub after_release : (n : ℕ) → 7 ≤ n → n ≤ 9 → true ≡ after_slots n
+unfolding after_slots
+after_release n h g = rw (after_slots, ne_eqb n 12 (λ e. omega arith), le-leb 7 n h, le-leb n 9 g)
+
+pub after_kept : (n : ℕ) → n ≡ 12 → true ≡ after_slots n
+unfolding after_slots
+after_kept n h = rw (after_slots, eq-eqb n 12 h)
+
+or_none : (b : Bool) → (b || false) ≡ b
+or_none true = refl
+or_none false = refl
+
+pub after_choice : (n : ℕ) → 9 < n → (n ≡ 12 → ⊥) → n < 19 → eqb n 15 ≡ after_slots n
+unfolding after_slots
+after_choice n h g l = rw (after_slots, ne_eqb n 12 g, le-leb 7 n (omega arith), lt-leb n 9 h, lt-leb 19 n l) (sym (or_none (eqb n 15)))
+
+pub after_commit : (n : ℕ) → 19 ≤ n → leb n 20 ≡ after_slots n
+unfolding after_slots
+after_commit n h =
+    rw (after_slots, ne_eqb n 12 (λ e. omega arith), le-leb 7 n (omega arith), lt-leb n 9 (omega arith), ne_eqb n 15 (λ e. omega arith), le-leb 19 n h)
 
 -- the refusal of a call, by what is known of the slots and of its number
 pub kept_enough : (n slots : ℕ) (r : Refusal) → n ≤ slots → or_too_few n slots r ≡ r

@@ -57,11 +57,18 @@ pub fn sheet_from(sheet: &[u32], count: u32, charge: u8) -> TaskSet
     }
 }
 
+// The number and the place of a refusal as one number.
+pub fn number_code(number: u32, place: usize) -> u64
+    ensures { result ≡ refusal_code number place }
+{
+    u64::from(number) * 4294967296 + (place as u64) % 4294967296
+}
+
 // A refusal as one number.
 pub fn refusal_code(r: Refusal) -> u64
     ensures { result ≡ refusal_code (number_of r.reason) r.place }
 {
-    u64::from(r.reason.number()) * 4294967296 + (r.place as u64) % 4294967296
+    number_code(r.reason.number(), r.place)
 }
 
 // The code of a call to which too few slots are lent.
@@ -84,33 +91,43 @@ pub fn code_of(checked: Result<(), Refusal>) -> u64
     }
 }
 
-// Whether a call on values checks for this reason after its lent slices.
-fn after_slots(reason: Reason) -> bool
-    ensures { result ≡ after_slots (number_of reason) }
+// Whether a call on values checks for this number after its lent slices.
+fn after_slots(number: u32) -> bool
+    ensures { result ≡ after_slots number }
 {
-    match reason {
-        Reason::ReleaseTask
-        | Reason::ReleaseTick
-        | Reason::ReleaseCost
-        | Reason::KeptOverJitter
-        | Reason::Unfit
-        | Reason::Stale
-        | Reason::TooSoon => true,
-        _ => false,
+    if number < 7 {
+        return false;
     }
+    if number <= 9 {
+        return true;
+    }
+    if number == 12 {
+        return true;
+    }
+    if number < 19 {
+        return number == 15;
+    }
+    number <= 20
+}
+
+// The code of a call refused with this number and place that also needs so many slots for its answer.
+pub fn number_slots_code(number: u32, place: usize, needed: usize, slots: usize) -> u64
+    ensures { result ≡ code_of (some (or_too_few needed slots (record { number = number; place = place }))) }
+{
+    if needed <= slots {
+        return number_code(number, place);
+    }
+    if after_slots(number) {
+        return short_code(needed);
+    }
+    number_code(number, place)
 }
 
 // The code of a refused call that also needs so many slots for its answer.
 pub fn slots_code(r: Refusal, needed: usize, slots: usize) -> u64
     ensures { result ≡ code_of (some (or_too_few needed slots (record { number = number_of r.reason; place = r.place }))) }
 {
-    if needed <= slots {
-        return refusal_code(r);
-    }
-    if after_slots(r.reason) {
-        return short_code(needed);
-    }
-    refusal_code(r)
+    number_slots_code(r.reason.number(), r.place, needed, slots)
 }
 
 // Puts the words of an answer, or refuses 13.

@@ -17,13 +17,13 @@ fn put_task(out: &mut [u8], at: usize, i: u32, t: Task, k: u32, w: u32) -> usize
     requires { at + 77 ≤ length out.old }
     ensures { PutLine 77 out.old at (choice_fields i t.period t.jitter t.cost t.deadline k w) out.new result }
 {
-    let a = text::put_field::<11>(out, at, u64::from(i), 32);
-    let b = text::put_field::<11>(out, a, u64::from(t.period), 32);
-    let c = text::put_field::<11>(out, b, u64::from(t.jitter), 32);
-    let d = text::put_field::<11>(out, c, u64::from(t.cost), 32);
-    let e = text::put_field::<11>(out, d, u64::from(t.deadline), 32);
-    let f = text::put_field::<11>(out, e, u64::from(k), 32);
-    text::put_field::<11>(out, f, u64::from(w), 10)
+    let a = text::put_field(out, at, i, 32);
+    let b = text::put_field(out, a, t.period, 32);
+    let c = text::put_field(out, b, t.jitter, 32);
+    let d = text::put_field(out, c, t.cost, 32);
+    let e = text::put_field(out, d, t.deadline, 32);
+    let f = text::put_field(out, e, k, 32);
+    text::put_field(out, f, w, 10)
 }
 
 // The line of one release: place in the list, task, release, ready, finish, response.
@@ -40,12 +40,23 @@ fn put_job(
     requires { at + 106 ≤ length out.old }
     ensures { PutLine 106 out.old at (run_fields p i tick ready finish response) out.new result }
 {
-    let a = text::put_field::<11>(out, at, u64::from(p), 32);
-    let b = text::put_field::<11>(out, a, u64::from(i), 32);
-    let c = text::put_field::<21>(out, b, tick, 32);
-    let d = text::put_field::<21>(out, c, ready, 32);
-    let e = text::put_field::<21>(out, d, finish, 32);
-    text::put_field::<21>(out, e, response, 10)
+    let a = text::put_field(out, at, p, 32);
+    let b = text::put_field(out, a, i, 32);
+    let c = text::put_wide_field(out, b, tick, 32);
+    let d = text::put_wide_field(out, c, ready, 32);
+    let e = text::put_wide_field(out, d, finish, 32);
+    text::put_wide_field(out, e, response, 10)
+}
+
+// The line of a refusal with this number and place.
+pub fn put_refused(out: &mut [u8], number: u32, place: usize) -> usize
+    requires { 64 ≤ length out.old }
+    ensures { PutLine 64 out.old 0 (refusal_text number place) out.new result }
+{
+    let a = text::put_bytes(out, 0, b"refused ");
+    let b = text::put_field(out, a, number, 32);
+    let c = text::put_bytes(out, b, b"at ");
+    text::put_wide_field(out, c, place as u64, 10)
 }
 
 // The line of a refusal.
@@ -53,11 +64,7 @@ pub fn put_refusal(out: &mut [u8], r: Refusal) -> usize
     requires { 64 ≤ length out.old }
     ensures { PutLine 64 out.old 0 (refusal_text (number_of r.reason) r.place) out.new result }
 {
-    let number = u64::from(r.reason.number());
-    let a = text::put_bytes(out, 0, b"refused ");
-    let b = text::put_field::<21>(out, a, number, 32);
-    let c = text::put_bytes(out, b, b"at ");
-    text::put_field::<21>(out, c, r.place as u64, 10)
+    put_refused(out, r.reason.number(), r.place)
 }
 
 // The lines of all tasks.

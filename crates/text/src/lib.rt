@@ -53,9 +53,25 @@ fn put_ended(out: &mut [u8], at: usize, n: u64, end: u8) -> usize
 }
 
 // Writes the field of a number: its digits and the byte that ends it, at most MOST bytes.
-pub fn put_field<const MOST: usize>(out: &mut [u8], at: usize, n: u64, end: u8) -> usize
+pub fn put_number<const MOST: usize>(out: &mut [u8], at: usize, n: u64, end: u8) -> usize
     requires { (at + MOST ≤ length out.old) × (2 ≤ MOST) × (n < 10 ^ (MOST - 1)) }
     ensures { PutField MOST out.old at n end out.new result }
 {
     put_ended(out, at, n, end)
+}
+
+// Writes the field of a number of 32 bits: at most 10 digits and the byte that ends it.
+pub fn put_field(out: &mut [u8], at: usize, n: u32, end: u8) -> usize
+    requires { at + 11 ≤ length out.old }
+    ensures { PutField 11 out.old at n end out.new result }
+{
+    put_number::<11>(out, at, u64::from(n), end)
+}
+
+// Writes the field of a number of 64 bits: at most 20 digits and the byte that ends it.
+pub fn put_wide_field(out: &mut [u8], at: usize, n: u64, end: u8) -> usize
+    requires { at + 21 ≤ length out.old }
+    ensures { PutField 21 out.old at n end out.new result }
+{
+    put_number::<21>(out, at, n, end)
 }

@@ -1,11 +1,19 @@
--- Reason by reason.
-use Rattle.interface.proofs.InterfaceLaws.{late_reason, early_reason}
+-- Each test leaves one of the numbers.
+use Rattle.interface.proofs.InterfaceLaws.{after_none, after_release, after_kept, after_choice, after_commit}
+use native.Mathlib.Omega.{arith}
 use Rattle.interface.proofs.after_slots.Goals as goal
 
-pub returns-in-ReleaseTask : goal.returns-in-ReleaseTask
-returns-in-ReleaseTask c = late_reason _ c.in-ReleaseTask.is
+pub returns-then-number-lt7 : goal.returns-then-number-lt7
+returns-then-number-lt7 c = after_none _ (omega arith)
 
-pub returns-in_default : goal.returns-in_default
-returns-in_default c =
-    let h = c.in_default in
-    early_reason _ h.not-ReleaseTask h.not-ReleaseTick h.not-ReleaseCost h.not-KeptOverJitter h.not-Unfit h.not-Stale h.not-TooSoon
+pub returns-then-number-le9 : goal.returns-then-number-le9
+returns-then-number-le9 c = after_release _ (omega arith) (omega arith)
+
+pub returns-then-number-eq12 : goal.returns-then-number-eq12
+returns-then-number-eq12 c = after_kept _ (omega arith)
+
+pub returns-then-number-lt19 : goal.returns-then-number-lt19
+returns-then-number-lt19 c = after_choice _ (omega arith) (λ e. omega arith) (omega arith)
+
+pub returns : goal.returns
+returns c = after_commit _ (omega arith)

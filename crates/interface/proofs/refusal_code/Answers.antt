@@ -1,9 +1,5 @@
--- The code is the definition as it stands.
-use Prim.Native.Nat.{ℕ, ◌+◌, ◌*◌, ◌%◌}
-use mathlib.Core.Path.{ap, ◌∙◌}
-use Rattle.interface.specs.Interface.{refusal_code}
+-- By the number of its reason.
 use Rattle.interface.proofs.refusal_code.Goals as goal
 
 pub returns : goal.returns
-unfolding refusal_code
-returns c = ap (λ (n : ℕ). n * 4294967296 + c.args.r.place % 4294967296) (c.from.ensures ∙ c.number.ensures)
+returns c = rw c.number.ensures at c.number_code.ensures

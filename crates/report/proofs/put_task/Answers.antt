@@ -3,15 +3,6 @@ use Rattle.report.proofs.put_task.Goals as goal
 
 pub returns : goal.returns
 returns c =
-    rw (
-      c.from.ensures,
-      c.from-2.ensures,
-      c.from-3.ensures,
-      c.from-4.ensures,
-      c.from-5.ensures,
-      c.from-6.ensures,
-      c.from-7.ensures,
-    ) at (
     task_line _ _ _ _ _ _ _ _ _ _ _ _ _ _ _ _ _ _ _ _ _ _ _
     c.put_field-a.ensures
     c.put_field-b.ensures
@@ -19,4 +10,3 @@ returns c =
     c.put_field-d.ensures
     c.put_field-e.ensures
     c.put_field-f.ensures c.put_field.ensures
-    )

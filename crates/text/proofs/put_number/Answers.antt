@@ -3,7 +3,7 @@ use Prim.Native.Nat.{suc, ◌-◌}
 use mathlib.Core.Path.{◌≡◌}
 use native.Mathlib.Omega.{arith}
 use Rattle.text.proofs.TextLaws.{field_room, field_put}
-use Rattle.text.proofs.put_field.Goals as goal
+use Rattle.text.proofs.put_number.Goals as goal
 
 pub put_ended-requires : goal.put_ended-requires
 put_ended-requires g c =
