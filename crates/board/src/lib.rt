@@ -1,7 +1,7 @@
 // Board and commit (document 02, R-11): the sheet in force with its frame and its choice, which only commits change.
 #![tactic(auto)]
 
-ghost use Rattle.std.specs.Prelude.{◌≡◌, ◌≤◌, length, take};
+ghost use Rattle.std.specs.Prelude.{◌≡◌, ◌≤◌, length, take, IsErr};
 ghost use Rattle.std.proofs.Math.Option.{none};
 ghost use Rattle.model.specs.Slots.{Holds};
 ghost use Rattle.model.specs.Choice.{column};
@@ -131,6 +131,7 @@ pub fn commit(
         ≡ admission_boards.commit_call (board_view b.old) (over (commit_of o s f) list.now at) }
     ensures left { board_view b.new
         ≡ admission_boards.board_after (board_view b.old) (over (commit_of o s f) list.now at) }
+    ensures untouched { IsErr result → b.new ≡ b.old }
 {
     check_commit(*b, o, s, f, list, at)?;
     *b = Board {
