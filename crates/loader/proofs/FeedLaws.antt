@@ -81,18 +81,28 @@ fed_decided s l h = go s.answer refl
     go (Ok u) e = let w : true ≡ false = sym h ∙ ap is_err e in cc
     go (Err q) e = fed_refused s q l e
 
+-- a loader that is not refused
+pub undecided : (s : Loader) → is_err s.answer ≡ false → s ≡ going s.tasks s.line
+undecided s n = go s.answer refl
+  where
+    go : (r : Result Unit Refusal) → s.answer ≡ r → s ≡ going s.tasks s.line
+    go (Err q) g = let w : true ≡ false = sym (ap is_err g) ∙ n in cc
+    go (Ok u) g = ap (λ (x : Result Unit Refusal). record { tasks = s.tasks; line = s.line; answer = x }) g
+
 -- one byte of a piece: what is left of it is fed to the loader after the byte
 pub feeding_next
     : (s t : Loader) (a : Loader) (piece : List ℕ) (i : ℕ) → fed s piece ≡ fed a (drop i piece) → i < length piece → is_err a.answer ≡ false
     → t ≡ stepped (going a.tasks a.line) (get_or piece i 0) → fed s piece ≡ fed t (drop (i + 1) piece)
 unfolding fed
-feeding_next s t a piece i f h n e = go a.answer refl
-  where
-    go : (r : Result Unit Refusal) → a.answer ≡ r → fed s piece ≡ fed t (drop (i + 1) piece)
-    go (Err q) g = let w : true ≡ false = sym (ap is_err g) ∙ n in cc
-    go (Ok u) g =
-        let z : a ≡ going a.tasks a.line = ap (λ (x : Result Unit Refusal). record { tasks = a.tasks; line = a.line; answer = x }) g in
-        f ∙ ap (fed a) (drop-cons piece i 0 h) ∙ rw add-one (ap (λ x. fed x (drop (suc i) piece)) (ap (λ x. stepped x (get_or piece i 0)) z ∙ sym e))
+feeding_next s t a piece i f h n e =
+    f ∙ ap (fed a) (drop-cons piece i 0 h)
+    ∙ rw add-one (ap (λ x. fed x (drop (suc i) piece)) (ap (λ x. stepped x (get_or piece i 0)) (undecided a n) ∙ sym e))
+
+-- what a step answers is the answer of the loader after it
+pub answered_by
+    : (s : TaskSet) (m : LineSoFar) (r q : Result Unit Refusal) (t : Loader) → r ≡ q → record { tasks = s; line = m; answer = r } ≡ t
+    → record { tasks = s; line = m; answer = q } ≡ t
+answered_by s m r q t e h = ap (λ (x : Result Unit Refusal). record { tasks = s; line = m; answer = x }) (sym e) ∙ h
 
 -- the whole piece
 pub feeding_ends : (s a : Loader) (piece : List ℕ) (i : ℕ) → fed s piece ≡ fed a (drop i piece) → length piece ≤ i → a ≡ fed s piece

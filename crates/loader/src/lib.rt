@@ -166,16 +166,28 @@ fn step(tasks: &mut TaskSet, line: &mut LineSoFar, b: u8) -> Result<(), Refusal>
 }
 
 // Feeds a piece of text, byte by byte, and stops looking once the text is refused.
-pub fn feed(mut l: Loader, piece: &[u8]) -> Loader
+pub fn feed(l: Loader, piece: &[u8]) -> Loader
     ensures { result ≡ fed l piece.now }
 {
-    for &b in piece {
-        if l.answer.is_err() {
-            break;
-        }
-        l.answer = step(&mut l.tasks, &mut l.line, b);
+    if l.answer.is_err() {
+        return l;
     }
-    l
+    let mut tasks = l.tasks;
+    let mut line = l.line;
+    for &b in piece {
+        if let Err(refusal) = step(&mut tasks, &mut line, b) {
+            return Loader {
+                tasks,
+                line,
+                answer: Err(refusal),
+            };
+        }
+    }
+    Loader {
+        tasks,
+        line,
+        answer: Ok(()),
+    }
 }
 
 // Whether the answer is decided, whatever follows.
