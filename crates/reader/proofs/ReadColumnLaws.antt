@@ -236,7 +236,7 @@ module _ (f task tick cost : List ℕ) where
   reads_halted e h = says_refused e (call_refused _ h.answer)
 
   -- the columns by the number of slots that are needed
-  abbrev slots : ℕ → List Lent
+  abbrev pub slots : ℕ → List Lent
   slots k = lends k task ∷ lends k tick ∷ lends k cost ∷ []
 
   module _ (s : Scanned) (h : ScanSays f (Ok s)) where

@@ -56,17 +56,18 @@ fn full_shapers(s: TaskSet) -> Shapers
 }
 
 // The ready ticks of a list that passed its check, written to the first slots of a column: each release goes through its task's shaper.
-pub fn fill_ready(s: TaskSet, kept: &[u32], list: &Releases, ready: &mut [u64])
-    requires { Shapable (view_of s) list.now.count list.now.task.now list.now.tick.now × (s.count ≤ length kept.now) × (list.now.count ≤ length ready.old) }
+pub fn fill_ready(
+    s: TaskSet,
+    kept: &[u32],
+    count: usize,
+    task: &[u32],
+    tick: &[u64],
+    ready: &mut [u64],
+)
+    requires { Shapable (view_of s) count task.now tick.now × (s.count ≤ length kept.now) × (count ≤ length ready.old) }
     ensures { (cost : List ℕ) → ready.new ≡ ready_list (view_of s) (column kept.now)
-        (releases_of list.now.count list.now.task.now list.now.tick.now cost) ++ drop list.now.count ready.old }
+        (releases_of count task.now tick.now cost) ++ drop count ready.old }
 {
-    let Releases {
-        count,
-        task,
-        tick,
-        ..
-    } = *list;
     let mut all = kept_shapers(s, kept);
     for p in 0..count {
         let i = task[p] as usize;
@@ -176,7 +177,7 @@ pub fn check_and_shape(
         (ready_list (view_of s) (column kept.now) (over releases_of list.now)) ready.old }
 {
     check_two(s, kept, list, ready.len(), slots)?;
-    fill_ready(s, kept, list, ready);
+    fill_ready(s, kept, list.count, list.task, list.tick, ready);
     Ok(())
 }
 

@@ -12,18 +12,18 @@ use Rattle.trace.proofs.fill_ready.Goals as goal
 -- the invariant for the sheet
 filled
     : (c : At-loop-p)
-    → Filling (view_of c.args.s) (column c.args.kept.now) c.args.list.now.count c.args.list.now.task.now c.args.list.now.tick.now
+    → Filling (view_of c.args.s) (column c.args.kept.now) c.args.count c.args.task.now c.args.tick.now
     c.args.ready.now c.loop-p.all.of c.loop-p.ready c.loop-p.p
 filled c = c.loop-p.invariant _ c.requires.0 c.kept_shapers-all.ensures
 
 -- the release at p is of a task of the sheet, which has a place in the array
-placed : (c : In-loop-p) → get_or c.args.list.now.task.now c.loop-p.p 0 < max_tasks
+placed : (c : In-loop-p) → get_or c.args.task.now c.loop-p.p 0 < max_tasks
 placed c = omega (arith, c.requires.0.known _ c.loop-p-test.true, c.requires.0.few_tasks)
 
 -- the release at p has gone through its shaper
 stepped
     : (c : After-shape-got)
-    → Step c.args.list.now.task.now c.args.list.now.tick.now
+    → Step c.args.task.now c.args.tick.now
     c.loop-p.all.of c.loop-p.p c.shape-got.result
 stepped c = record { none = _; shapes = c.shape-got.ensures }
 
@@ -34,7 +34,7 @@ pub loop-p-init : goal.loop-p-init
 loop-p-init c = λ s w st. filling_none s _ _ _ _ _ _ st
 
 pub overflow_cast-i : goal.overflow_cast-i
-overflow_cast-i c = omega (arith, c.type_inv.task c.loop-p.p)
+overflow_cast-i c = omega arith
 
 pub offset_bounds-all-i : goal.offset_bounds-all-i
 offset_bounds-all-i c = omega (arith, placed (goal.at.offset_bounds-all-i c).In-loop-p)
