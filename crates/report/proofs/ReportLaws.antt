@@ -63,7 +63,7 @@ job_line_lem x0 x1 x2 x3 x4 x5 m0 m1 m2 m3 m4 m5 m6 r0 r1 r2 r3 r4 r5 r6 p0 p1 p
 -- the line of a refusal
 pub refusal_line
     : (n p : ℕ) (l m1 : List ℕ) (r1 : ℕ) (m2 : List ℕ) (r2 : ℕ) (m3 : List ℕ) (r3 : ℕ) (m4 : List ℕ) (r4 : ℕ)
-    → Put l 0 refused_word m1 r1 → PutField 11 m1 r1 n 32 m2 r2 → Put m2 r2 at_word m3 r3 → PutField 21 m3 r3 p 10 m4 r4
+    → Put l 0 refused_word m1 r1 → PutField 21 m1 r1 n 32 m2 r2 → Put m2 r2 at_word m3 r3 → PutField 21 m3 r3 p 10 m4 r4
     → PutLine 64 l 0 (refusal_text n p) m4 r4
 unfolding refusal_text
 refusal_line n p l m1 r1 m2 r2 m3 r3 m4 r4 a b c d = record {
@@ -73,6 +73,14 @@ refusal_line n p l m1 r1 m2 r2 m3 r3 m4 r4 a b c d = record {
   small = omega (arith, a.next, c.next);
   long = d.long ∙ put_length m2 r2 at_word m3 r3 c ∙ b.long ∙ put_length l 0 refused_word m1 r1 a;
 }
+
+-- the same where the number has at most 10 digits
+pub narrow_refusal_line
+    : (n p : ℕ) (l m1 : List ℕ) (r1 : ℕ) (m2 : List ℕ) (r2 : ℕ) (m3 : List ℕ) (r3 : ℕ) (m4 : List ℕ) (r4 : ℕ)
+    → Put l 0 refused_word m1 r1 → PutField 11 m1 r1 n 32 m2 r2 → Put m2 r2 at_word m3 r3 → PutField 21 m3 r3 p 10 m4 r4
+    → PutLine 64 l 0 (refusal_text n p) m4 r4
+narrow_refusal_line n p l m1 r1 m2 r2 m3 r3 m4 r4 a b c d =
+    refusal_line n p l m1 r1 m2 r2 m3 r3 m4 r4 a (record { put = b.put; small = omega (arith, b.small); long = b.long }) c d
 
 -- a text of at most n bytes is a line of at most n bytes
 pub as_line : (n : ℕ) (l : List ℕ) (at : ℕ) (t m : List ℕ) (r : ℕ) → length t ≤ n → Put l at t m r → PutLine n l at t m r
